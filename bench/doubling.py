@@ -103,11 +103,11 @@ class Table:
     def call(self, name: str) -> list[tuple[str, str, int, int]]:
         """The counts of a call on each shape whose texts it takes."""
         output = f"{self.room}/{name}"
-        said = run(["--tool=callgrind", f"--callgrind-out-file={output}", "--toggle-collect=*measured*",
+        reply = run(["--tool=callgrind", f"--callgrind-out-file={output}", "--toggle-collect=*measured*",
                     "--dump-after=doubling::calls::measured*", f"{self.built}/doubling", name, *self.paths],
                    self.empty, output)
         counts, made = [], 0
-        for line in said.split():
+        for line in reply.split():
             made += int(line)
             counts.append(total(f"{output}.{made}") if line == "1" else 0)
         return self.rows(name, counts)

@@ -43,10 +43,10 @@ def times_of(crate, tests):
         copy_repository(crate, Path(room), keeps=False)
         folder = Path(room).resolve() / "crates" / crate
         command = ["rt", "check", "--jobs", "1", *["--test"] * tests]
-        found, last, said = {}, 0.0, []
+        found, last, output = {}, 0.0, []
         with subprocess.Popen(command, cwd=folder, stdout=subprocess.PIPE, stderr=subprocess.STDOUT, text=True) as ran:
             for line in ran.stdout:
-                said.append(line)
+                output.append(line)
                 now = max(time_of_provers(folder), last)
                 checked = re.match(r"checked (\S+), \d+ of \d+$", line)
                 if checked:
@@ -54,7 +54,7 @@ def times_of(crate, tests):
                 if checked or line.startswith("so far:"):
                     last = now
         if ran.returncode:
-            sys.exit("".join(said[-12:]) + f"{crate} is not proved")
+            sys.exit("".join(output[-12:]) + f"{crate} is not proved")
         return found, now
 
 

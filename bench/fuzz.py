@@ -89,7 +89,7 @@ class Fuzzer:
         columns = [(line.split("\t"), here) for line, here in differing]
         return [Other(kind, sides.unescaped(text), there, here) for (kind, text, there), here in columns]
 
-    def said_otherwise(self, kind: str, text: str) -> "str | None":
+    def answered_otherwise(self, kind: str, text: str) -> "str | None":
         """What is said here of a text of which the twin's answer was of this kind; None where it says the same."""
         asked = {"fault": "tree", "refused": "literal"}.get(kind, kind)
         others = self.ask([(asked, text)], "again")
@@ -113,7 +113,7 @@ class Fuzzer:
         others = known.replaced(text, by_rule)
         return bool(others) and all(known.escaped_where_refused(other, otherwise)[1] is None for other in others)
 
-    def judge(self, text: str, said: str, otherwise: typing.Callable[[str], "str | None"]) -> None:
+    def judge(self, text: str, output: str, otherwise: typing.Callable[[str], "str | None"]) -> None:
         """Counts a text that is answered otherwise, and tells it where the known rules don't explain it."""
         def is_new(text: str) -> bool:
             return otherwise(text) is not None and not self.is_known(text, otherwise)
@@ -122,13 +122,13 @@ class Fuzzer:
             self.figures["known differences"] += 1
             return
         least = shrunk(text, is_new) if self.figures["differs"] < MOST_CUT else text
-        self.tell("differs", f"{said}, of {least!r}", text.encode())
+        self.tell("differs", f"{output}, of {least!r}", text.encode())
 
     def lines(self, asked: list, where: str) -> None:
         """Asks of these texts as lines."""
         for other in self.ask(asked, where):
-            said = f"{where}: the twin says {other.kind} {other.there}, {other.here}"
-            self.judge(other.text, said, lambda text: self.said_otherwise(other.kind, text))
+            output = f"{where}: the twin says {other.kind} {other.there}, {other.here}"
+            self.judge(other.text, output, lambda text: self.answered_otherwise(other.kind, text))
 
     def runs(self, text: bytes, where: str) -> None:
         """Runs both programs on the text, with both words."""
@@ -144,19 +144,19 @@ class Fuzzer:
             if not here.is_same(there):
                 self.judge_runs(text, word, f"{where}: {word}: {here}; the twin: {there}")
 
-    def judge_runs(self, text: bytes, word: str, said: str) -> None:
+    def judge_runs(self, text: bytes, word: str, output: str) -> None:
         def otherwise(text: str) -> "str | None":
             here, there = self.both.run_both(text.encode())[word]
             return None if here.is_same(there) else here.err.decode()
 
         try:
-            self.judge(text.decode(), said, otherwise)
+            self.judge(text.decode(), output, otherwise)
         except UnicodeDecodeError:
-            self.tell("differs", f"{said}, of {sides.short(text)}", text)
+            self.tell("differs", f"{output}, of {sides.short(text)}", text)
 
-    def tell(self, what: str, said: str, text: bytes) -> None:
+    def tell(self, what: str, output: str, text: bytes) -> None:
         self.figures[what] += 1
-        print(f"{what}: {said}", flush=True)
+        print(f"{what}: {output}", flush=True)
         if self.keep:
             (self.keep / f"{what}-{self.figures[what]}").write_bytes(text)
 
@@ -199,8 +199,8 @@ class Fuzzer:
             self.figures["known differences"] += len(others)
             return
         for other in others:
-            said = f"U+{ord(c):04X}: the twin says {other.kind} {other.there}, {other.here}"
-            self.judge(other.text, said, lambda text: self.said_otherwise(other.kind, text))
+            output = f"U+{ord(c):04X}: the twin says {other.kind} {other.there}, {other.here}"
+            self.judge(other.text, output, lambda text: self.answered_otherwise(other.kind, text))
 
     def beginnings(self) -> None:
         """Asks about every beginning of the recorded answers' texts."""

@@ -2,7 +2,7 @@
 """Compares the lexer with the plain one of its tests on the recorded texts.
 
 Usage: bench/lexers.py [SOURCES]
-Builds crates/two_lexers and runs it on the texts of crates/conformance/stdin. With SOURCES, a folder of Rust files,
+Builds crates/lexical_tests and runs it on the texts of crates/conformance/stdin. With SOURCES, a folder of Rust files,
 their lines of at most 160 characters are texts too. Names each text on which the two lexers differ, and prints the
 numbers. The status is 0 only where there is none.
 """
@@ -37,9 +37,9 @@ def content(text: str) -> str:
 
 
 def build() -> str:
-    folder = TOP / "crates/two_lexers"
+    folder = TOP / "crates/lexical_tests"
     subprocess.run(["rt", "run"], cwd=folder, input=b"a\n", check=True, stdout=subprocess.DEVNULL)
-    return str(folder / "out/two_lexers")
+    return str(folder / "out/lexical_tests")
 
 
 def main() -> None:

@@ -92,7 +92,7 @@ def rows_of(room: pathlib.Path) -> tuple[pathlib.Path, list[str]]:
     return program, subprocess.run([program], capture_output=True, text=True, check=True).stdout.split()
 
 
-def told(row: str, counts: list[float], public: dict[str, list[float]]) -> None:
+def note(row: str, counts: list[float], public: dict[str, list[float]]) -> None:
     """Prints a row, each count with its share in the one of the public macro for the same template."""
     kind = row.split("_")[0]
     if row.endswith("public_quote"):
@@ -114,7 +114,7 @@ def rows(room: pathlib.Path) -> None:
 
     with concurrent.futures.ThreadPoolExecutor(AT_ONCE) as pool:
         for row, counts in zip(names, pool.map(counted, names)):
-            told(row, counts, public)
+            note(row, counts, public)
 
 
 def inside(room: pathlib.Path) -> None:
@@ -144,7 +144,7 @@ def inside(room: pathlib.Path) -> None:
 
     with concurrent.futures.ThreadPoolExecutor(AT_ONCE) as pool:
         for row, counts in zip(names, pool.map(counted, names)):
-            told(row, counts, public)
+            note(row, counts, public)
 
 
 def by_turns(sides: dict[str, callable], runs: int) -> dict[str, float]:

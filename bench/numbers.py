@@ -50,8 +50,8 @@ def instructions(command: list[str], text: pathlib.Path, out: pathlib.Path) -> f
         return float("nan")
     count = ["valgrind", "--tool=callgrind", f"--callgrind-out-file={out}/counted"]
     with open(text, "rb") as source:
-        said = subprocess.run(count + command, stdin=source, capture_output=True, check=True)
-    return int(re.search(rb"Collected : (\d+)", said.stderr)[1]) / text.stat().st_size
+        output = subprocess.run(count + command, stdin=source, capture_output=True, check=True)
+    return int(re.search(rb"Collected : (\d+)", output.stderr)[1]) / text.stat().st_size
 
 
 def row(what: str, ours: float, theirs: float, unit: str) -> None:
@@ -102,7 +102,7 @@ def programs(crate: str, ident: str, sources: pathlib.Path, runs: int) -> None:
         row("  memory", max(memory for _, _, memory in seen) / 1000, 0, "MB")
 
 
-def said(command: list) -> dict[str, list[float]]:
+def output(command: list) -> dict[str, list[float]]:
     """The numbers that a script prints after each name."""
     printed = subprocess.run(command, capture_output=True, text=True, check=True).stdout
     lines = (re.findall(r"\S+", line) for line in printed.splitlines())
@@ -111,10 +111,10 @@ def said(command: list) -> dict[str, list[float]]:
 
 def calls(crate: str, sources: pathlib.Path, registry: pathlib.Path, runs: int) -> None:
     os.environ["CARGO_REGISTRY"] = str(registry)
-    found = said([TOP / place("dev/bench.sh"), crate, sources, str(runs)])
+    found = output([TOP / place("dev/bench.sh"), crate, sources, str(runs)])
     for name, what in CALLS.items():
         time_row(what, *found[name][:2])
-    flat = said([TOP / place("dev/bench_flat.sh"), registry, sources])
+    flat = output([TOP / place("dev/bench_flat.sh"), registry, sources])
     for name, what in FLAT.items():
         time_row(what, flat["flat_make_and_walk"][0], flat[name][0])
 

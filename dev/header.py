@@ -86,20 +86,21 @@ def comment(text: str, indent: str = "") -> str:
 
 def codes() -> str:
     found = re.findall(r"((?:///[^\n]*\n)+)pub const (\w+): u32 = (\d+);", (CRATE / "src/codes.rt").read_text())
-    rows = [f"{comment(said.replace('///', ''), '    ')}\n    PM_{name} = {number}," for said, name, number in found]
+    rows = [f"{comment(output.replace('///', ''), '    ')}\n    PM_{name} = {number}," for output, name,
+            number in found]
     return "\n/* The codes. */\nenum {\n" + "\n".join(rows).rstrip(",") + "\n};\n"
 
 
-def numbered(said: str, name: str, file: str, function: str) -> str:
+def numbered(output: str, name: str, file: str, function: str) -> str:
     """An enum of the values that a function of specs/ numbers."""
     found = re.findall(rf"{function} \(?\w+\.(\w+)(?: \w+\))? = (\d+)", (CRATE / "specs" / file).read_text())
     rows = [f"    {name.upper()}_{snake(value).upper()} = {number}" for value, number in found]
-    return f"\n/* {said} */\nenum {name} {{\n" + ",\n".join(rows) + "\n};\n"
+    return f"\n/* {output} */\nenum {name} {{\n" + ",\n".join(rows) + "\n};\n"
 
 
 def faults() -> str:
-    said = "The faults of a literal's content, in the order of EscapeError."
-    return numbered(said, "pm_escape", "Faults.antt", "fault_number")
+    output = "The faults of a literal's content, in the order of EscapeError."
+    return numbered(output, "pm_escape", "Faults.antt", "fault_number")
 
 
 def reasons() -> str:
@@ -109,12 +110,12 @@ def reasons() -> str:
 def records() -> str:
     made = ""
     structs = r"((?:///[^\n]*\n)+)#\[repr\(C\)\]\n#\[derive\(Clone, Copy\)\]\npub struct (\w+) \{\n(.*?)\n\}"
-    for said, name, fields in re.findall(structs, (CRATE / "src/records.rt").read_text(), re.S):
+    for output, name, fields in re.findall(structs, (CRATE / "src/records.rt").read_text(), re.S):
         rows = re.findall(r"((?: *///[^\n]*\n)+) *pub (\w+): (\w+),", fields + "\n")
         lines = [
             f"{comment(text.replace('///', ''), '    ')}\n    {TYPES[kind]} {field};" for text, field, kind in rows
         ]
-        made += f"\n{comment(said.replace('///', ''))}\ntypedef struct {snake(name)} {{\n" + "\n".join(lines)
+        made += f"\n{comment(output.replace('///', ''))}\ntypedef struct {snake(name)} {{\n" + "\n".join(lines)
         made += f"\n}} {snake(name)};\n"
     return made
 
@@ -144,15 +145,15 @@ def parameter(name: str, kind: str) -> str:
 
 def calls() -> tuple[str, list[str]]:
     """The prototypes with their comments, and the names."""
-    made, names, told = "", [], False
+    made, names, note = "", [], False
     exports = r'((?:///[^\n]*\n)+)#\[unsafe\(no_mangle\)\]\npub extern "C" fn (\w+)\((.*?)\) -> (\w+)\n(.*?)\n\{\n'
-    for said, name, given, result, clauses in re.findall(exports, (CRATE / "src/lib.rt").read_text(), re.S):
-        if "HandsBack" in clauses and not told:
+    for output, name, given, result, clauses in re.findall(exports, (CRATE / "src/lib.rt").read_text(), re.S):
+        if "HandsBack" in clauses and not note:
             made += "\n/* Every call below that has `back` also answers PM_NOT_LIVE, and then doesn't write it. */\n"
-            told = True
+            note = True
         hidden = "NOT_LIVE" if "HandsBack" in clauses else ""
         answers = [f"PM_{code}" for code in codes_of(name, clauses) if code != hidden]
-        text = said.replace("///", "") + (f" Codes: {', '.join(answers)}." if answers else "")
+        text = output.replace("///", "") + (f" Codes: {', '.join(answers)}." if answers else "")
         parts = [part.split(": ", 1) for part in re.split(r",\s+", given.strip().rstrip(",")) if part]
         words = ", ".join(parameter(*part) for part in parts if part[1] != "Global")
         proto = f"{TYPES.get(result) or snake(result)} {name}({words});"

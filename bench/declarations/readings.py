@@ -545,12 +545,12 @@ def compare_code(reader, longest, wanted):
             if part not in CALLED or wanted and part not in wanted:
                 continue
             asked = lists(reader, part, alphabets, longest)
-            said = subprocess.run([os.path.join(folder, "release", "declarations-answers")], check=True, text=True,
+            output = subprocess.run([os.path.join(folder, "release", "declarations-answers")], check=True, text=True,
                                   input="".join("%s %s\n" % (part, " ".join(signs)) for signs in asked),
                                   stdout=subprocess.PIPE).stdout.splitlines()
             expected = Expected(reader)
             whole = 0
-            for signs, answer in zip(asked, said):
+            for signs, answer in zip(asked, output):
                 wished = expected.answer(part, signs)
                 count += 1
                 whole += wished.startswith("ok")
@@ -559,8 +559,8 @@ def compare_code(reader, longest, wanted):
                     print("wrong: %s of %s is %s, not %s" % (part, " ".join(signs), answer, wished))
                     if wrong > 20:
                         return 1
-            if len(said) != len(asked):
-                print("wrong: %d answers to %d lists of %s" % (len(said), len(asked), part))
+            if len(output) != len(asked):
+                print("wrong: %d answers to %d lists of %s" % (len(output), len(asked), part))
                 wrong += 1
             print("%s: %d lists, %d of them without a fault" % (part, len(asked), whole))
     print("%d lists, %d wrong" % (count, wrong))

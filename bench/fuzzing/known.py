@@ -66,11 +66,11 @@ def place_refused(text: str, here: str) -> "int | None":
     literal; None where neither is told."""
     if here.startswith("here: refused"):
         return 0
-    told = re.search(r"fault \"?(\d+):(\d+)", here)
-    if not told:
+    note = re.search(r"fault \"?(\d+):(\d+)", here)
+    if not note:
         return None
-    before = text.split("\n")[:int(told[1]) - 1]
-    return sum(len(line) + 1 for line in before) + int(told[2])
+    before = text.split("\n")[:int(note[1]) - 1]
+    return sum(len(line) + 1 for line in before) + int(note[2])
 
 
 def check_tables() -> None:

@@ -129,9 +129,9 @@ class Sides:
         return first[0] + second[0], first[1] + second[1]
 
 
-def reports(told: list[str]) -> list[tuple[str, str]]:
+def reports(note: list[str]) -> list[tuple[str, str]]:
     """The lines that are reported, each with what is told of it."""
-    found, lines = [], iter(told)
+    found, lines = [], iter(note)
     for line in lines:
         differs = line.removeprefix("differs: ")
         found.append((differs, next(lines)) if differs != line else (line.removeprefix("no recorded answer: "), line))

@@ -1,9 +1,11 @@
 #!/usr/bin/env python3
-"""Makes the record crates/pretty_tests/stdout anew, of what to_pretty_string answers of the streams of stdin beside it.
+"""Makes the record crates/pretty_printer_tests/stdout anew, of what to_pretty_string answers of the streams of stdin
+beside it.
 
 Usage: bench/pretty_record/remake.py [COMMIT]
 
-It erases the sources of this checkout, builds the example `pretty_tests` of cargo/proved-tokens over them and over
+It erases the sources of this checkout, builds the example `pretty_printer_tests` of cargo/proved-tokens over them and
+over
 those of COMMIT, HEAD if left out, and writes the record. It tells how many of the streams, those of this checkout,
 moved since COMMIT, and shows ten of them before and after: put that into the message of the commit that changes the
 record.
@@ -22,16 +24,16 @@ sys.dont_write_bytecode = True
 sys.path.insert(0, str(TOP / "bench"))
 from workspace import OLDER, place  # noqa: E402
 
-CRATE = TOP / "crates/pretty_tests"
+CRATE = TOP / "crates/pretty_printer_tests"
 SHOWN = 10
 
 
 def built(package: pathlib.Path, target: pathlib.Path) -> pathlib.Path:
     """The example of this package, built below the folder."""
     words = ["cargo", "build", "--offline", "--quiet", "--release", "--features", "pretty_printer",
-             "--example", "pretty_tests"]
+             "--example", "pretty_printer_tests"]
     subprocess.run(words, cwd=package, check=True, env={**os.environ, "CARGO_TARGET_DIR": str(target)})
-    return target / "release/examples/pretty_tests"
+    return target / "release/examples/pretty_printer_tests"
 
 
 def answers(program: pathlib.Path, *words: str) -> str:

@@ -1,11 +1,13 @@
 #!/usr/bin/env python3
-"""Makes the streams of crates/pretty_tests/stdin: of a grammar of Rust, of items and statements whose names have 1 to
+"""Makes the streams of crates/pretty_printer_tests/stdin: of a grammar of Rust, of items and statements whose names
+have 1 to
 40 letters, of lists and chains of each length, of shapes that grow, of words one after another, of the items in
 bench/items.txt, and of texts that were laid out wrongly once.
 
-Usage: bench/pretty_record/streams.py PROGRAM > crates/pretty_tests/stdin
+Usage: bench/pretty_record/streams.py PROGRAM > crates/pretty_printer_tests/stdin
 
-PROGRAM is the example `pretty_tests` of cargo/proved-tokens, which says what is no stream. choices.txt has what is
+PROGRAM is the example `pretty_printer_tests` of cargo/proved-tokens, which says what is no stream. choices.txt has
+what is
 chosen from. The numbers are those of a seed, so that the streams are the same each time.
 """
 import pathlib
@@ -152,8 +154,8 @@ def main() -> None:
         if text.strip() and len(text) < 2500 and text not in texts:
             texts.append(text)
     rows = "".join(row("digest", text) for text in texts).encode()
-    said = subprocess.run([sys.argv[1]], input=rows, stdout=subprocess.PIPE).stdout.decode()
-    wrong = {int(number) for number in re.findall(r"^== (\d+) is no row$", said, re.M)}
+    output = subprocess.run([sys.argv[1]], input=rows, stdout=subprocess.PIPE).stdout.decode()
+    wrong = {int(number) for number in re.findall(r"^== (\d+) is no row$", output, re.M)}
     texts = [text for number, text in enumerate(texts, 1) if number not in wrong]
     whole = [text for text in texts if len(text) < 500 and text not in maker.choices["chosen"]][:WHOLE]
     digests = [text for text in texts if text not in whole][:DIGESTS]

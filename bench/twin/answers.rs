@@ -32,7 +32,7 @@ pub fn answer<'a>(asked: &'a str, text: &str) -> Option<(&'a str, String)> {
         "print" | "tree" | "spans" | "fault" => Some(of_stream(asked, text)),
         "literal" | "refused" | "str_value" | "byte_str_value" | "cstr_value" => Some(of_literal(asked, text)),
         "string" | "character" | "byte_character" | "byte_string" | "c_string" => {
-            Some(written(asked, text).map_or(REFUSED, |said| (asked, said)))
+            Some(written(asked, text).map_or(REFUSED, |output| (asked, output)))
         }
         "list" => Some((asked, list_answer(text)?)),
         _ => Some((asked, items(asked, text)?)),
@@ -88,23 +88,23 @@ fn written(call: &str, value: &str) -> Option<String> {
 
 /// The items that this call of the escaper gives for a content, or its only unit; `None` where no such call is known.
 fn items(call: &str, content: &str) -> Option<String> {
-    let mut said = String::new();
+    let mut output = String::new();
     match call {
-        "unescape_str" => unescape_str(content, |range, unit| said += &item(range, told(unit))),
-        "unescape_byte_str" => unescape_byte_str(content, |range, unit| said += &item(range, told(unit))),
-        "unescape_c_str" => unescape_c_str(content, |range, unit| said += &item(range, told(unit))),
-        "check_raw_str" => check_raw_str(content, |range, unit| said += &item(range, told(unit))),
-        "check_raw_byte_str" => check_raw_byte_str(content, |range, unit| said += &item(range, told(unit))),
-        "check_raw_c_str" => check_raw_c_str(content, |range, unit| said += &item(range, told(unit))),
-        "unescape_char" => said = told(unescape_char(content)),
-        "unescape_byte" => said = told(unescape_byte(content)),
+        "unescape_str" => unescape_str(content, |range, unit| output += &item(range, note(unit))),
+        "unescape_byte_str" => unescape_byte_str(content, |range, unit| output += &item(range, note(unit))),
+        "unescape_c_str" => unescape_c_str(content, |range, unit| output += &item(range, note(unit))),
+        "check_raw_str" => check_raw_str(content, |range, unit| output += &item(range, note(unit))),
+        "check_raw_byte_str" => check_raw_byte_str(content, |range, unit| output += &item(range, note(unit))),
+        "check_raw_c_str" => check_raw_c_str(content, |range, unit| output += &item(range, note(unit))),
+        "unescape_char" => output = note(unescape_char(content)),
+        "unescape_byte" => output = note(unescape_byte(content)),
         _ => {
             let name = call.strip_prefix("errors_")?;
             let mode = MODES.into_iter().find(|mode| format!("{mode:?}") == name)?;
-            check_for_errors(content, mode, |range, error| said += &item(range, format!("{error:?}")));
+            check_for_errors(content, mode, |range, error| output += &item(range, format!("{error:?}")));
         }
     }
-    Some(said)
+    Some(output)
 }
 
 /// An item by its bytes and what is found there.
@@ -113,39 +113,39 @@ fn item(range: Range<usize>, what: String) -> String {
 }
 
 /// A unit, or the name of what is wrong.
-fn told<U: Unit>(unit: Result<U, EscapeError>) -> String {
-    unit.map_or_else(|error| format!("{error:?}"), Unit::told)
+fn note<U: Unit>(unit: Result<U, EscapeError>) -> String {
+    unit.map_or_else(|error| format!("{error:?}"), Unit::note)
 }
 
 /// What a content is made of.
 trait Unit {
     /// `U+` and the character's code, or the byte in two digits.
-    fn told(self) -> String;
+    fn note(self) -> String;
 }
 
 impl Unit for char {
-    fn told(self) -> String {
+    fn note(self) -> String {
         format!("U+{:X}", u32::from(self))
     }
 }
 
 impl Unit for u8 {
-    fn told(self) -> String {
+    fn note(self) -> String {
         format!("{self:02X}")
     }
 }
 
 impl Unit for NonZeroChar {
-    fn told(self) -> String {
-        self.get().told()
+    fn note(self) -> String {
+        self.get().note()
     }
 }
 
 impl Unit for MixedUnit {
-    fn told(self) -> String {
+    fn note(self) -> String {
         match self {
-            MixedUnit::Char(c) => c.told(),
-            MixedUnit::HighByte(byte) => byte.get().told(),
+            MixedUnit::Char(c) => c.note(),
+            MixedUnit::HighByte(byte) => byte.get().note(),
         }
     }
 }

@@ -28,8 +28,8 @@ fn unescaped(column: &str) -> Option<String> {
             ('\\', 't') => '\t',
             ('\\', '\\') => '\\',
             ('\\', 'u') => {
-                let (number, behind) = rest.as_str().strip_prefix('{')?.split_once('}')?;
-                rest = behind.chars();
+                let (number, after) = rest.as_str().strip_prefix('{')?.split_once('}')?;
+                rest = after.chars();
                 char::from_u32(u32::from_str_radix(number, 16).ok()?)?
             }
             ('\\', _) => return None,
@@ -83,8 +83,8 @@ fn answered(line: &str) -> Option<String> {
 fn line_of(asked: &str, text: &str) -> Option<String> {
     // each text is the first of a map
     extra::invalidate_current_thread_spans();
-    let (kind, said) = answers::answer(asked, text)?;
-    Some(format!("{kind}\t{}\t{}", escaped(text), escaped(&said)))
+    let (kind, reply) = answers::answer(asked, text)?;
+    Some(format!("{kind}\t{}\t{}", escaped(text), escaped(&reply)))
 }
 
 /// Writes the lines of so many lists of trees.

@@ -307,11 +307,11 @@ def test():
     total, untold = contracts.test()
     known, wrong = known_changes(), 0
     for old, new in [('', '')] + PLANTED:
-        told = [change for change, *_ in changes(SOURCE, RUST.replace(old, new))[2]
+        note = [change for change, *_ in changes(SOURCE, RUST.replace(old, new))[2]
                 if not any(is_known(change, 'crates/lexical/src/a.rt', line) for line in known)]
-        if bool(told) != bool(old):
+        if bool(note) != bool(old):
             wrong += 1
-            print(f'{old!r} made {new!r}: {told}')
+            print(f'{old!r} made {new!r}: {note}')
     print('\n'.join(untold), end='\n' if untold else '')
     wrong, total = wrong + len(untold), total + len(PLANTED) + 1
     print(f'{total - wrong} tests of dev/audit passed, {wrong} failed')

@@ -213,9 +213,9 @@ def unreadable(line, changed):
     return not error[2] or bool(UNREADABLE.search(re.sub(r"`[^`]*`", "", error[3])))
 
 
-def verdict(status, said, changed):
+def verdict(status, log, changed):
     """What came of an edit, and the line that shows it."""
-    lines = said.splitlines()
+    lines = log.splitlines()
     if status == 0:
         return PASSED, "the crate is still proved with it"
     for line in lines:
@@ -224,10 +224,10 @@ def verdict(status, said, changed):
     if not any(line.startswith("logic=not-proved") for line in lines):
         errors = [line for line in lines if "error" in line]
         return BAD, f"it did not reach the prover: {(errors or lines or ['it said nothing'])[0]}"
-    told = [line for line in lines if PLACE.match(line) and (": error" in line or line.startswith("note: "))]
-    telling = [line for line in told if not NAME_GONE.match(line)]
-    if told and not telling:
-        return BY_NAME, told[0]
+    notes = [line for line in lines if PLACE.match(line) and (": error" in line or line.startswith("note: "))]
+    telling = [line for line in notes if not NAME_GONE.match(line)]
+    if notes and not telling:
+        return BY_NAME, notes[0]
     return REFUSED, telling[0] if telling else ""
 
 
@@ -242,13 +242,13 @@ def try_edit(edit, crate, base, repository):
     return verdict(*check(repository, crate), changed)
 
 
-def shown(said, of, crate):
+def shown(log, of, crate):
     """The line that shows the prover refuse the function, or nothing."""
     name, first, function = of
     module = name.removeprefix("src/").removesuffix(".rt").removesuffix("/mod")
     folders = re.compile(rf"(\./)?proofs/{re.escape(module)}/(\w+/)?{function}/\w+\.antt:")
     text = (crate / name).read_text(encoding="utf-8")
-    for line in said.splitlines():
+    for line in log.splitlines():
         place = re.match(r"note: (?:\./)?(src/\S+?):(\d+):\d+: it is not proved", line)
         if place and place[1] == name and function_at(text, int(place[2])) == (first, function):
             return line
@@ -263,9 +263,9 @@ def try_together(batch, crate, base, repository):
     clone(base / "crates" / crate, copied)
     for edit in batch:
         apply(edit, copied)
-    status, said = check(repository, crate)
-    if status and any(line.startswith("logic=not-proved") for line in said.splitlines()):
-        found = {edit: shown(said, of, copied) for edit, of in batch.items()}
+    status, log = check(repository, crate)
+    if status and any(line.startswith("logic=not-proved") for line in log.splitlines()):
+        found = {edit: shown(log, of, copied) for edit, of in batch.items()}
         return {edit: line for edit, line in found.items() if line}
     # One that can't be read hides the others.
     edits = list(batch.items())
@@ -280,9 +280,9 @@ def try_crate(crate, edits, lanes, most, room):
     """Tries the edits of one crate, as many at a time as there are lanes, and returns what came of each."""
     base = Path(tempfile.mkdtemp(prefix=f"{crate}-", dir=room))
     copy_repository(crate, base)
-    status, said = check(base, crate, lanes)
+    status, log = check(base, crate, lanes)
     if status:
-        print(f"{crate} itself is not proved, so none of its {len(edits)} edits was tried:\n{said[-2000:]}", flush=True)
+        print(f"{crate} itself is not proved, so none of its {len(edits)} edits was tried:\n{log[-2000:]}", flush=True)
         return [BAD] * len(edits)
     free = Queue()
     for number in range(min(lanes, len(edits))):

@@ -37,10 +37,10 @@ LIBRARIES = [
 # The crates that only a test of the package takes.
 TESTED = ['conformance']
 # The record of pretty texts, which another takes.
-RECORDED = ['pretty_tests']
+RECORDED = ['pretty_printer_tests']
 # The library's own tests, and the lexer once more with what compares the two, which another test of the package takes.
-OWN_TESTS = ['two_lexers', 'token_tests', 'stream_tests', 'buffer_tests', 'quoting_tests', 'declarations_tests',
-             'item_headers_tests']
+OWN_TESTS = ['lexical_tests', 'pm_token_tests', 'pm_stream_tests', 'token_buffer_tests', 'quoting_tests',
+             'declarations_tests', 'item_headers_tests']
 # The programs, and the library that they share.
 PROGRAMS = ['messages', 'tokens', 'highlight', 'find_calls', 'pretty', 'rust_check', 'same', 'indent', 'outline']
 # The jobs that bench/run times, which become a package of their own: nobody installs them.

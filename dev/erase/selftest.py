@@ -284,7 +284,7 @@ def rejected_of_jobs(text):
     return [what for _, what in checks.rejections(file)]
 
 
-def said_of(text, source=known.WITH_UNSAFE):
+def messages_of(text, source=known.WITH_UNSAFE):
     try:
         return applied(text, source=source)[1]
     except Rejected as error:
@@ -311,10 +311,10 @@ def run():
         if code_of(seen) == code_of(before):
             failures.append(f'the example of {rule.__name__} is not changed')
     for text, what in REJECTED:
-        said = said_of(text)
-        if not any(what in one for one in said):
-            failures.append(f'not rejected as {what}: {text}\n    said: {said}')
-    if said_of(example(rules.utf8)[0], 'crates/pm_token/src/symbols.rt') != [known.FORBIDDEN['unsafe']]:
+        output = messages_of(text)
+        if not any(what in one for one in output):
+            failures.append(f'not rejected as {what}: {text}\n    said: {output}')
+    if messages_of(example(rules.utf8)[0], 'crates/pm_token/src/symbols.rt') != [known.FORBIDDEN['unsafe']]:
         failures.append('`unsafe` is not rejected outside its file')
     if rejected_of_jobs('use std::hash::{FoldHasher, Hasher}; fn f(a: u64) -> [u8; 8] { a.to_le_bytes() }'):
         failures.append('the jobs may not name their hasher')

@@ -4,7 +4,7 @@ use proved_tokens::declarations::{
     split_field, split_fields, split_generics, split_item, split_type, split_variants, split_where,
 };
 use proved_tokens::explain::{advice, explain};
-use proved_tokens::layout::{text_with, Chooser, Gap, Place};
+use proved_tokens::layout::{text_with, Chooser, Gap, GapContext};
 use proved_tokens::lexical::pieces;
 use proved_tokens::literal_escaper::{unescape_byte_str, unescape_str};
 use proved_tokens::pretty_printer::to_pretty_string;
@@ -64,7 +64,7 @@ fn on_spans(text: &str, mut call: impl FnMut(Span, &mut SourceMap)) {
 struct Turns(usize);
 
 impl Chooser for Turns {
-    fn gap(&mut self, place: Place<'_>) -> Gap {
+    fn gap(&mut self, place: GapContext<'_>) -> Gap {
         self.0 += 1;
         match self.0 % 4 {
             0 => Gap::Line(place.depth.min(20)),

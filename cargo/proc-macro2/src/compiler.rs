@@ -2,7 +2,7 @@
 #[cfg(span_locations)]
 use crate::LineColumn;
 use crate::{LexError, TokenStream, TokenTree};
-use proved_tokens::pm_span::Span as Place;
+use proved_tokens::pm_span::Span as ProvedSpan;
 use std::fmt::{self, Debug};
 use std::panic;
 use std::str::FromStr;
@@ -143,7 +143,7 @@ pub(crate) fn tree_of(tree: TokenTree) -> proc_macro::TokenTree {
 /// would have gone on.
 pub(crate) fn read<T: FromStr<Err = proc_macro::LexError>>(text: &str, readable: bool) -> Result<T, LexError> {
     let read = if readable { panic::catch_unwind(|| text.parse::<T>()).ok() } else { None };
-    let fault = || Err(LexError::own(Place::call_site()));
+    let fault = || Err(LexError::own(ProvedSpan::call_site()));
     read.map_or_else(fault, |read| read.map_err(LexError::compiler))
 }
 

@@ -3,7 +3,7 @@ use crate::compiler::inside_alone;
 use crate::repr::{token, Repr};
 use crate::span::Repr as SpanRepr;
 use crate::{compiler, print, Ident, Span};
-use proved_tokens::pm_span::Span as Place;
+use proved_tokens::pm_span::Span as ProvedSpan;
 use proved_tokens::pm_token::{Ident as Own, IdentError};
 use std::cmp::Ordering;
 use std::fmt::{self, Debug, Display};
@@ -44,7 +44,7 @@ impl Ident {
         match span.repr {
             SpanRepr::Own(kept) => Ident::own(made(Own::new_raw(string, kept.place()), string)),
             SpanRepr::Compiler(span) => {
-                made(Own::new_raw(string, Place::call_site()), string);
+                made(Own::new_raw(string, ProvedSpan::call_site()), string);
                 Ident::compiler(proc_macro::Ident::new_raw(string, span))
             }
         }
@@ -63,7 +63,7 @@ impl Ident {
 #[cold]
 #[track_caller]
 fn inside(name: &str, span: proc_macro::Span) -> Ident {
-    made(Own::new(name, Place::call_site()), name);
+    made(Own::new(name, ProvedSpan::call_site()), name);
     Ident::compiler(proc_macro::Ident::new(name, span))
 }
 

@@ -1,7 +1,7 @@
 //! Why a text is refused.
 use crate::repr::{show, Repr};
 use crate::{LexError, Span};
-use proved_tokens::pm_span::Span as Place;
+use proved_tokens::pm_span::Span as ProvedSpan;
 use std::error::Error;
 use std::fmt::{self, Debug, Display};
 
@@ -10,7 +10,7 @@ impl LexError {
         LexError { repr: Repr::Compiler(error) }
     }
 
-    pub(crate) fn own(place: Place) -> LexError {
+    pub(crate) fn own(place: ProvedSpan) -> LexError {
         LexError { repr: Repr::Own(place) }
     }
 

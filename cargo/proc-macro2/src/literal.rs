@@ -3,7 +3,7 @@ use crate::map::{self, sure};
 use crate::repr::{show, token, Repr};
 use crate::span::Repr as SpanRepr;
 use crate::{compiler, print, LexError, Literal, Span};
-use proved_tokens::pm_span::Span as Place;
+use proved_tokens::pm_span::Span as ProvedSpan;
 use proved_tokens::pm_token::Literal as Own;
 use proved_tokens::shim;
 #[cfg(procmacro2_semver_exempt)]
@@ -266,7 +266,7 @@ impl FromStr for Literal {
         } else {
             Own::is_whole(repr).then(|| sure(Own::from_str_unchecked(repr)))
         };
-        read.map(Literal::own).ok_or_else(|| LexError::own(Place::call_site()))
+        read.map(Literal::own).ok_or_else(|| LexError::own(ProvedSpan::call_site()))
     }
 }
 

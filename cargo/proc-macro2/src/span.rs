@@ -1,7 +1,7 @@
 //! Where tokens stand.
 use crate::map::{self, sure};
 use crate::{compiler, Span};
-use proved_tokens::pm_span::Span as Place;
+use proved_tokens::pm_span::Span as ProvedSpan;
 use proved_tokens::pm_token::parts::show_span;
 use std::fmt::{self, Debug};
 
@@ -16,12 +16,12 @@ pub(crate) enum Repr {
 #[derive(Clone, Copy)]
 pub(crate) struct Kept {
     #[cfg(span_locations)]
-    place: Place,
+    place: ProvedSpan,
 }
 
 impl Kept {
     #[inline]
-    fn new(_place: Place) -> Kept {
+    fn new(_place: ProvedSpan) -> Kept {
         Kept {
             #[cfg(span_locations)]
             place: _place,
@@ -30,11 +30,11 @@ impl Kept {
 
     /// The place, or none where it wasn't kept.
     #[inline]
-    pub(crate) fn place(self) -> Place {
+    pub(crate) fn place(self) -> ProvedSpan {
         #[cfg(span_locations)]
         return self.place;
         #[cfg(not(span_locations))]
-        Place::call_site()
+        ProvedSpan::call_site()
     }
 }
 
@@ -43,12 +43,12 @@ impl Span {
         Span { repr: Repr::Compiler(span) }
     }
 
-    pub(crate) fn own(place: Place) -> Span {
+    pub(crate) fn own(place: ProvedSpan) -> Span {
         Span { repr: Repr::Own(Kept::new(place)) }
     }
 
     fn site(compiler: impl FnOnce() -> proc_macro::Span) -> Span {
-        if compiler::inside() { Span::compiler(compiler()) } else { Span::own(Place::call_site()) }
+        if compiler::inside() { Span::compiler(compiler()) } else { Span::own(ProvedSpan::call_site()) }
     }
 
     /// The span of the macro's call. Names with it are resolved there. Outside of macros it is no place.
@@ -67,7 +67,7 @@ impl Span {
     /// It is exempt from semantic versioning.
     #[cfg(procmacro2_semver_exempt)]
     pub fn def_site() -> Span {
-        Span::own(Place::def_site())
+        Span::own(ProvedSpan::def_site())
     }
 
     /// A span at this place, with which names are resolved as with the other one.
@@ -105,7 +105,7 @@ impl Span {
 
     /// Asks the compiler of its span, or the thread's map of one outside of macros.
     #[cfg(span_locations)]
-    fn ask<T>(&self, compiler: fn(proc_macro::Span) -> T, own: fn(Place, &mut map::SourceMap) -> T) -> T {
+    fn ask<T>(&self, compiler: fn(proc_macro::Span) -> T, own: fn(ProvedSpan, &mut map::SourceMap) -> T) -> T {
         match self.repr {
             Repr::Compiler(span) => compiler(span),
             Repr::Own(kept) => map::ask(kept.place(), |map| own(kept.place(), map)),

@@ -7,7 +7,7 @@ fn literal(text: &str) -> Literal {
 }
 
 #[test]
-fn values_are_told() {
+fn values_are_compared() {
     assert_eq!(literal(r#""a\tb\x41""#).str_value(), Ok(String::from("a\tbA")));
     assert_eq!(literal(r##"r#"\""#"##).str_value(), Ok(String::from("\\\"")));
     assert_eq!(literal(r#"b"\xff""#).byte_str_value(), Ok(vec![0xff]));

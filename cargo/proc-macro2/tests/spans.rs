@@ -34,7 +34,7 @@ fn places_are_looked_up() {
 }
 
 #[test]
-fn faults_are_told() {
+fn faults_are_reported() {
     let fault = "a\n ]".parse::<TokenStream>().expect_err("nothing opens");
     assert_eq!(fault.span().start(), LineColumn { line: 2, column: 1 });
     assert_eq!(format!("{fault:?}"), "LexError { span: bytes(4..4) }");

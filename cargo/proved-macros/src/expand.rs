@@ -80,20 +80,20 @@ where
 
 /// The caller's stream as a proved one.
 fn read<S: Into<proc_macro2::TokenStream>>(stream: S, spans: &mut Spans) -> Result<TokenStream, CompileError> {
-    to_proved(&stream.into(), spans).map_err(|error| told(error, spans))
+    to_proved(&stream.into(), spans).map_err(|error| note(error, spans))
 }
 
 /// The code, or the errors, as the caller's stream.
 fn answer<S: From<proc_macro2::TokenStream>>(code: Result<TokenStream, CompileError>, mut spans: Spans) -> S {
     let code = code.unwrap_or_else(|error| error.to_compile_error());
     let answer = from_proved(&code, &spans).or_else(|error| {
-        let told = told(error, &mut spans);
-        from_proved(&told.to_compile_error(), &spans)
+        let note = note(error, &mut spans);
+        from_proved(&note.to_compile_error(), &spans)
     });
     S::from(answer.expect("each crate has the tokens of an error"))
 }
 
 /// The error of a token, at its place.
-fn told(error: NoToken, spans: &mut Spans) -> CompileError {
+fn note(error: NoToken, spans: &mut Spans) -> CompileError {
     CompileError::new(spans.place(error.span()), error)
 }

@@ -66,11 +66,11 @@ fn a_changed_group_is_made_of_its_trees() {
 #[test]
 fn each_token_and_delimiter_has_its_span() {
     let from = line!();
-    let told = lines_and_columns!(a
+    let note = lines_and_columns!(a
         += (b
       ) 'c');
     let wanted = [(1, 35), (2, 9), (2, 10), (2, 12), (3, 7), (3, 9)];
-    assert_eq!(told, wanted.map(|(line, column)| (from + line, column)));
+    assert_eq!(note, wanted.map(|(line, column)| (from + line, column)));
 }
 
 #[test]

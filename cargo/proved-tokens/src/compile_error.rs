@@ -66,8 +66,8 @@ impl CompileError {
     ///
     /// let mut map = SourceMap::new();
     /// let stream = TokenStream::from_str("&'static str", &mut map)?;
-    /// let told = CompileError::new_spanned(stream.trees(), "no reference").to_compile_error();
-    /// let ends = [&told.trees()[0], &told.trees()[7]].map(|tree| tree.span().source_str(&map));
+    /// let error = CompileError::new_spanned(stream.trees(), "no reference").to_compile_error();
+    /// let ends = [&error.trees()[0], &error.trees()[7]].map(|tree| tree.span().source_str(&map));
     /// assert_eq!(ends, [Some("&"), Some("str")]);
     /// # Ok::<(), Box<dyn std::error::Error>>(())
     /// ```
@@ -103,8 +103,8 @@ impl CompileError {
     ///
     /// let mut error = CompileError::new(Span::call_site(), "no name");
     /// error.combine(CompileError::new(Span::call_site(), "no type"));
-    /// let told = error.to_compile_error().to_string();
-    /// assert_eq!(told, r#":: core :: compile_error ! { "no name" } :: core :: compile_error ! { "no type" }"#);
+    /// let stream = error.to_compile_error().to_string();
+    /// assert_eq!(stream, r#":: core :: compile_error ! { "no name" } :: core :: compile_error ! { "no type" }"#);
     /// ```
     pub fn combine(&mut self, other: CompileError) {
         self.others.push(other.first);
@@ -118,23 +118,23 @@ impl CompileError {
     /// use proved_tokens::items::parse_type_item;
     /// use proved_tokens::TokenStream;
     ///
-    /// let stream: TokenStream = "struct {}".parse()?;
-    /// let error = CompileError::from(parse_type_item(stream.trees()).unwrap_err());
-    /// let told = error.to_compile_error();
-    /// assert_eq!(told.to_string(), r#":: core :: compile_error ! { "not expected here" }"#);
+    /// let parsed: TokenStream = "struct {}".parse()?;
+    /// let error = CompileError::from(parse_type_item(parsed.trees()).unwrap_err());
+    /// let stream = error.to_compile_error();
+    /// assert_eq!(stream.to_string(), r#":: core :: compile_error ! { "not expected here" }"#);
     /// # Ok::<(), Box<dyn std::error::Error>>(())
     /// ```
     pub fn to_compile_error(&self) -> TokenStream {
-        let told = core::iter::once(&self.first).chain(&self.others).map(|message| {
-            let Ok(told) = compile_error(&message.text, message.start);
-            told.into_iter().map(|mut tree| {
+        let streams = core::iter::once(&self.first).chain(&self.others).map(|message| {
+            let Ok(stream) = compile_error(&message.text, message.start);
+            stream.into_iter().map(|mut tree| {
                 if matches!(tree, TokenTree::Group(_)) {
                     tree.set_span(message.end);
                 }
                 tree
             })
         });
-        told.flatten().collect()
+        streams.flatten().collect()
     }
 }
 

@@ -201,8 +201,8 @@
 //! - <a id="declarations.rules.Parts.attributes"></a>**attributes**: any number of attributes
 //! - <a id="declarations.Attribute.attributes_in"></a>**attributes_in**: the attributes at the start of the
 //!   trees, up to the first trees that are no attribute
-//! - <a id="declarations.Bare.bared"></a>**bared**: the trees; or if they are one group without delimiters, the
-//!   trees in the innermost of such groups
+//! - <a id="declarations.Bare.bare_trees"></a>**bare_trees**: the trees; or if they are one group without
+//!   delimiters, the trees in the innermost of such groups
 //! - <a id="declarations.File.body_of"></a>**body_of**: the braces with the items of an item of this kind, if
 //!   it has such braces
 //! - <a id="declarations.rules.Types.bounds"></a>**bounds**: bounds, with `+` between two
@@ -257,10 +257,10 @@
 //! - <a id="declarations.rules.Rules.rules"></a>**rules**: the grammar of each named rule
 //! - <a id="declarations.Entry.sole_name"></a>**sole_name**: the identifier, if it is the only tree, perhaps in
 //!   groups without delimiters
+//! - <a id="declarations.CompileError.span_or_call_site"></a>**span_or_call_site**: the span at which an error
+//!   is reported: that of the tree, or the call site if trees are missing
 //! - <a id="declarations.Grammar.step"></a>**step**: the state that a sign of this class leads to, or nothing
 //!   if the sign cannot come next
-//! - <a id="declarations.CompileError.told_at"></a>**told_at**: the span at which an error is reported: that of
-//!   the tree, or the call site if trees are missing
 //! - <a id="declarations.rules.Parts.tuple_field"></a>**tuple_field**: a field without a name: attributes, a
 //!   visibility and a type
 //! - <a id="declarations.rules.Parts.tuple_fields"></a>**tuple_fields**: fields without names
@@ -292,7 +292,7 @@
 //!   before the second
 //! - <a id="explain.Walk.IsPast"></a>**IsPast**: `part` is the text between the two cursors
 //! - <a id="explain.Explained.IsStretch"></a>**IsStretch**: the `Stretch` has the bytes and the span of this
-//!   part of a text, which follows the text `behind`
+//!   part of a text, which follows the text `text_before`
 //! - <a id="explain.Trouble.IsTrouble"></a>**IsTrouble**: the reason holds of the text at the cursor, and the
 //!   wrong part is between the two cursors of the `Trouble`
 //! - <a id="explain.HintWalk.LeftComments"></a>**LeftComments**: `depth` comments are open at the end of the
@@ -402,10 +402,10 @@
 //! - <a id="lexical.Token.Name"></a>**Name**: an identifier: whether it is raw, and its name
 //! - <a id="lexical.Number.Number"></a>**Number**: `number`: a piece of the rule `number`
 //! - <a id="lexical.Rule.One"></a>**One**: one character that passes
-//! - <a id="lexical.Step.Passes"></a>**Passes**: whether the text from the cursor `at` to the cursor `to` is a
-//!   piece of the rule
-//! - <a id="lexical.Step.Reads"></a>**Reads**: whether the step returns the cursor after the rule's piece, and
-//!   `None` if there is no piece
+//! - <a id="lexical.RuleMatch.Passes"></a>**Passes**: whether the text from the cursor `at` to the cursor `to`
+//!   is a piece of the rule
+//! - <a id="lexical.RuleMatch.Reads"></a>**Reads**: whether the step returns the cursor after the rule's piece,
+//!   and `None` if there is no piece
 //! - <a id="lexical.Rule.Run"></a>**Run**: all the characters that pass, up to the first one that does not
 //! - <a id="lexical.WhiteRun.SplitsWhite"></a>**SplitsWhite**: whether `white` is all the white characters at
 //!   the start of the text, and `rest` is the text after them
@@ -418,6 +418,8 @@
 //! - <a id="lexical.Ascii.all_ascii"></a>**all_ascii**: whether each byte is ASCII
 //! - <a id="lexical.Quoted.allows"></a>**allows**: whether `\u{..}` may write the character: in a byte string
 //!   none, in a C string any but zero
+//! - <a id="lexical.Identifier.any_identifier"></a>**any_identifier**: an identifier as it is written, raw or
+//!   plain, even if a literal begins there
 //! - <a id="lexical.Bytes.ascii_in"></a>**ascii_in**: whether the character is ASCII and in the class
 //! - <a id="lexical.Character.backslash"></a>**backslash**: `\`
 //! - <a id="lexical.Text.begins_any"></a>**begins_any**: whether the text begins with one of the prefixes
@@ -434,8 +436,8 @@
 //! - <a id="lexical.Mark.comment_fronts"></a>**comment_fronts**: the two prefixes of comments, `//` and `/*`
 //! - <a id="lexical.CommentKind.comment_kind"></a>**comment_kind**: which kind of piece the comment is, or none
 //!   if the text of a doc comment has a CR with no LF after it
-//! - <a id="lexical.Quoted.cooked"></a>**cooked**: `string`, `byte-string`, `c-string`: the prefix that opens
-//!   it, and units up to the first `"` that is in no unit
+//! - <a id="lexical.Quoted.cooked_string"></a>**cooked_string**: `string`, `byte-string`, `c-string`: the
+//!   prefix that opens it, and units up to the first `"` that is in no unit
 //! - <a id="lexical.Text.ends_with"></a>**ends_with**: whether the text ends with the character
 //! - <a id="lexical.Quoted.escape"></a>**escape**: `string-escape`, `byte-escape`, `c-string-escape`: what may
 //!   follow a backslash
@@ -443,12 +445,12 @@
 //!   after it
 //! - <a id="lexical.PieceFinder.find_lone_quote"></a>**find_lone_quote**: finds a piece of the rule
 //!   `lone-quote`: the mark `'` right before the name of a lifetime
+//! - <a id="lexical.PieceFinder.find_piece"></a>**find_piece**: the piece at the start of a text. `first` says
+//!   whether this is byte offset 0
 //! - <a id="lexical.Text.first_passes"></a>**first_passes**: whether the text begins with a character that
 //!   passes
 //! - <a id="lexical.Mark.follows_quote"></a>**follows_quote**: whether the text begins with an identifier that
 //!   may follow a `'`
-//! - <a id="lexical.PieceFinder.found"></a>**found**: the piece at the start of a text. `first` says whether
-//!   this is byte offset 0
 //! - <a id="lexical.PieceFinder.found_identifier"></a>**found_identifier**: the identifier at the start of a
 //!   text. It is a raw one if the text begins with `r#`
 //! - <a id="lexical.Quoted.front"></a>**front**: the prefix that opens a string of the kind
@@ -460,14 +462,15 @@
 //! - <a id="lexical.Class.is_ident_start"></a>**is_ident_start**: `identifier-start`: whether the character may
 //!   begin an identifier
 //! - <a id="lexical.Bytes.is_in"></a>**is_in**: whether the character is in the class
-//! - <a id="lexical.Word.is_line_ascii"></a>**is_line_ascii**: whether the byte is ASCII and neither LF nor CR
+//! - <a id="lexical.MachineWord.is_line_ascii"></a>**is_line_ascii**: whether the byte is ASCII and neither LF
+//!   nor CR
 //! - <a id="lexical.Mark.is_mark"></a>**is_mark**: whether the character is one of the 22 marks
 //! - <a id="lexical.Quoted.is_octal_digit"></a>**is_octal_digit**: whether the character is a digit from 0 to 7
 //! - <a id="lexical.Quoted.is_one_of"></a>**is_one_of**: whether the character is one of `characters`
 //! - <a id="lexical.SingleQuoted.is_plain"></a>**is_plain**: whether a literal of the kind may have the
 //!   character between single quotes without an escape
-//! - <a id="lexical.Word.is_plain_ascii"></a>**is_plain_ascii**: whether the byte is ASCII and needs no escape
-//!   in a string
+//! - <a id="lexical.MachineWord.is_plain_ascii"></a>**is_plain_ascii**: whether the byte is ASCII and needs no
+//!   escape in a string
 //! - <a id="lexical.Identifier.is_reserved"></a>**is_reserved**: `raw-reserved`: whether the name is one of
 //!   `reserved_names`
 //! - <a id="lexical.Class.is_white"></a>**is_white**: `white`: whether the character is white space or one of
@@ -505,8 +508,6 @@
 //! - <a id="lexical.Finder.while_front"></a>**while_front**: the longest prefix whose characters all pass
 //! - <a id="lexical.Finder.while_rest"></a>**while_rest**: the text after the longest prefix whose characters
 //!   all pass
-//! - <a id="lexical.Identifier.written"></a>**written**: an identifier as it is written, raw or plain, even if
-//!   a literal begins there
 //!
 //! # Words of `literal_escaper`
 //!
@@ -542,7 +543,7 @@
 //!   between double quotes
 //! - <a id="literal_escaper.Warning.is_fault"></a>**is_fault**: `fatal`: whether the error is not one of the
 //!   two warnings
-//! - <a id="literal_escaper.Class.is_in"></a>**is_in**: whether the character is in the class
+//! - <a id="literal_escaper.ContentClass.is_in"></a>**is_in**: whether the character is in the class
 //! - <a id="literal_escaper.Items.items"></a>**items**: `items`: the items of a content with escapes
 //! - <a id="literal_escaper.Items.items_from"></a>**items_from**: the items from this text to the end of the
 //!   content
@@ -581,8 +582,8 @@
 //!   span, and this is the text that the span covers there
 //! - <a id="pm_span.Lookup.StartsAt"></a>**StartsAt**: `line`, `column`: whether the span begins at this line
 //!   and column of its file
+//! - <a id="pm_span.Lookup.covering_span"></a>**covering_span**: `join`: the smallest span that covers both
 //! - <a id="pm_span.Extent.extent_eq"></a>**extent_eq**: whether both have the same positions
-//! - <a id="pm_span.Lookup.joined"></a>**joined**: `join`: the smallest span that covers both
 //! - <a id="pm_span.Files.new_map"></a>**new_map**: a map that has only file 0, with the largest limit
 //! - <a id="pm_span.Files.next_lo"></a>**next_lo**: `next-position`: where the next file begins, one past the
 //!   end of the last
@@ -659,6 +660,7 @@
 //!   the items before it were put in
 //! - <a id="pm_stream.Same.Same"></a>**Same**: `same`: the streams are equal but for their spans
 //! - <a id="pm_stream.Trees.alone"></a>**alone**: the stream of this tree alone
+//! - <a id="pm_stream.Forest.chain"></a>**chain**: the trees of the first stream, and then those of the second
 //! - <a id="pm_stream.DelimSpan.closing_span"></a>**closing_span**: `close-span`: the span of a group's last
 //!   character, which is empty if the group's span is empty
 //! - <a id="pm_stream.DocGroup.doc_of"></a>**doc_of**: the literal of the group of a doc comment, `[doc =
@@ -669,15 +671,12 @@
 //! - <a id="pm_stream.Forest.flattening"></a>**flattening**: `flattening`: the tokens and delimiters of the
 //!   trees in reading order, with their positions
 //! - <a id="pm_stream.Trees.forest"></a>**forest**: the stream of the trees of a list
-//! - <a id="pm_stream.Building.gathered"></a>**gathered**: the trees of each item, one item after another
 //! - <a id="pm_stream.InOrder.in_order"></a>**in_order**: `reading-order`: the trees of a stream, each group
 //!   before the trees inside it
 //! - <a id="pm_stream.InOrder.in_order_onto"></a>**in_order_onto**: the trees of a stream, each group before
 //!   the trees inside it, and then other trees
 //! - <a id="pm_stream.Trees.inside"></a>**inside**: the trees inside a group; a token has none
 //! - <a id="pm_stream.Size.is_nil"></a>**is_nil**: whether there are no trees
-//! - <a id="pm_stream.Forest.joined"></a>**joined**: the trees of the first stream, and then those of the
-//!   second
 //! - <a id="pm_stream.WellSpaced.next_token"></a>**next_token**: the first tree, if it is a token
 //! - <a id="pm_stream.Forest.nil"></a>**nil**: no trees
 //! - <a id="pm_stream.Taken.nothing"></a>**nothing**: nothing was read yet, of a source that begins at this
@@ -687,14 +686,16 @@
 //! - <a id="pm_stream.DelimSpan.opening_span"></a>**opening_span**: `open-span`: the span of a group's first
 //!   character, which is empty if the group's span is empty
 //! - <a id="pm_stream.Printed.printed"></a>**printed**: `printed`: the printed text of a stream
-//! - <a id="pm_stream.Rule.ruled"></a>**ruled**: the text of the trees, one after another
 //! - <a id="pm_stream.Building.split"></a>**split**: `split`: the trees that a stream gets for one tree that is
 //!   put in. A negative literal gives its `-` and the rest
 //! - <a id="pm_stream.Steps.step_of"></a>**step_of**: the value in contracts of a step that the traversal gave
 //! - <a id="pm_stream.Steps.steps"></a>**steps**: the steps over a stream
 //! - <a id="pm_stream.Steps.steps_onto"></a>**steps_onto**: the steps over these trees, and then others
+//! - <a id="pm_stream.PrinterRule.text_by_rule"></a>**text_by_rule**: the text of the trees, one after another
 //! - <a id="pm_stream.DocGroup.trees_of"></a>**trees_of**: the trees of a stream as a list, without those
 //!   inside groups
+//! - <a id="pm_stream.Building.trees_of_all"></a>**trees_of_all**: the trees of each item, one item after
+//!   another
 //! - <a id="pm_stream.TreeSpan.with_span"></a>**with_span**: the tree with this span; the trees in a group keep
 //!   their spans
 //!
@@ -778,7 +779,6 @@
 //!   prefix and before a quote at the end
 //! - <a id="pm_token.Value.cstr_value"></a>**cstr_value**: `c-string-value`: the bytes of a C string literal's
 //!   value, the last of them zero, or the error
-//! - <a id="pm_token.Value.ended"></a>**ended**: the bytes, and a zero byte after them
 //! - <a id="pm_token.Message.fault_span"></a>**fault_span**: the span of a syntax error
 //! - <a id="pm_token.Negative.has_minus"></a>**has_minus**: whether the text begins with `-`. The text of a
 //!   `Literal` does so exactly if it is a `negative-literal`
@@ -814,6 +814,7 @@
 //!   or of a raw content, or else the error
 //! - <a id="pm_token.Outcome.was_read"></a>**was_read**: whether the text was read: it was parsed, or it has a
 //!   syntax error
+//! - <a id="pm_token.Value.with_zero"></a>**with_zero**: the bytes, and a zero byte after them
 //! - <a id="pm_token.Escaped.written_char"></a>**written_char**: how a character without a short escape is
 //!   written in strings
 //!
@@ -876,16 +877,16 @@
 //! - <a id="quoting.Items.each_of"></a>**each_of**: the list of the values of `xs`
 //! - <a id="quoting.Items.end"></a>**end**: the values of a list, in order. Each is trees, or the reason why it
 //!   has none, or a list
-//! - <a id="quoting.Filled.filled"></a>**filled**: `filled`: the template with its holes filled, or its first
-//!   error in reading order, where a group comes before its contents. So `NoList` comes before any error inside
-//!   the repetition. At one pair of parentheses `TooDeep` comes before `NoList`. In a repetition the errors of
-//!   the names come first, and then those of its turns in order
+//! - <a id="quoting.Filled.fill_template"></a>**fill_template**: `filled`: the template with its holes filled,
+//!   or its first error in reading order, where a group comes before its contents. So `NoList` comes before any
+//!   error inside the repetition. At one pair of parentheses `TooDeep` comes before `NoList`. In a repetition
+//!   the errors of the names come first, and then those of its turns in order
 //! - <a id="quoting.Fault.first_fault"></a>**first_fault**: `first-fault`: the first error of the stream in
 //!   reading order that no choice of spacings repairs
-//! - <a id="quoting.Given.named"></a>**named**: the hole's name and its filling
+//! - <a id="quoting.Given.name_and_filling"></a>**name_and_filling**: the hole's name and its filling
 //! - <a id="quoting.Given.named_all"></a>**named_all**: the names and the fillings of the holes
-//! - <a id="quoting.Respaced.respaced"></a>**respaced**: `respaced`: the same trees with the same spans at any
-//!   depth, in which each mark is respaced
+//! - <a id="quoting.Respaced.respace_marks"></a>**respace_marks**: `respaced`: the same trees with the same
+//!   spans at any depth, in which each mark is respaced
 //! - <a id="quoting.Message.template_span"></a>**template_span**: the span of the error, if it has one
 //! - <a id="quoting.Values.value_of"></a>**value_of**: the filling that a value stands for
 //!
@@ -925,6 +926,7 @@
 //!   arguments that come first
 //! - <a id="token_buffer.Arguments.after_turbofish"></a>**after_turbofish**: the trees after the turbofish that
 //!   comes first: `::` and generic arguments
+//! - <a id="token_buffer.Parts.at_zero"></a>**at_zero**: the event, with its positions set to 0
 //! - <a id="token_buffer.Entries.event_of"></a>**event_of**: the event that the entry means
 //! - <a id="token_buffer.Message.fault_span"></a>**fault_span**: the span of a syntax error
 //! - <a id="token_buffer.Reads.first_extent"></a>**first_extent**: the span of the first tree, or `None`
@@ -940,4 +942,3 @@
 //! - <a id="token_buffer.Outer.outer"></a>**outer**: the trees, where each group has only the trees that it
 //!   keeps
 //! - <a id="token_buffer.Parts.part_event"></a>**part_event**: the event of a part, with its positions set to 0
-//! - <a id="token_buffer.Parts.unplaced"></a>**unplaced**: the event, with its positions set to 0

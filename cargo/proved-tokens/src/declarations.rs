@@ -36,8 +36,7 @@ mod list;
 mod message;
 mod param_parts;
 mod parameter;
-mod parts;
-mod place;
+mod part_splitting;
 mod range;
 mod reader;
 mod signs;
@@ -45,10 +44,11 @@ mod type_path;
 mod types;
 mod variant;
 mod walk;
+mod walk_state;
 
 pub use any_item::{AnyItem, ItemKind, split_any_item};
 pub use attribute::{Attribute, AttributeArgs, Attributes, split_attribute};
-pub use class::{Class, Keyword, Word};
+pub use class::{Keyword, SignClass, Word};
 pub use entry::{Entry, EntryKind, parse_entry};
 pub use entry_check::{EntryError, EntryProblem, check_entries};
 pub use entry_list::Entries;
@@ -68,7 +68,7 @@ pub use keyword::is_keyword;
 pub use list::{FieldList, VariantList};
 pub use message::compile_error;
 pub use parameter::{Parameter, ParameterKind, Parameters, parse_parameter, split_pattern};
-pub use parts::{
+pub use part_splitting::{
     split_attributes, split_bounds, split_expression, split_field, split_fields, split_generics,
     split_inner_attributes, split_item, split_tuple_field, split_tuple_fields, split_type,
     split_variant, split_variants, split_visibility, split_where,

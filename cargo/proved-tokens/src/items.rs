@@ -58,7 +58,7 @@ pub use crate::declarations::{
     split_attributes, split_bounds, split_expression, split_field, split_fields, split_generics, split_inner_attributes,
     split_item, split_pattern, split_tuple_field, split_tuple_fields, split_type, split_variant, split_variants,
     split_visibility, split_where, within_generics, AnyItem, ArgumentKind, Attribute, AttributeArgs, Attributes, Body,
-    Class, Entries, Entry, EntryKind, EntryProblem, Field, FieldList, Fields, File, Function, GenericArgument,
+    SignClass, Entries, Entry, EntryKind, EntryProblem, Field, FieldList, Fields, File, Function, GenericArgument,
     GenericArguments, Impl, ItemKind, Items, Keyword, Param, ParamKind, Parameter, ParameterKind, Parameters,
     PathArguments, Predicate, TypeItem, TypePath, Variant, VariantList, Word,
 };

@@ -9,5 +9,5 @@ pub mod laws;
 mod writing;
 
 pub use errors::LayoutError;
-pub use gaps::{Chooser, Gap, Place};
+pub use gaps::{Chooser, Gap, GapContext};
 pub use writing::{text_with, write_with};

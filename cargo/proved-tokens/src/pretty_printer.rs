@@ -20,14 +20,14 @@ mod sides;
 mod signs;
 mod tree;
 
-use crate::layout::{Chooser, Gap, LayoutError, Place, text_with};
+use crate::layout::{Chooser, Gap, GapContext, LayoutError, text_with};
 use printer::Printer;
 use crate::proc_macro2::TokenStream;
 use crate::quoting::{Quote, QuoteError, laws};
 
 impl<'a> Chooser for Printer<'a> {
     #[cfg_attr(not(debug_assertions), inline(always))]
-    fn gap(&mut self, place: Place<'_>) -> Gap {
+    fn gap(&mut self, place: GapContext<'_>) -> Gap {
         if place.after.is_none() {
             return match place.before {
                 Some(_) => Gap::Line(0),
@@ -52,10 +52,10 @@ impl<'a> Chooser for Printer<'a> {
 ///
 /// # Contract
 ///
-/// - `ensures layout`: <code>[IfOk] result (λ text. [IsLayout] ([respaced] stream.now) ([chars] ([string_bytes]
-///   text)))</code>
-/// - `ensures back`: <code>[IfOk] result (λ text. [ReadsBack] ([respaced] stream.now) ([chars] ([string_bytes]
-///   text)))</code>
+/// - `ensures layout`: <code>[IfOk] result (λ text. [IsLayout] ([respace_marks] stream.now) ([chars]
+///   ([string_bytes] text)))</code>
+/// - `ensures back`: <code>[IfOk] result (λ text. [ReadsBack] ([respace_marks] stream.now) ([chars]
+///   ([string_bytes] text)))</code>
 /// - `ensures unchanged`: <code>[IfOk] result (λ text. [IsWellSpaced] stream.now → [IsLayout] stream.now
 ///   ([chars] ([string_bytes] text)) × [ReadsBack] stream.now ([chars] ([string_bytes] text)))</code>
 /// - `ensures fault`: <code>[IfErr] result ([IsFaultOf] stream.now)</code>
@@ -63,7 +63,7 @@ impl<'a> Chooser for Printer<'a> {
 ///
 /// [IfOk]: crate::contracts#std.IfOk
 /// [IsLayout]: crate::contracts#layout.Layout.IsLayout
-/// [respaced]: crate::contracts#quoting.Respaced.respaced
+/// [respace_marks]: crate::contracts#quoting.Respaced.respace_marks
 /// [chars]: crate::contracts#std.chars
 /// [string_bytes]: crate::contracts#std.string_bytes
 /// [ReadsBack]: crate::contracts#layout.Writing.ReadsBack

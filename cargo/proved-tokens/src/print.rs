@@ -6,7 +6,7 @@
 //!
 //! ```
 //! # #[cfg(feature = "print")] {
-//! use proved_tokens::print::{relayout, text_with, to_pretty_string, Chooser, Gap, Place, White};
+//! use proved_tokens::print::{relayout, text_with, to_pretty_string, Chooser, Gap, GapContext, White};
 //! use proved_tokens::TokenStream;
 //!
 //! let stream: TokenStream = "fn f(x:u8)->u8{x+1}".parse()?;
@@ -15,7 +15,7 @@
 //! struct Tight;
 //!
 //! impl Chooser for Tight {
-//!     fn gap(&mut self, _: Place<'_>) -> Gap {
+//!     fn gap(&mut self, _: GapContext<'_>) -> Gap {
 //!         Gap::Nothing
 //!     }
 //! }
@@ -28,7 +28,7 @@
 //! ```
 #[cfg(feature = "layout")]
 #[doc(inline)]
-pub use crate::layout::{text_with, write_with, Chooser, Gap, Place};
+pub use crate::layout::{text_with, write_with, Chooser, Gap, GapContext};
 #[cfg(feature = "pretty_printer")]
 #[doc(inline)]
 pub use crate::pretty_printer::to_pretty_string;

@@ -1,6 +1,6 @@
 //! Groups without delimiters, one in another, a million times: the calls that look through them take linear time and a
 //! constant part of the stack.
-use proved_tokens::items::{first_sign, parse_entry, parse_parameter, Attributes, Class, EntryKind};
+use proved_tokens::items::{first_sign, parse_entry, parse_parameter, Attributes, SignClass, EntryKind};
 use proved_tokens::{Delimiter, Group, TokenStream, TokenTree};
 
 fn parsed(text: &str) -> TokenStream {
@@ -30,9 +30,12 @@ fn looks_through(groups: usize) {
     let list = joined([held("a::b", groups), parsed("(c), d")]);
     let (entry, rest) = parse_entry(list.trees()).expect("it is an entry");
     assert_eq!((entry.path.len(), rest.len()), (4, 2));
-    for (text, class) in
-        [("'a", Class::Lifetime), ("1", Class::Literal), ("pub", Class::Visibility), ("1 + 1", Class::Invisible)]
-    {
+    for (text, class) in [
+        ("'a", SignClass::Lifetime),
+        ("1", SignClass::Literal),
+        ("pub", SignClass::Visibility),
+        ("1 + 1", SignClass::Invisible),
+    ] {
         assert_eq!(first_sign(held(text, groups).trees()).map(|(class, _)| class), Some(class));
     }
     let receiver = joined([parsed("&"), held("'a", groups), parsed("self")]);

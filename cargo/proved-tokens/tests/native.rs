@@ -196,8 +196,8 @@ fn every_error_becomes_a_compile_error_at_its_place() -> Outcome {
     let texts = error.to_string();
     let texts: Vec<&str> = texts.lines().collect();
     assert_eq!(texts[..3], [ends.to_string(), fault.to_string(), "cannot parse string into token stream".into()]);
-    let told = error.to_compile_error();
-    let starts = told.trees().chunks(8).map(|trees| trees[0].span().start(&map));
+    let note = error.to_compile_error();
+    let starts = note.trees().chunks(8).map(|trees| trees[0].span().start(&map));
     let starts: Vec<_> = starts.map(|start| (start.line, start.column)).collect();
     assert_eq!(starts, [(1, 0), (2, 0), (1, 3), (1, 6)]);
     // Those without a place.
@@ -215,8 +215,8 @@ fn every_error_becomes_a_compile_error_at_its_place() -> Outcome {
         Ok(TokenStream::new())
     }
     for row in 0..8 {
-        let told = in_a_macro(row).expect_err("it is an error").to_compile_error();
-        assert_eq!(told.trees().len(), 8, "row {row}");
+        let note = in_a_macro(row).expect_err("it is an error").to_compile_error();
+        assert_eq!(note.trees().len(), 8, "row {row}");
     }
     Ok(())
 }

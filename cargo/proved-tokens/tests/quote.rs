@@ -132,8 +132,8 @@ fn tokens_have_the_span_of_the_call_or_the_given_one_or_their_own() {
 }
 
 #[test]
-fn faults_are_told_by_name_and_place() {
-    let told = |template: &str, holes: Holes| {
+fn faults_are_reported_by_name_and_place() {
+    let note = |template: &str, holes: Holes| {
         let template = Template::parse(template).expect("it is a text");
         let fault = template.fill(&holes).expect_err("it has a fault");
         assert_eq!(template.fill(&holes).expect_err("it has a fault"), fault);
@@ -141,26 +141,26 @@ fn faults_are_told_by_name_and_place() {
     };
     let one = || Holes::new().with("field", &1u8);
     let wanted = "template, line 2, column 6: no hole is named `feild`; did you mean `field`?";
-    assert_eq!(told("fn f() {\n    #feild\n}", one()), wanted);
-    assert_eq!(told("#other", one()), "template, line 1, column 2: no hole is named `other`");
-    assert_eq!(told("#other", Holes::new()), "template, line 1, column 2: no hole is named `other`");
-    assert_eq!(told("{#0}", one()), "template, line 1, column 3: no hole is named `0`");
+    assert_eq!(note("fn f() {\n    #feild\n}", one()), wanted);
+    assert_eq!(note("#other", one()), "template, line 1, column 2: no hole is named `other`");
+    assert_eq!(note("#other", Holes::new()), "template, line 1, column 2: no hole is named `other`");
+    assert_eq!(note("{#0}", one()), "template, line 1, column 3: no hole is named `0`");
     let lists = || Holes::new().with("a", &[1u8, 2, 3]).with("b", &["x", "y"]).with("c", &[[1u8, 2], [3, 4]]);
     let wanted = "template, line 1, column 4: `a` is a list: repeat it, as in `#(#a),*`";
-    assert_eq!(told("f(#a)", lists()), wanted);
+    assert_eq!(note("f(#a)", lists()), wanted);
     let wanted = "template, line 1, column 11: `c` is a list: repeat it, as in `#(#c),*`";
-    assert_eq!(told("f(#( a = #c );*)", lists()), wanted);
+    assert_eq!(note("f(#( a = #c );*)", lists()), wanted);
     let wanted = "template, line 1, column 8: `a` has 3 values and `b` has 2";
-    assert_eq!(told("#( #a #b )*", lists()), wanted);
+    assert_eq!(note("#( #a #b )*", lists()), wanted);
     let wanted = "template, line 1, column 12: `c` has 2 values and `a` has 3";
-    assert_eq!(told("#( [#( #c #a ),*] )*", lists()), wanted);
-    assert_eq!(told("  #( f(); )*", lists()), "template, line 1, column 4: this repetition names no list");
+    assert_eq!(note("#( [#( #c #a ),*] )*", lists()), wanted);
+    assert_eq!(note("  #( f(); )*", lists()), "template, line 1, column 4: this repetition names no list");
     let floats = Holes::new().with("x", &[1.0, f64::NAN]);
-    assert_eq!(told("#(#x),*", floats), "template, line 1, column 4: `x` is infinite or no number");
+    assert_eq!(note("#(#x),*", floats), "template, line 1, column 4: `x` is infinite or no number");
     let ragged = [vec![vec![1u8], vec![2]], vec![vec![3]]];
     let nested = || Holes::new().with("x", &ragged).with("y", &[[1u8, 2], [3, 4]]);
     let wanted = "template, line 1, column 15: `x` and `y` have lists of different lengths";
-    assert_eq!(told("#( #( #(#x)* #y )* )*", nested()), wanted);
+    assert_eq!(note("#( #( #(#x)* #y )* )*", nested()), wanted);
     let fault = Template::parse("fn f() {\n    x )").err().expect("it has a fault");
     assert_eq!(fault.start().map(|start| (start.line, start.column)), Some((2, 6)));
     assert!(matches!(fault.error(), TemplateError::Parse(_)));
@@ -181,19 +181,19 @@ fn a_template_is_filled_many_times_and_stays_as_it_was() {
 #[test]
 fn quote_panics_with_the_names_at_the_callers_line() {
     let panicked = |call: fn()| {
-        let told = catch_unwind(call).expect_err("it panics");
-        told.downcast_ref::<String>().cloned().unwrap_or_default()
+        let note = catch_unwind(call).expect_err("it panics");
+        note.downcast_ref::<String>().cloned().unwrap_or_default()
     };
-    let told = panicked(|| {
+    let note = panicked(|| {
         let (a, b) = ([1u8, 2, 3], ["x"]);
         quote!(f(#( #a #b ),*));
     });
-    assert_eq!(told, "template: `a` has 3 values and `b` has 1");
-    let told = panicked(|| {
+    assert_eq!(note, "template: `a` has 3 values and `b` has 1");
+    let note = panicked(|| {
         let a = f32::INFINITY;
         quote!(#a);
     });
-    assert_eq!(told, "template: `a` is infinite or no number");
-    let told = panicked(|| drop(format_ident!("{}", "a b")));
-    assert_eq!(told, "`a b` is no identifier: not a valid identifier");
+    assert_eq!(note, "template: `a` is infinite or no number");
+    let note = panicked(|| drop(format_ident!("{}", "a b")));
+    assert_eq!(note, "`a b` is no identifier: not a valid identifier");
 }

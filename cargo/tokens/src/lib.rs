@@ -72,10 +72,10 @@ pub mod rust_check {
     mod name_forms;
     mod names;
     pub mod options;
-    mod place;
+    mod report;
     mod shown;
     mod tally;
-    mod told;
+    mod text_position;
     mod turns;
     mod writing;
 }
@@ -86,7 +86,7 @@ pub mod same {
     pub mod answer;
     mod comparing;
     mod place;
-    mod said;
+    mod source_word;
     mod words;
 }
 

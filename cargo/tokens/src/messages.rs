@@ -9,5 +9,5 @@ mod report;
 
 pub use errors::Failure;
 pub use input::{path, read_text, words};
-pub use json::escaped;
+pub use json::json_escape;
 pub use report::{conclude, say, say_at, say_of, status};

@@ -13,15 +13,15 @@ pub struct Answer<'a> {
     /// The kind of the answer: the question, or `refused` for a text that is no literal or has no value.
     pub kind: &'a str,
     /// The text in the last column of a line.
-    pub said: String,
+    pub answer_text: String,
 }
 
 impl<'a> Answer<'a> {
     /// Returns the answer for a text that is no literal, and for a value that no literal has.
-    pub fn refused(alloc: Global) -> Answer<'a> {
+    pub fn no_literal(alloc: Global) -> Answer<'a> {
         Answer {
             kind: "refused",
-            said: String::new(alloc),
+            answer_text: String::new(alloc),
         }
     }
 }

@@ -29,12 +29,12 @@ pub fn read_line<'a>(alloc: Global, line: &'a str) -> Result<Option<Recorded<'a>
     else {
         return Ok(None);
     };
-    let (Some(text), Some(answer)) = (unescaped(alloc, text)?, unescaped(alloc, answer)?) else {
+    let (Some(text), Some(answer)) = (unescape(alloc, text)?, unescape(alloc, answer)?) else {
         return Ok(None);
     };
     let (kind, answer) = match (columns.next(), columns.next(), columns.next()) {
         (None, _, _) => (asked, answer),
-        (Some(kind), Some(wanted), None) => match unescaped(alloc, wanted)? {
+        (Some(kind), Some(wanted), None) => match unescape(alloc, wanted)? {
             Some(wanted) if kind != asked || wanted != answer => (kind, wanted),
             _ => return Ok(None),
         },
@@ -63,7 +63,7 @@ enum State {
 
 /// Returns the text of a column, or `None` if an escape is none of `\n`, `\r`, `\t`, `\\` and `\u{..}`, or isn't
 /// closed. `a\tb\u{e9}` is `a`, a tab, `b` and U+00E9.
-fn unescaped(alloc: Global, column: &str) -> Result<Option<String>, AllocError> {
+fn unescape(alloc: Global, column: &str) -> Result<Option<String>, AllocError> {
     let mut text = String::new(alloc);
     let mut state = State::Plain;
     for c in column.chars() {

@@ -20,7 +20,7 @@ pub fn content_answer<'a>(
     call: &'a str,
     content: &str,
 ) -> Result<Option<Answer<'a>>, AllocError> {
-    let said = match call {
+    let answer_text = match call {
         "unescape_str" => items(alloc, unescape_str(content)),
         "unescape_byte_str" => items(alloc, unescape_byte_str(content)),
         "unescape_c_str" => items(alloc, unescape_c_str(content)),
@@ -33,7 +33,7 @@ pub fn content_answer<'a>(
     };
     Ok(Some(Answer {
         kind: call,
-        said: said?,
+        answer_text: answer_text?,
     }))
 }
 
@@ -46,7 +46,7 @@ fn errors_answer<'a>(
     match call.strip_prefix("errors_").and_then(mode) {
         Some(mode) => Ok(Some(Answer {
             kind: call,
-            said: errors(alloc, content, mode)?,
+            answer_text: errors(alloc, content, mode)?,
         })),
         None => Ok(None),
     }
@@ -74,21 +74,21 @@ fn items<U: Unit, I: Iterator<Item = (Range<usize>, Result<U, EscapeError>)> + D
 ) -> Result<String, AllocError>
     requires { I.can_next items × IsFinite (I.remaining items) }
 {
-    let mut said = String::new(alloc);
+    let mut answer_text = String::new(alloc);
     for (range, unit) in items {
         let unit = unit_text(alloc, unit)?;
-        write!(said, "{}..{} {unit};", range.start, range.end)?;
+        write!(answer_text, "{}..{} {unit};", range.start, range.end)?;
     }
-    Ok(said)
+    Ok(answer_text)
 }
 
 /// Returns all errors in a content of this kind, each with its range.
 fn errors(alloc: Global, content: &str, mode: Mode) -> Result<String, AllocError> {
-    let mut said = String::new(alloc);
+    let mut answer_text = String::new(alloc);
     for (range, error) in check_for_errors(content, mode) {
-        write!(said, "{}..{} {error:?};", range.start, range.end)?;
+        write!(answer_text, "{}..{} {error:?};", range.start, range.end)?;
     }
-    Ok(said)
+    Ok(answer_text)
 }
 
 /// Returns the text of a unit, or the name of an error.

@@ -61,14 +61,18 @@ fn integer(alloc: Global, text: &str) -> Result<Option<TokenTree>, ParseError> {
     let Ok(number) = number.parse::<i8>() else {
         return Ok(None);
     };
-    match suffixed(alloc, number, suffix) {
+    match suffixed_literal(alloc, number, suffix) {
         Some(literal) => Ok(Some(TokenTree::Literal(literal?))),
         None => Ok(None),
     }
 }
 
 /// Returns the literal that the constructor of the suffix makes of the number, or `None` if there is no such suffix.
-fn suffixed(alloc: Global, number: i8, suffix: &str) -> Option<Result<Literal, AllocError>> {
+fn suffixed_literal(
+    alloc: Global,
+    number: i8,
+    suffix: &str,
+) -> Option<Result<Literal, AllocError>> {
     match suffix {
         "" => Some(Literal::i8_unsuffixed(alloc, number)),
         "i8" => Some(Literal::i8_suffixed(alloc, number)),

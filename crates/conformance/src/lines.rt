@@ -60,10 +60,10 @@ fn difference(alloc: Global, line: &str) -> Result<Option<String>, AllocError>
         return Ok(Some(format!(in alloc; "no recorded answer: {line}\n")?));
     };
     let here = match answer_to(alloc, recorded.asked, recorded.text.as_str()) {
-        Ok(Some(found)) if found.kind == recorded.kind && found.said == recorded.answer => {
+        Ok(Some(found)) if found.kind == recorded.kind && found.answer_text == recorded.answer => {
             return Ok(None);
         }
-        Ok(Some(found)) => format!(in alloc; "{} {:?}", found.kind, found.said)?,
+        Ok(Some(found)) => format!(in alloc; "{} {:?}", found.kind, found.answer_text)?,
         Ok(None) => return Ok(Some(format!(in alloc; "no recorded answer: {line}\n")?)),
         Err(ParseError::Memory(error)) => return Err(error),
         Err(error) => format!(in alloc; "{error}")?,

@@ -43,12 +43,15 @@ pub fn list_answer<'a>(
         Err(error) => return Err(error),
     };
     let spaced = stream.is_well_spaced();
-    let said = if spaced == (back == "same") {
+    let answer_text = if spaced == (back == "same") {
         format!(in alloc; "{printed}\t{back}")?
     } else {
         format!(in alloc; "{printed}\t{back}\tis_well_spaced: {spaced}")?
     };
-    Ok(Some(Answer { kind: asked, said }))
+    Ok(Some(Answer {
+        kind: asked,
+        answer_text,
+    }))
 }
 
 /// A group whose closer was not read yet.
@@ -66,13 +69,13 @@ fn noted_trees(alloc: Global, text: &str) -> Result<Option<Vec<TokenTree>>, Pars
     let mut open_groups = Vec::new(alloc);
     let mut trees = Vec::new(alloc);
     for line in text.lines() {
-        if let Some(delimiter) = opened(line) {
+        if let Some(delimiter) = opened_delimiter(line) {
             open_groups.push(Open {
                 delimiter,
                 before: trees,
             })?;
             trees = Vec::new(alloc);
-        } else if let Some(delimiter) = closed(line) {
+        } else if let Some(delimiter) = closed_delimiter(line) {
             let Some(open) = open_groups.pop() else {
                 return Ok(None);
             };
@@ -97,7 +100,7 @@ fn noted_trees(alloc: Global, text: &str) -> Result<Option<Vec<TokenTree>>, Pars
 }
 
 /// Returns the delimiter of the group that the line opens.
-fn opened(line: &str) -> Option<Delimiter> {
+fn opened_delimiter(line: &str) -> Option<Delimiter> {
     match line {
         "(" => Some(Delimiter::Parenthesis),
         "[" => Some(Delimiter::Bracket),
@@ -108,7 +111,7 @@ fn opened(line: &str) -> Option<Delimiter> {
 }
 
 /// Returns the delimiter of the group that the line closes.
-fn closed(line: &str) -> Option<Delimiter> {
+fn closed_delimiter(line: &str) -> Option<Delimiter> {
     match line {
         ")" => Some(Delimiter::Parenthesis),
         "]" => Some(Delimiter::Bracket),

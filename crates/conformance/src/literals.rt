@@ -15,10 +15,10 @@ pub fn literal_answer<'a>(
     let mut map = SourceMap::new(alloc);
     let literal = match Literal::from_str(text, &mut map) {
         Ok(literal) => literal,
-        Err(ParseError::Lex(_)) => return Ok(Answer::refused(alloc)),
+        Err(ParseError::Lex(_)) => return Ok(Answer::no_literal(alloc)),
         Err(error) => return Err(error),
     };
-    let (kind, said) = match asked {
+    let (kind, answer_text) = match asked {
         "str_value" => (
             asked,
             hex(alloc, literal.str_value(alloc).map(String::into_bytes))?,
@@ -27,7 +27,7 @@ pub fn literal_answer<'a>(
         "cstr_value" => (asked, hex(alloc, literal.cstr_value(alloc))?),
         _ => ("literal", format!(in alloc; "{literal}")?),
     };
-    Ok(Answer { kind, said })
+    Ok(Answer { kind, answer_text })
 }
 
 /// Returns the bytes of a value in hex, or the name of the error. Fails if memory runs out.

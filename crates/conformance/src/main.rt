@@ -28,7 +28,7 @@ use std::{env, io};
 const USAGE: &str = "conformance [FILE]";
 
 fn main(rt: HostRuntime) -> ExitCode {
-    match asked(&rt) {
+    match path_argument(&rt) {
         Ok(path) => match run_on(&rt, path.as_str()) {
             Ok(code) => code,
             Err(failure) => conclude(rt.alloc(), path.as_str(), Err(failure), &mut rt.stderr()),
@@ -38,7 +38,7 @@ fn main(rt: HostRuntime) -> ExitCode {
 }
 
 /// Returns the path of the file that the command line names.
-fn asked(rt: &HostRuntime) -> Result<String, Failure> {
+fn path_argument(rt: &HostRuntime) -> Result<String, Failure> {
     let words = words(rt.alloc(), env::args(rt), USAGE)?;
     path(rt.alloc(), words.as_slice(), USAGE)
 }

@@ -17,21 +17,21 @@ pub fn stream_answer<'a>(
     match TokenStream::from_str(text, &mut map) {
         Ok(stream) if asked == "tree" => Ok(Answer {
             kind: asked,
-            said: format!(in alloc; "{stream:?}")?,
+            answer_text: format!(in alloc; "{stream:?}")?,
         }),
         Ok(stream) if asked == "spans" => Ok(Answer {
             kind: asked,
-            said: span_lines(alloc, &stream, &map)?,
+            answer_text: span_lines(alloc, &stream, &map)?,
         }),
         Ok(stream) => Ok(Answer {
             kind: "print",
-            said: format!(in alloc; "{stream}")?,
+            answer_text: format!(in alloc; "{stream}")?,
         }),
         Err(ParseError::Lex(error)) => {
             let start = error.span().start(&map);
             Ok(Answer {
                 kind: "fault",
-                said: format!(in alloc; "{}:{}", start.line, start.column)?,
+                answer_text: format!(in alloc; "{}:{}", start.line, start.column)?,
             })
         }
         Err(error) => Err(error),

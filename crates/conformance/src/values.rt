@@ -17,9 +17,9 @@ pub fn value_answer<'a>(
     match literal_of(alloc, asked, value)? {
         Some(literal) => Ok(Answer {
             kind: asked,
-            said: format!(in alloc; "{literal}")?,
+            answer_text: format!(in alloc; "{literal}")?,
         }),
-        None => Ok(Answer::refused(alloc)),
+        None => Ok(Answer::no_literal(alloc)),
     }
 }
 

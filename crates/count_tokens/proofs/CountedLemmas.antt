@@ -21,11 +21,11 @@ same_counts a b names marks literals groups = λ i.
 
 module _ (old : Counts) (lexed : Lexed) (to : IsTakenTo Counted old lexed) where
   -- counting the events of a piece keeps the invariant
-  pub counted : (new : Counts) (opened : List Waiting) (es : List Event) → length es ≤ 7
+  pub count_step : (new : Counts) (opened : List Waiting) (es : List Event) → length es ≤ 7
       → new.names ≡ old.names + count_by is_name es → new.marks ≡ old.marks + count_by is_mark es
       → new.literals ≡ old.literals + count_by is_literal es → new.groups ≡ old.groups + count_by begins_group es
       → Counted new (past to.before to.is.found.front opened es)
-  counted new opened es most names marks literals groups =
+  count_step new opened es most names marks literals groups =
       let before = to.before.events in
       let found = to.is.found in
       let kind = kind_of lexed.piece.kind found.front in

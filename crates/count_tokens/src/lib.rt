@@ -84,7 +84,7 @@ impl TokenSink for Counts {
         Ok(())
     }
 
-    fn doc(&mut self, _lexed: Lexed<'_>, inner: bool, _said: &str) -> Result<(), AllocError> {
+    fn doc(&mut self, _lexed: Lexed<'_>, inner: bool, _doc_body: &str) -> Result<(), AllocError> {
         // The tokens of `#[doc = ".."]`, or of `#![doc = ".."]`.
         self.marks += if inner { 3 } else { 2 };
         self.groups += 1;

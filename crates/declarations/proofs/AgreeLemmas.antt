@@ -5,24 +5,24 @@ use Rattle.grammars.proofs.FlatLemmas.{move}
 use Rattle.declarations.specs.Grammar.{ends}
 use Rattle.declarations.specs.rules.Names.{G}
 use Rattle.declarations.specs.rules.Rules.{rules}
-use Rattle.declarations.specs.declared.class.Class.{Class}
-use Rattle.declarations.specs.declared.place.Item.{Item}
-use Rattle.declarations.specs.declared.place.Place.{Place}
-use Rattle.declarations.specs.declared.place.Rule.{Rule}
-use Rattle.declarations.specs.declared.place.Spot.{Spot}
-use Rattle.declarations.specs.declared.place.State.TheVariants as states
-use Rattle.declarations.proofs.StackLemmas.{lifted, reached}
+use Rattle.declarations.specs.declared.class.SignClass.{SignClass}
+use Rattle.declarations.specs.declared.walk_state.Item.{Item}
+use Rattle.declarations.specs.declared.walk_state.WalkState.{WalkState}
+use Rattle.declarations.specs.declared.walk_state.Continuation.{Continuation}
+use Rattle.declarations.specs.declared.walk_state.Spot.{Spot}
+use Rattle.declarations.specs.declared.walk_state.State.TheVariants as states
+use Rattle.declarations.proofs.StackLemmas.{left_after, stack_after}
 
 -- if the tables reach this state, their step is that of the grammar
-abbrev pub Agrees : Option (List G) → Option Place → Class → Type 0
+abbrev pub Agrees : Option (List G) → Option WalkState → SignClass → Type 0
 Agrees None next class = true ≡ true
-Agrees (Some k) next class = lifted next ≡ reached (move rules k class)
+Agrees (Some k) next class = left_after next ≡ stack_after (move rules k class)
 
 -- if the tables reach this state, they may end in it exactly if the grammar may
-abbrev pub EndsAgree : Option (List G) → Place → Type 0
+abbrev pub EndsAgree : Option (List G) → WalkState → Type 0
 EndsAgree None place = true ≡ true
 EndsAgree (Some k) place = ends place ≡ machine.ends k
 
 -- a state outside of types and bounds, with no angle bracket open
-abbrev pub at_spot : Spot → Item → Rule → Place
+abbrev pub at_spot : Spot → Item → Continuation → WalkState
 at_spot spot item rule = record { item = item; rule = rule; state = states.At spot; depth = 0 }

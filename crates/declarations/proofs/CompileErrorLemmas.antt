@@ -10,7 +10,7 @@ use Rattle.pm_token.specs.Escaped.{string_text}
 use Rattle.pm_token.specs.Leaf.{Mark, Name, Text}
 use Rattle.pm_token.specs.declared.delimiters.Delimiter.TheVariants.{Brace}
 use Rattle.pm_token.specs.declared.marks.Spacing.TheVariants.{Joint, Alone}
-use Rattle.pm_stream.specs.Building.{gathered, split}
+use Rattle.pm_stream.specs.Building.{trees_of_all, split}
 use Rattle.pm_stream.specs.Trees.{forest}
 use Rattle.pm_stream.specs.declared.stream.Group.{Group as Grouped}
 use Rattle.pm_stream.specs.declared.stream.TokenTree.TheVariants.{Group, Ident, Punct, Literal}
@@ -94,9 +94,9 @@ early_chars = refl
 
 -- ---- the trees of an array
 
-pub drained : {A : Type 0} {n : ℕ} (it : _) (xs : List A) → Drains (array_steps {A = A} {n = n}) it xs
+pub drain_gives : {A : Type 0} {n : ℕ} (it : _) (xs : List A) → Drains (array_steps {A = A} {n = n}) it xs
     → xs ≡ array_into_iter_items it
-drained {A} {n} it xs d =
+drain_gives {A} {n} it xs d =
     sym (map-id xs) ∙ gives_Drains (array_steps {A = A} {n = n}) (λ x. x) xs (array_into_iter_items it) it
     (listed {B = A} (array_steps {A = A} {n = n}) (λ x. x) array_into_iter_items (λ s t p. p.0) (λ s x t p. p) it) d
 
@@ -104,12 +104,12 @@ drained {A} {n} it xs d =
 pub all_put : {S A E : Type 0} (Begins : S → Type 0) (steps : S → Option A → S → Type 0) (left : S → List A)
     (trees : A → Forest) (items : List A) (made : Forest) (r : Result Forest E)
     → ((it : S) (xs : List A) → Drains steps it xs → xs ≡ left it) → ((it : S) → Begins it → left it ≡ items)
-    → gathered trees items ≡ made
-    → IfOk r (λ stream. (it : S) × (xs : List A) × Begins it × Drains steps it xs × (stream ≡ gathered trees xs))
+    → trees_of_all trees items ≡ made
+    → IfOk r (λ stream. (it : S) × (xs : List A) × Begins it × Drains steps it xs × (stream ≡ trees_of_all trees xs))
     → IfOk r (λ stream. stream ≡ made)
 all_put Begins steps left trees items made (Err e) all begins same ran = tt
 all_put Begins steps left trees items made (Ok stream) all begins same ran =
-    ran.4 ∙ ap (gathered trees) (all ran.0 ran.1 ran.3 ∙ begins ran.0 ran.2) ∙ same
+    ran.4 ∙ ap (trees_of_all trees) (all ran.0 ran.1 ran.3 ∙ begins ran.0 ran.2) ∙ same
 
 -- ---- the trees of the call
 
@@ -123,16 +123,16 @@ built_braces text span literal inside old new is holds was now =
     ap Group (now ∙ ap (λ (g : Grouped). record { delimiter = g.delimiter; stream = g.stream; span = span }) was
     ∙ ap (λ f. record { delimiter = Brace; stream = f; span = span }) (holds ∙ ap (λ l. split (Literal l)) is))
 
-pub built : (text : List ℕ) (span : Extent) (a b c d e : Mark) (core name : Name) (group : Grouped)
+pub built_call : (text : List ℕ) (span : Extent) (a b c d e : Mark) (core name : Name) (group : Grouped)
     → a ≡ record { mark = 58; spacing = Joint; span = span } → b ≡ record { mark = 58; spacing = Alone; span = span }
     → core ≡ record { name = codes "core"; raw = false; span = span }
     → c ≡ record { mark = 58; spacing = Joint; span = span } → d ≡ record { mark = 58; spacing = Alone; span = span }
     → name ≡ record { name = codes "compile_error"; raw = false; span = span }
     → e ≡ record { mark = 33; spacing = Alone; span = span }
     → Group group ≡ braces (Literal (record { text = string_text text; span = span }) ∷ []) span
-    → gathered split (Punct a ∷ Punct b ∷ Ident core ∷ Punct c ∷ Punct d ∷ Ident name ∷ Punct e ∷ Group group ∷ [])
+    → trees_of_all split (Punct a ∷ Punct b ∷ Ident core ∷ Punct c ∷ Punct d ∷ Ident name ∷ Punct e ∷ Group group ∷ [])
     ≡ forest (compile_error text span)
-built text span a b c d e core name group is_a is_b is_core is_c is_d is_name is_e is_group =
+built_call text span a b c d e core name group is_a is_b is_core is_c is_d is_name is_e is_group =
     rw (is_a, is_b, is_core, is_c, is_d, is_name, is_e) (
-    ap (λ t. gathered split (mark 58 Joint span ∷ mark 58 Alone span ∷ word (codes "core") span ∷ mark 58 Joint span
+    ap (λ t. trees_of_all split (mark 58 Joint span ∷ mark 58 Alone span ∷ word (codes "core") span ∷ mark 58 Joint span
     ∷ mark 58 Alone span ∷ word (codes "compile_error") span ∷ mark 33 Alone span ∷ t ∷ [])) is_group)

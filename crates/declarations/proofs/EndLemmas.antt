@@ -8,16 +8,16 @@ use Rattle.declarations.specs.TypeStep.{may_end}
 use Rattle.declarations.specs.rules.Names.{Inside}
 use Rattle.declarations.specs.rules.Types.{range}
 use Rattle.declarations.specs.declared.class.Word.TheVariants as words
-use Rattle.declarations.specs.declared.place.Front.TheVariants as fronts
-use Rattle.declarations.specs.declared.place.Item.{Item}
-use Rattle.declarations.specs.declared.place.Item.TheVariants as items
-use Rattle.declarations.specs.declared.place.Place.{Place}
-use Rattle.declarations.specs.declared.place.Rule.{Rule}
-use Rattle.declarations.specs.declared.place.Rule.TheVariants as places
-use Rattle.declarations.specs.declared.place.Spot.{Spot}
-use Rattle.declarations.specs.declared.place.Spot.TheVariants as spots
-use Rattle.declarations.specs.declared.place.State.{State}
-use Rattle.declarations.specs.declared.place.State.TheVariants as states
+use Rattle.declarations.specs.declared.walk_state.Front.TheVariants as fronts
+use Rattle.declarations.specs.declared.walk_state.Item.{Item}
+use Rattle.declarations.specs.declared.walk_state.Item.TheVariants as items
+use Rattle.declarations.specs.declared.walk_state.WalkState.{WalkState}
+use Rattle.declarations.specs.declared.walk_state.Continuation.{Continuation}
+use Rattle.declarations.specs.declared.walk_state.Continuation.TheVariants as places
+use Rattle.declarations.specs.declared.walk_state.Spot.{Spot}
+use Rattle.declarations.specs.declared.walk_state.Spot.TheVariants as spots
+use Rattle.declarations.specs.declared.walk_state.State.{State}
+use Rattle.declarations.specs.declared.walk_state.State.TheVariants as states
 use Rattle.declarations.specs.declared.types.TypeState.{TypeState}
 use Rattle.declarations.specs.declared.types.TypeState.TheVariants as types
 use Rattle.declarations.proofs.AgreeLemmas.{EndsAgree, at_spot}
@@ -27,7 +27,7 @@ use Rattle.declarations.proofs.RangeLemmas.{at_range, not_zero}
 use Rattle.declarations.proofs.StackLemmas.{brackets_left, comes_inside, comes_outside, context_of, left_at, range_left}
 use Rattle.declarations.proofs.StackLemmas.{rule_left, state_left}
 
-spot_ends_agree : (spot : Spot) (item : Item) (rule : Rule)
+spot_ends_agree : (spot : Spot) (item : Item) (rule : Continuation)
     → EndsAgree (left_at (at_spot spot item rule)) (at_spot spot item rule)
 spot_ends_agree (spots.Before part) item rule = part_ends_agree stacks.Before part rule item
 spot_ends_agree (spots.Hash part) item rule = part_ends_agree stacks.Hash part rule item
@@ -60,16 +60,16 @@ spot_ends_agree _ item rule = refl
 
 -- ---- within types
 
-state_end : (state : TypeState) (rule : Rule) → is_nullable (range state (context_of rule)) ≡ may_end state
+state_end : (state : TypeState) (rule : Continuation) → is_nullable (range state (context_of rule)) ≡ may_end state
 state_end types.Wanted places.Alone = refl
 state_end _ places.Alone = refl
 state_end _ _ = refl
 
-abbrev RuleEnds : Bool → Rule → Item → Type 0
+abbrev RuleEnds : Bool → Continuation → Item → Type 0
 RuleEnds true rule item = machine.ends (rule_left item rule) ≡ rule_ends item rule
 RuleEnds false rule item = true ≡ true
 
-rule_end : (rule : Rule) (item : Item) → RuleEnds (comes_outside item rule) rule item
+rule_end : (rule : Continuation) (item : Item) → RuleEnds (comes_outside item rule) rule item
 rule_end places.Predicate items.Alone = refl
 rule_end places.Header items.Alone = refl
 rule_end places.Target items.Alone = refl
@@ -79,7 +79,7 @@ never : (x : Bool) → (x && false) ≡ false
 never true = refl
 never false = refl
 
-range_ends_agree : (depth : ℕ) (state : TypeState) (item : Item) (rule : Rule)
+range_ends_agree : (depth : ℕ) (state : TypeState) (item : Item) (rule : Continuation)
     → EndsAgree (range_left state depth item rule) (at_range state depth item rule)
 range_ends_agree zero state item rule = go (comes_outside item rule) (rule_end rule item)
   where
@@ -102,7 +102,7 @@ range_ends_agree (suc depth) state item rule = go (comes_inside item rule)
 
 -- ---- in all states
 
-state_ends_agree : (state : State) (depth : ℕ) (item : Item) (rule : Rule)
+state_ends_agree : (state : State) (depth : ℕ) (item : Item) (rule : Continuation)
     → EndsAgree (state_left state depth item rule)
     (record { item = item; rule = rule; state = state; depth = depth })
 state_ends_agree (states.Range state) depth item rule = range_ends_agree depth state item rule
@@ -111,5 +111,5 @@ state_ends_agree (states.At (spots.Front fronts.ImplAngle)) (suc zero) items.Imp
 state_ends_agree (states.At (spots.Front fronts.ImplWord)) (suc zero) items.Impl rule = refl
 state_ends_agree _ _ _ _ = refl
 
-pub ends_agree : (place : Place) → EndsAgree (left_at place) place
+pub ends_agree : (place : WalkState) → EndsAgree (left_at place) place
 ends_agree place = state_ends_agree place.state place.depth place.item place.rule

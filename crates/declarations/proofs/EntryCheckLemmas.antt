@@ -50,10 +50,10 @@ place_below known entry place is other =
     go true e most = absurd (other (eqb-true place (length known) e))
     go false e most = let apart = eqb-false place (length known) e in omega (arith, is, most, apart)
 
-marked : (seen : List Bool) (places : List ℕ) (at place : ℕ) → at < length seen
+seen_marks : (seen : List Bool) (places : List ℕ) (at place : ℕ) → at < length seen
     → get_or seen place false ≡ list_any (λ other. other == place) places
     → get_or (set seen at true) place false ≡ list_any (λ other. other == place) (at ∷ places)
-marked seen places at place within before = go (at == place) refl
+seen_marks seen places at place within before = go (at == place) refl
   where
     go : (b : Bool) → (at == place) ≡ b
         → get_or (set seen at true) place false ≡ (b || list_any (λ other. other == place) places)
@@ -81,7 +81,7 @@ checked_more known list left next seen entry place c first fewer is other limit 
           (subst (λ p. list_any (λ other. other == p) c.places ≡ false) is (sym (c.marks place within) ∙ unseen)));
       fewer = omega (arith, fewer, before);
       room = length-set seen place true ∙ room;
-      marks = λ p h. marked seen c.places place p (omega (arith, within, room)) (c.marks p h);
+      marks = λ p h. seen_marks seen c.places place p (omega (arith, within, room)) (c.marks p h);
     }
 
 pub unknown_first : (known : Names) (list left next : List TokenTree) (entry : Entry) (place : ℕ) (error : EntryError)
@@ -116,13 +116,13 @@ pub unknown_error : (known : Names) (list left next : List TokenTree) (seen : Li
     → place ≡ length known → error.problem ≡ problems.Unknown → error.at ≡ length list - length left
     → error.span ≡ entry_spot left entry → NamesEntry error entry → error.known.now ≡ known
     → IsEntryError known list error
-unknown_error known list left next seen entry place error c first is all problem at span named told = record {
+unknown_error known list left next seen entry place error c first is all problem at span named known_names = record {
   places = c.places;
   left = left;
   names = c.names;
   wrong = subst (λ p. IsWrong p known list c.places left error) (sym problem)
       (unknown_first known list left next entry place error first (record { counted = at; span = span }) is all named);
-  told = told;
+  kind_and_name = known_names;
 }
 
 pub repeated_error : (known : Names) (list left next : List TokenTree) (seen : List Bool) (entry : Entry) (place : ℕ)
@@ -132,15 +132,16 @@ pub repeated_error : (known : Names) (list left next : List TokenTree) (seen : L
     → error.problem ≡ problems.Repeated → error.at ≡ length list - length left → error.span ≡ entry_spot left entry
     → NamesEntry error entry → error.known.now ≡ known
     → IsEntryError known list error
-repeated_error known list left next seen entry place error c first is other limit marked problem at span named told =
+repeated_error known list left next seen entry place error c first is other limit seen_marks problem at span named
+    known_names =
     record {
       places = c.places;
       left = left;
       names = c.names;
       wrong = subst (λ p. IsWrong p known list c.places left error) (sym problem)
           (repeated_first known list left next seen entry place error c first (record { counted = at; span = span }) is
-          other limit marked named);
-      told = told;
+          other limit seen_marks named);
+      kind_and_name = known_names;
     }
 
 pub no_entry_error : (known : Names) (list left : List TokenTree) (seen : List Bool) (fault : Fault)
@@ -149,13 +150,13 @@ pub no_entry_error : (known : Names) (list left : List TokenTree) (seen : List B
     → error.at ≡ length list - length left + fault.at → error.span ≡ fault.span → error.name ≡ None
     → error.known.now ≡ known
     → IsEntryError known list error
-no_entry_error known list left seen fault error c stands problem at span unnamed told = record {
+no_entry_error known list left seen fault error c stands problem at span unnamed known_names = record {
   places = c.places;
   left = left;
   names = c.names;
   wrong = subst (λ p. IsWrong p known list c.places left error) (sym problem)
       (record { fault = fault; stands = stands; counted = at; span = span; unnamed = unnamed });
-  told = told;
+  kind_and_name = known_names;
 }
 
 -- ---- what is printed

@@ -26,16 +26,16 @@ use Rattle.declarations.specs.Reader.{Finds, ReadsRule, Sticks, classes_in}
 use Rattle.declarations.specs.Reading.{FaultAt, Reads, StopsAt}
 use Rattle.declarations.specs.Signs as signs_in
 use Rattle.declarations.specs.Signs.{BeginsWith, group_class, is_restriction, parentheses_class, trees_of}
-use Rattle.declarations.specs.declared.class.Class.{Class}
-use Rattle.declarations.specs.declared.class.Class.TheVariants as signs
+use Rattle.declarations.specs.declared.class.SignClass.{SignClass}
+use Rattle.declarations.specs.declared.class.SignClass.TheVariants as signs
 use Rattle.declarations.specs.declared.class.Keyword.TheVariants as keywords
 use Rattle.declarations.specs.declared.class.Word.TheVariants as words
 use Rattle.declarations.specs.declared.entry.Entry.{Entry}
 use Rattle.declarations.specs.declared.entry.EntryKind.{EntryKind}
 use Rattle.declarations.specs.declared.entry.EntryKind.TheVariants as kinds
-use Rattle.declarations.specs.declared.place.Rule.TheVariants as places
-use Rattle.declarations.specs.declared.place.Spot.TheVariants as spots
-use Rattle.declarations.specs.declared.place.State.TheVariants as states
+use Rattle.declarations.specs.declared.walk_state.Continuation.TheVariants as places
+use Rattle.declarations.specs.declared.walk_state.Spot.TheVariants as spots
+use Rattle.declarations.specs.declared.walk_state.State.TheVariants as states
 use Rattle.declarations.specs.rules.Classes.{is}
 use Rattle.declarations.specs.rules.Entries as rule
 use Rattle.declarations.specs.rules.Expressions.{expression}
@@ -50,14 +50,14 @@ use Rattle.declarations.proofs.ReaderLemmas.{other_finds, other_sticks, perhaps_
 use Rattle.declarations.proofs.ReaderLemmas.{then_finds, then_sticks}
 use Rattle.declarations.proofs.RuleFormLemmas.{found_reads, only_reading, rule_fewer, stuck_fault}
 use Rattle.declarations.proofs.RuleLemmas.{starts}
-use Rattle.declarations.proofs.SortLemmas.{grouped, groups, sort_of, unseen}
+use Rattle.declarations.proofs.SortLemmas.{is_group_sign, groups, sort_of, unseen}
 use Rattle.declarations.proofs.TableReaderLemmas.{table_reads}
 
 or_nothing : (x y : Bool) → (x || false && y) ≡ x
 or_nothing true y = refl
 or_nothing false y = refl
 
-segment_heads : (cs : List Class) → heads rule.next_segment cs ≡ heads (one signs.PathSeparator) cs
+segment_heads : (cs : List SignClass) → heads rule.next_segment cs ≡ heads (one signs.PathSeparator) cs
 segment_heads [] = refl
 segment_heads (c ∷ cs) = or_nothing (is signs.PathSeparator c) (rule.is_entry_segment c)
 
@@ -90,7 +90,7 @@ pub expression_reads : (trees : List TokenTree) (result : Result (Bor (List Toke
 expression_reads = table_reads (start places.Alone (states.At spots.Expression)) expression refl
 
 -- a value and an expression go on alike after their first sign, if it can begin a value
-value_into : (c : Class) → rule.continues c ≡ false → into rules rule.entry_value [] c ≡ into rules expression [] c
+value_into : (c : SignClass) → rule.continues c ≡ false → into rules rule.entry_value [] c ≡ into rules expression [] c
 value_into signs.Equals h = absurd (both_ways _ h refl)
 value_into signs.Greater h = absurd (both_ways _ h refl)
 value_into signs.Arrow h = absurd (both_ways _ h refl)
@@ -100,25 +100,25 @@ value_into (signs.Keyword keywords.Async) h = refl
 value_into (signs.Keyword _) h = refl
 value_into _ h = refl
 
-value_step : (c : Class) → rule.continues c ≡ false
+value_step : (c : SignClass) → rule.continues c ≡ false
     → step rules (rule.entry_value ∷ []) c ≡ step rules (expression ∷ []) c
 value_step c h = ap (λ s. or_else s None) (value_into c h)
 
-value_find : (c : Class) (cs : List Class) → rule.continues c ≡ false
+value_find : (c : SignClass) (cs : List SignClass) → rule.continues c ≡ false
     → find rules rule.entry_value (c ∷ cs) ≡ find rules expression (c ∷ cs)
 unfolding find
 value_find c cs h =
     scan_step rules (rule.entry_value ∷ []) c cs (step rules (expression ∷ []) c) (value_step c h)
     ∙ sym (scan_step rules (expression ∷ []) c cs (step rules (expression ∷ []) c) refl)
 
-value_found : (trees rest : List TokenTree) (class : Class) → BeginsWith trees class rest
+value_found : (trees rest : List TokenTree) (class : SignClass) → BeginsWith trees class rest
     → rule.continues class ≡ false
     → find rules rule.entry_value (classes_in trees) ≡ find rules expression (classes_in trees)
 value_found trees rest class b h =
     ap (find rules rule.entry_value) (classes_sign trees rest class b)
     ∙ (value_find class (classes_in rest) h ∙ ap (find rules expression) (sym (classes_sign trees rest class b)))
 
-pub value_reads : (trees rest : List TokenTree) (class : Class)
+pub value_reads : (trees rest : List TokenTree) (class : SignClass)
     (result : Result (Bor (List TokenTree)) (Bor (List TokenTree))) → BeginsWith trees class rest
     → rule.continues class ≡ false → ReadsRule expression trees result
     → ReadsRule rule.entry_value trees result
@@ -127,7 +127,7 @@ value_reads trees rest class (Ok after) b h r =
 value_reads trees rest class (Err left) b h r =
     record { stuck = value_found trees rest class b h ∙ r.stuck; remains = r.remains }
 
-none_begins : (c : Class) → rule.continues c ≡ true → may_begin rule.entry_value c ≡ false
+none_begins : (c : SignClass) → rule.continues c ≡ true → may_begin rule.entry_value c ≡ false
 none_begins c h = go (may_begin rule.entry_value c) refl
   where
     apart : (not (rule.continues c && may_begin rule.entry_value c)) ≡ true
@@ -137,7 +137,7 @@ none_begins c h = go (may_begin rule.entry_value c) refl
     go false e = refl
     go true e = absurd (both_ways _ (rw (h, e) refl) apart)
 
-pub value_sticks : (trees rest : List TokenTree) (class : Class) → BeginsWith trees class rest
+pub value_sticks : (trees rest : List TokenTree) (class : SignClass) → BeginsWith trees class rest
     → rule.continues class ≡ true
     → Sticks rule.entry_value trees trees
 value_sticks trees rest class b h =
@@ -150,7 +150,7 @@ pub ruleset values = (value_reads, value_sticks, value_ends)
 
 -- ---- lists
 
-list_sort : (c : Class) → rule.is_list c ≡ true → sort_of c ≡ groups
+list_sort : (c : SignClass) → rule.is_list c ≡ true → sort_of c ≡ groups
 list_sort signs.Restriction h = refl
 list_sort signs.Parentheses h = refl
 list_sort signs.Brackets h = refl
@@ -211,7 +211,7 @@ no_list trees none = go (signs_in.signs trees) refl
         → b ≡ false
     class sign after false e h = refl
     class sign after true e h =
-        let at = grouped trees sign after e (list_sort sign.class h) in
+        let at = is_group_sign trees sign after e (list_sort sign.class h) in
         absurd (none at.0 at.1.more at.1.whole)
 
     go : (all : List signs_in.Sign) → signs_in.signs trees ≡ all
@@ -239,13 +239,13 @@ list_args trees rest tree at =
     (heads_either rule.entry_list rule.with_value (classes_in trees) ∙ or_left _ _ begins)
     (first_finds _ _ trees rest begins list)
 
-begins_equals : (trees rest : List TokenTree) (class : Class) → BeginsWith trees class rest
+begins_equals : (trees rest : List TokenTree) (class : SignClass) → BeginsWith trees class rest
     → is signs.Equals class ≡ true
     → BeginsWith trees signs.Equals rest
 begins_equals trees rest class b h = subst (λ c. BeginsWith trees c rest) (same_class signs.Equals class h) b
 
 pub value_args : (trees from_value rest : List TokenTree) → heads rule.entry_list (classes_in trees) ≡ false
-    → (class : Class) → BeginsWith trees class from_value → is signs.Equals class ≡ true
+    → (class : SignClass) → BeginsWith trees class from_value → is signs.Equals class ≡ true
     → Finds rule.entry_value from_value rest
     → Finds rule.entry_rest trees rest
 value_args trees from_value rest none class begun same f =
@@ -260,7 +260,7 @@ value_args trees from_value rest none class begun same f =
     (other_finds rule.entry_list rule.with_value trees rest none refl all)
 
 pub value_args_stick : (trees from_value left : List TokenTree) → heads rule.entry_list (classes_in trees) ≡ false
-    → (class : Class) → BeginsWith trees class from_value → is signs.Equals class ≡ true
+    → (class : SignClass) → BeginsWith trees class from_value → is signs.Equals class ≡ true
     → Sticks rule.entry_value from_value left
     → Sticks rule.entry_rest trees left
 value_args_stick trees from_value left none class begun same f =
@@ -274,7 +274,7 @@ value_args_stick trees from_value left none class begun same f =
     (heads_either rule.entry_list rule.with_value (classes_in trees) ∙ rw (none, begins) refl)
     (other_sticks rule.entry_list rule.with_value trees left none refl all)
 
-pub value_has : (trees from_value value rest : List TokenTree) (class : Class) → BeginsWith trees class from_value
+pub value_has : (trees from_value value rest : List TokenTree) (class : SignClass) → BeginsWith trees class from_value
     → is signs.Equals class ≡ true → Finds rule.entry_value from_value rest → from_value ≡ value ++ rest
     → (from : List TokenTree) × BeginsWith trees signs.Equals from × Reads (ByRule rule.entry_value) from value rest
 value_has trees from_value value rest class b h f whole = (
@@ -283,7 +283,7 @@ value_has trees from_value value rest class b h f whole = (
   found_reads rule.entry_value starts_value from_value value rest f whole,
 )
 
-value_begins : (c : Class) → may_begin rule.with_value c ≡ is signs.Equals c
+value_begins : (c : SignClass) → may_begin rule.with_value c ≡ is signs.Equals c
 value_begins c = or_nothing (is signs.Equals c) (may_begin (Then (Mark Value) rule.entry_value) c)
 
 stay_args : (trees : List TokenTree) → heads rule.entry_list (classes_in trees) ≡ false
@@ -293,7 +293,7 @@ stay_args trees h j =
     perhaps_stays (Either rule.entry_list rule.with_value) trees
     (either_heads rule.entry_list rule.with_value trees h j)
 
-pub other_args : (trees rest : List TokenTree) (class : Class) → heads rule.entry_list (classes_in trees) ≡ false
+pub other_args : (trees rest : List TokenTree) (class : SignClass) → heads rule.entry_list (classes_in trees) ≡ false
     → BeginsWith trees class rest → is signs.Equals class ≡ false
     → Finds rule.entry_rest trees trees
 other_args trees rest class none b h =
@@ -342,7 +342,7 @@ named_fails trees from_args left f h = mark_sticks _ _ trees left (then_fails _ 
 
 pub ruleset paths = (named_fails, mark_finds, mark_sticks, then_finds, then_fails, then_sticks, named_parts)
 
-pub literal_first : (trees rest : List TokenTree) (class : Class)
+pub literal_first : (trees rest : List TokenTree) (class : SignClass)
     (result : Result (Entry × Bor (List TokenTree)) (Bor (List TokenTree))) → BeginsWith trees class rest
     → may_begin rule.literal_entry class ≡ true → ReadsEntry rule.literal_entry trees result
     → ReadsEntry rule.entry trees result
@@ -362,7 +362,7 @@ named_other trees (Ok found) h r =
     (other_finds rule.literal_entry rule.named_entry trees found.1.now h refl r.0, r.1)
 named_other trees (Err left) h r = other_sticks rule.literal_entry rule.named_entry trees left.now h refl r
 
-pub named_second : (trees rest : List TokenTree) (class : Class)
+pub named_second : (trees rest : List TokenTree) (class : SignClass)
     (result : Result (Entry × Bor (List TokenTree)) (Bor (List TokenTree))) → BeginsWith trees class rest
     → may_begin rule.literal_entry class ≡ false → ReadsEntry rule.named_entry trees result
     → ReadsEntry rule.entry trees result

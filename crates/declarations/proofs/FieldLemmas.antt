@@ -9,24 +9,25 @@ use Rattle.declarations.proofs.CutLemmas.{Goes, Begins, begins_whole, begins_aft
 use Rattle.declarations.proofs.ItemLemmas.{goes_whole, reads_whole, goes_first, attributes_cut, visibility_cut}
 use Rattle.declarations.proofs.PartLemmas.{at, range, Front, field, tuple_field, before, after_attributes}
 use Rattle.declarations.proofs.PartLemmas.{after_visibility, visible}
-use Rattle.declarations.proofs.SignLemmas.{behind_first, signs-cons, paired}
-use Rattle.declarations.proofs.SortLemmas.{sort_of, FirstTree, one, two, first_tree, named, names, marks, pairs}
+use Rattle.declarations.proofs.SignLemmas.{after_first_sign, signs-cons, pair_signs}
+use Rattle.declarations.proofs.SortLemmas.{sort_of, FirstTree, one, two, first_tree, is_identifier_sign, names, marks}
+use Rattle.declarations.proofs.SortLemmas.{pairs}
 use Rattle.declarations.specs.Field.{HasFront, HasFieldParts, IsNamed}
 use Rattle.declarations.specs.declared.field.Field.{Field}
 use Rattle.declarations.specs.Forms.{IsFrom, AreAttributes, IsVisibility, IsType}
-use Rattle.declarations.specs.Grammar.{step, else_follow, ranged}
+use Rattle.declarations.specs.Grammar.{step, else_follow, after_range}
 use Rattle.declarations.specs.Item.{IsNameClass}
 use Rattle.declarations.specs.Reading.{Reads, FaultAt, IsOnly}
 use Rattle.declarations.specs.Signs.{Sign, signs, trees_of, name_class, pair_class, tree_class}
 use Rattle.declarations.specs.TypeStep.{step_of}
 use Rattle.declarations.specs.Whole.{ReadsAll}
-use Rattle.declarations.specs.declared.class.Class.{Class}
-use Rattle.declarations.specs.declared.class.Class.TheVariants as signs
-use Rattle.declarations.specs.declared.place.Item.TheVariants as items
-use Rattle.declarations.specs.declared.place.Part.TheVariants as parts
-use Rattle.declarations.specs.declared.place.Place.{Place}
-use Rattle.declarations.specs.declared.place.Rule.TheVariants as rules
-use Rattle.declarations.specs.declared.place.Spot.TheVariants as spots
+use Rattle.declarations.specs.declared.class.SignClass.{SignClass}
+use Rattle.declarations.specs.declared.class.SignClass.TheVariants as signs
+use Rattle.declarations.specs.declared.walk_state.Item.TheVariants as items
+use Rattle.declarations.specs.declared.walk_state.Part.TheVariants as parts
+use Rattle.declarations.specs.declared.walk_state.WalkState.{WalkState}
+use Rattle.declarations.specs.declared.walk_state.Continuation.TheVariants as rules
+use Rattle.declarations.specs.declared.walk_state.Spot.TheVariants as spots
 use Rattle.declarations.specs.declared.types.TypeState.TheVariants as types
 use Rattle.declarations.specs.declared.types.TypeStep.{TypeStep}
 
@@ -47,7 +48,7 @@ single_alone tree second tail [] rest pair whole = refl
 single_alone tree second tail (other ∷ more) rest pair whole =
     let same : second ≡ other = cc in
     signs-cons tree other more
-    ∙ ap (λ o. paired o tree other more) (ap (pair_class tree) (sym same) ∙ pair)
+    ∙ ap (λ o. pair_signs o tree other more) (ap (pair_class tree) (sym same) ∙ pair)
 
 -- the first sign stays the same if trees after it are left away
 first_alone : (trees more rest : List TokenTree) (sign : Sign) (after : List Sign) → signs trees ≡ sign ∷ after
@@ -59,7 +60,7 @@ first_alone (tree ∷ []) more rest sign after read whole =
     subst (λ s. tree ∷ [] ≡ s.trees ++ (more ++ rest) → signs (s.trees ++ more) ≡ s ∷ signs more) is
     (λ h. last_alone tree more rest h) whole
 first_alone (tree ∷ second ∷ tail) more rest sign after read whole =
-    elim (pair_class tree second) as (λ o. pair_class tree second ≡ o → paired o tree second tail ≡ sign ∷ after
+    elim (pair_class tree second) as (λ o. pair_class tree second ≡ o → pair_signs o tree second tail ≡ sign ∷ after
     → signs (sign.trees ++ more) ≡ sign ∷ signs more) [
       | None ↦ λ pair h.
           let alone : Sign = record { class = tree_class tree; trees = tree ∷ [] } in
@@ -70,22 +71,22 @@ first_alone (tree ∷ second ∷ tail) more rest sign after read whole =
           let both : Sign = record { class = class; trees = tree ∷ second ∷ [] } in
           let is : both ≡ sign = cc in
           subst (λ s. signs (s.trees ++ more) ≡ s ∷ signs more) is
-          (signs-cons tree second more ∙ ap (λ o. paired o tree second more) pair)
+          (signs-cons tree second more ∙ ap (λ o. pair_signs o tree second more) pair)
     ] refl (sym (signs-cons tree second tail) ∙ read)
 
 alone_signs : (piece : List Sign) (trees rest : List TokenTree) → signs trees ≡ piece ++ signs rest
     → trees ≡ trees_of piece ++ rest → signs (trees_of piece) ≡ piece
 alone_signs [] trees rest read whole = refl
 alone_signs (sign ∷ piece) trees rest read whole =
-    let behind = behind_first trees sign (piece ++ signs rest) read in
+    let sign_rest = after_first_sign trees sign (piece ++ signs rest) read in
     let all : trees ≡ sign.trees ++ (trees_of piece ++ rest) = whole ∙ append_assoc sign.trees (trees_of piece) rest in
-    let left : behind.rest ≡ trees_of piece ++ rest =
-    append_cancel_left sign.trees behind.rest (trees_of piece ++ rest) (sym behind.whole ∙ all) in
-    let here = alone_signs piece behind.rest rest behind.read left in
+    let left : sign_rest.rest ≡ trees_of piece ++ rest =
+    append_cancel_left sign.trees sign_rest.rest (trees_of piece ++ rest) (sym sign_rest.whole ∙ all) in
+    let here = alone_signs piece sign_rest.rest rest sign_rest.read left in
     first_alone trees (trees_of piece) rest sign (piece ++ signs rest) read all ∙ ap (λ ss. sign ∷ ss) here
 
 -- what is read before a rest is also read if there is no rest
-pub reads_alone : (place : Place) (trees part rest : List TokenTree) → Reads (IsFrom place) trees part rest
+pub reads_alone : (place : WalkState) (trees part rest : List TokenTree) → Reads (IsFrom place) trees part rest
     → ReadsAll (IsFrom place) part
 reads_alone place trees part rest reads =
     let alone : signs part ≡ reads.piece =
@@ -156,16 +157,16 @@ pub record AfterVisible (trees : List TokenTree) : Type 0 where
   pub is_colon : tree_class colon ≡ signs.Colon
   pub type_read : ReadsAll IsType more
 
-record LedField (class : Class) (next : Place) : Type 0 where
+record LedField (class : SignClass) (next : WalkState) : Type 0 where
   sort : sort_of class ≡ names
   is_name : IsNameClass class
   is : next ≡ at items.Alone spots.FieldName
 
-led_field : (class : Class) (next : Place) → after_visibility field class ≡ Some next → LedField class next
+led_field : (class : SignClass) (next : WalkState) → after_visibility field class ≡ Some next → LedField class next
 led_field (signs.Word word) next steps = record { sort = refl; is_name = tt; is = (cc) }
 led_field class next steps = cc
 
-led_colon : (class : Class) (next : Place) → step (at items.Alone spots.FieldName) class ≡ Some next
+led_colon : (class : SignClass) (next : WalkState) → step (at items.Alone spots.FieldName) class ≡ Some next
     → (class ≡ signs.Colon) × (next ≡ range items.Alone rules.Alone types.Wanted 0)
 led_colon signs.Colon next steps = (refl, cc)
 led_colon class next steps = cc
@@ -188,7 +189,7 @@ type_goes trees goes = reads_whole (range items.Alone rules.Alone types.Wanted 0
 pub after_visible : (trees : List TokenTree) → Begins (after_visibility field) trees → AfterVisible trees
 after_visible trees begins =
     let led = led_field begins.sign.class begins.next begins.steps in
-    let found = named trees begins.sign (signs begins.more) begins.begins led.sort in
+    let found = is_identifier_sign trees begins.sign (signs begins.more) begins.begins led.sort in
     let is : begins.sign.class ≡ name_class found.0 = ap (λ s. s.class) found.1.is in
     let name : begins.sign.trees ≡ Ident found.0 ∷ [] = ap (λ s. s.trees) found.1.is in
     let goes = subst (λ p. Goes p begins.more) led.is begins.left in
@@ -211,23 +212,23 @@ after_visible trees begins =
 -- ---- a type alone
 
 -- a step after a visibility is also a step where a type must come
-tuple_type : (taken : Option TypeStep) (next : Place)
-    → ranged (visible tuple_field) taken ≡ Some next
-    → ranged (range items.Alone rules.Alone types.Wanted 0) taken ≡ Some next
+tuple_type : (taken : Option TypeStep) (next : WalkState)
+    → after_range (visible tuple_field) taken ≡ Some next
+    → after_range (range items.Alone rules.Alone types.Wanted 0) taken ≡ Some next
 tuple_type None next steps = cc
 tuple_type (Some taken) next steps = steps
 
-wanted : (o : Option TypeStep) (class : Class) (next : Place)
-    → ranged (range items.Alone rules.Alone types.Wanted 0) o ≡ Some next
-    → else_follow (ranged (range items.Alone rules.Alone types.Wanted 0) o)
+type_starts : (o : Option TypeStep) (class : SignClass) (next : WalkState)
+    → after_range (range items.Alone rules.Alone types.Wanted 0) o ≡ Some next
+    → else_follow (after_range (range items.Alone rules.Alone types.Wanted 0) o)
     (range items.Alone rules.Alone types.Wanted 0) types.Wanted class ≡ Some next
-wanted None class next steps = cc
-wanted (Some taken) class next steps = steps
+type_starts None class next steps = cc
+type_starts (Some taken) class next steps = steps
 
-tuple_step : (class : Class) (next : Place) → after_visibility tuple_field class ≡ Some next
+tuple_step : (class : SignClass) (next : WalkState) → after_visibility tuple_field class ≡ Some next
     → step (range items.Alone rules.Alone types.Wanted 0) class ≡ Some next
 tuple_step class next steps =
-    wanted (step_of types.Wanted class true) class next (tuple_type (step_of types.Wanted class true) next steps)
+    type_starts (step_of types.Wanted class true) class next (tuple_type (step_of types.Wanted class true) next steps)
 
 pub after_tuple : (trees : List TokenTree) → Begins (after_visibility tuple_field) trees → ReadsAll IsType trees
 after_tuple trees begins =

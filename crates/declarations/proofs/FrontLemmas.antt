@@ -8,23 +8,23 @@ use Rattle.declarations.specs.Parts.{begins_identifier, begins_mark}
 use Rattle.declarations.specs.Reader.{Finds, classes_in}
 use Rattle.declarations.specs.Signs as signs_in
 use Rattle.declarations.specs.Signs.{BeginsWith}
-use Rattle.declarations.specs.declared.class.Class.{Class}
-use Rattle.declarations.specs.declared.class.Class.TheVariants as signs
+use Rattle.declarations.specs.declared.class.SignClass.{SignClass}
+use Rattle.declarations.specs.declared.class.SignClass.TheVariants as signs
 use Rattle.declarations.specs.declared.class.Keyword.TheVariants as keywords
 use Rattle.declarations.specs.declared.class.Word.TheVariants as words
 use Rattle.declarations.specs.rules.Classes.{is}
-use Rattle.declarations.specs.rules.Names.{G, Label, Name, Visible, Generics, Where, listed, one, key}
+use Rattle.declarations.specs.rules.Names.{G, Label, Name, Visible, Generics, Where, comma_list, one, key}
 use Rattle.declarations.specs.rules.Parts.{attribute, closed_parameters, generics, predicate, restriction, visibility}
 use Rattle.declarations.specs.rules.Parts.{visible, where_clause}
 use Rattle.declarations.proofs.ClassLemmas.{same_class}
-use Rattle.declarations.proofs.TreeLemmas.{marked, no_sign, or_nothing}
+use Rattle.declarations.proofs.TreeLemmas.{is_mark_sign, no_sign, or_nothing}
 use Rattle.declarations.proofs.ReaderLemmas.{first_finds, heads_none, heads_sign, mark_finds, other_finds}
 use Rattle.declarations.proofs.ReaderLemmas.{perhaps_stays, sign_finds, then_finds}
-use Rattle.declarations.proofs.SortLemmas.{marks, named, names, sort_of}
+use Rattle.declarations.proofs.SortLemmas.{marks, is_identifier_sign, names, sort_of}
 
 -- ---- attributes
 
-attribute_heads : (cs : List Class) → heads attribute cs ≡ heads (one signs.Hash) cs
+attribute_heads : (cs : List SignClass) → heads attribute cs ≡ heads (one signs.Hash) cs
 attribute_heads [] = refl
 attribute_heads (c ∷ cs) = or_nothing (is signs.Hash c) (is signs.Brackets c)
 
@@ -34,23 +34,23 @@ pub hash_heads : (trees : List TokenTree) (b : Bool) → b ≡ heads (one signs.
 hash_heads trees b h = h ∙ sym (attribute_heads (classes_in trees))
 
 -- a sign that is a mark is the first tree
-mark_first : (passes : Class → Bool) (trees : List TokenTree)
-    → ((c : Class) → passes c ≡ true → sort_of c ≡ marks) → begins_mark trees ≡ false
+mark_first : (passes : SignClass → Bool) (trees : List TokenTree)
+    → ((c : SignClass) → passes c ≡ true → sort_of c ≡ marks) → begins_mark trees ≡ false
     → heads {N = Name} {L = Label} (Sign passes) (classes_in trees) ≡ false
 mark_first passes trees sort differs =
     no_sign passes trees
     (λ sign after e h.
-    let at = marked trees sign after e (sort sign.class h) in
+    let at = is_mark_sign trees sign after e (sort sign.class h) in
     both_ways _ differs (ap begins_mark at.2.whole ∙ at.1))
 
 -- a sign that is a name is the first tree
-name_first : (passes : Class → Bool) (trees : List TokenTree)
-    → ((c : Class) → passes c ≡ true → sort_of c ≡ names) → begins_identifier trees ≡ false
+name_first : (passes : SignClass → Bool) (trees : List TokenTree)
+    → ((c : SignClass) → passes c ≡ true → sort_of c ≡ names) → begins_identifier trees ≡ false
     → heads {N = Name} {L = Label} (Sign passes) (classes_in trees) ≡ false
 name_first passes trees sort differs =
     no_sign passes trees
     (λ sign after e h.
-    let at = named trees sign after e (sort sign.class h) in
+    let at = is_identifier_sign trees sign after e (sort sign.class h) in
     both_ways _ differs (ap begins_identifier at.1.whole))
 
 -- no attribute begins with a tree that is no mark
@@ -67,7 +67,7 @@ pub ruleset hashes = (hash_heads, no_hash)
 abbrev marked_visible : G
 marked_visible = Then (Mark Visible) visible
 
-visible_first : (c : Class)
+visible_first : (c : SignClass)
     → may_begin marked_visible c ≡ (is (signs.Keyword keywords.Pub) c || is signs.Visibility c)
 visible_first c = go (is (signs.Keyword keywords.Pub) c) (may_begin restriction c) (is signs.Visibility c)
   where
@@ -75,11 +75,11 @@ visible_first c = go (is (signs.Keyword keywords.Pub) c) (may_begin restriction 
     go true y z = refl
     go false y z = refl
 
-public_first : (c : Class) → may_begin (Then (key keywords.Pub) restriction) c ≡ is (signs.Keyword keywords.Pub) c
+public_first : (c : SignClass) → may_begin (Then (key keywords.Pub) restriction) c ≡ is (signs.Keyword keywords.Pub) c
 public_first c = or_nothing (is (signs.Keyword keywords.Pub) c) (may_begin restriction c)
 
 -- `pub` and perhaps a restriction
-pub public_finds : (trees mid rest : List TokenTree) (class : Class) → BeginsWith trees class mid
+pub public_finds : (trees mid rest : List TokenTree) (class : SignClass) → BeginsWith trees class mid
     → is (signs.Keyword keywords.Pub) class ≡ true → Finds restriction mid rest
     → Finds visibility trees rest
 public_finds trees mid rest class b h f =
@@ -92,7 +92,7 @@ public_finds trees mid rest class b h f =
     (sign_finds (is (signs.Keyword keywords.Pub)) trees mid class b h) f)))
 
 -- a group without delimiters that holds a visibility
-pub group_finds : (trees rest : List TokenTree) (class : Class) → BeginsWith trees class rest
+pub group_finds : (trees rest : List TokenTree) (class : SignClass) → BeginsWith trees class rest
     → is (signs.Keyword keywords.Pub) class ≡ false → is signs.Visibility class ≡ true
     → Finds visibility trees rest
 group_finds trees rest class b differs h =
@@ -104,7 +104,7 @@ group_finds trees rest class b differs h =
     (heads_sign (Then (key keywords.Pub) restriction) trees rest class b ∙ (public_first class ∙ differs)) refl
     (sign_finds (is signs.Visibility) trees rest class b h)))
 
-pub not_visible : (trees rest : List TokenTree) (class : Class) → BeginsWith trees class rest
+pub not_visible : (trees rest : List TokenTree) (class : SignClass) → BeginsWith trees class rest
     → is (signs.Keyword keywords.Pub) class ≡ false → is signs.Visibility class ≡ false
     → Finds visibility trees trees
 not_visible trees rest class b differs none =
@@ -119,13 +119,13 @@ pub ruleset visibilities = (public_finds, group_finds, not_visible, visible_end)
 
 -- ---- generic parameters and where clauses that are left out
 
-abbrev opened : G
-opened = Either (Then (one signs.Less) closed_parameters) (Then (one signs.LessJoint) closed_parameters)
+abbrev opened_parameters : G
+opened_parameters = Either (Then (one signs.Less) closed_parameters) (Then (one signs.LessJoint) closed_parameters)
 
-abbrev opens : Class → Bool
+abbrev opens : SignClass → Bool
 opens c = is signs.Less c || is signs.LessJoint c
 
-opens_sort : (c : Class) → opens c ≡ true → sort_of c ≡ marks
+opens_sort : (c : SignClass) → opens c ≡ true → sort_of c ≡ marks
 opens_sort signs.Less h = refl
 opens_sort signs.LessJoint h = refl
 opens_sort (signs.Word words.Auto) h = absurd (both_ways _ refl h)
@@ -134,8 +134,8 @@ opens_sort (signs.Keyword keywords.Async) h = absurd (both_ways _ refl h)
 opens_sort (signs.Keyword _) h = absurd (both_ways _ refl h)
 opens_sort _ h = absurd (both_ways _ refl h)
 
-generics_heads : (cs : List Class)
-    → heads (Then (Mark Generics) opened) cs ≡ heads {N = Name} {L = Label} (Sign opens) cs
+generics_heads : (cs : List SignClass)
+    → heads (Then (Mark Generics) opened_parameters) cs ≡ heads {N = Name} {L = Label} (Sign opens) cs
 generics_heads [] = refl
 generics_heads (c ∷ cs) =
     go (is signs.Less c) (is signs.LessJoint c) (may_begin closed_parameters c)
@@ -148,15 +148,15 @@ generics_heads (c ∷ cs) =
 pub no_generics : (trees : List TokenTree) (b : Bool) → b ≡ begins_mark trees → b ≡ false
     → Finds generics trees trees
 no_generics trees b is_not differs =
-    perhaps_stays (Then (Mark Generics) opened) trees
+    perhaps_stays (Then (Mark Generics) opened_parameters) trees
     (generics_heads (classes_in trees) ∙ mark_first opens trees opens_sort (sym is_not ∙ differs))
 
 abbrev with_where : G
-with_where = Then (Mark Where) (Then (key keywords.Where) (listed predicate))
+with_where = Then (Mark Where) (Then (key keywords.Where) (comma_list predicate))
 
-where_heads : (cs : List Class) → heads with_where cs ≡ heads (key keywords.Where) cs
+where_heads : (cs : List SignClass) → heads with_where cs ≡ heads (key keywords.Where) cs
 where_heads [] = refl
-where_heads (c ∷ cs) = or_nothing (is (signs.Keyword keywords.Where) c) (may_begin (listed predicate) c)
+where_heads (c ∷ cs) = or_nothing (is (signs.Keyword keywords.Where) c) (may_begin (comma_list predicate) c)
 
 pub no_where : (trees : List TokenTree) (b : Bool) → b ≡ begins_identifier trees → b ≡ false
     → Finds where_clause trees trees

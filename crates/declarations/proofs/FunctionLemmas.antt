@@ -67,27 +67,29 @@ starts_where = starts where_clause refl refl
 abbrev clause_end : G
 clause_end = Then where_clause body_end
 
-pub end_finds : (trees from_clause from_body rest : List TokenTree) → Finds rule.returned trees from_clause
+pub end_finds : (trees from_clause from_body rest : List TokenTree) → Finds rule.return_type_rule trees from_clause
     → Finds where_clause from_clause from_body → Finds body_end from_body rest
     → Finds returning trees rest
 end_finds trees from_clause from_body rest r w b =
-    then_finds rule.returned clause_end trees from_clause rest r
+    then_finds rule.return_type_rule clause_end trees from_clause rest r
     (then_finds where_clause body_end from_clause from_body rest w b)
 
-pub return_sticks : (trees left : List TokenTree) → Sticks rule.returned trees left → Sticks returning trees left
-return_sticks trees left r = then_sticks rule.returned clause_end trees left r
+pub return_sticks : (trees left : List TokenTree) → Sticks rule.return_type_rule trees left
+    → Sticks returning trees left
+return_sticks trees left r = then_sticks rule.return_type_rule clause_end trees left r
 
-pub clause_sticks : (trees from_clause left : List TokenTree) → Finds rule.returned trees from_clause
+pub clause_sticks : (trees from_clause left : List TokenTree) → Finds rule.return_type_rule trees from_clause
     → Sticks where_clause from_clause left
     → Sticks returning trees left
 clause_sticks trees from_clause left r w =
-    then_fails rule.returned clause_end trees from_clause left r (then_sticks where_clause body_end from_clause left w)
+    then_fails rule.return_type_rule clause_end trees from_clause left r
+    (then_sticks where_clause body_end from_clause left w)
 
-pub end_sticks : (trees from_clause from_body left : List TokenTree) → Finds rule.returned trees from_clause
+pub end_sticks : (trees from_clause from_body left : List TokenTree) → Finds rule.return_type_rule trees from_clause
     → Finds where_clause from_clause from_body → Sticks body_end from_body left
     → Sticks returning trees left
 end_sticks trees from_clause from_body left r w b =
-    then_fails rule.returned clause_end trees from_clause left r
+    then_fails rule.return_type_rule clause_end trees from_clause left r
     (then_fails where_clause body_end from_clause from_body left w b)
 
 pub end_has : (trees from_clause from_body rest returned clause : List TokenTree) (body : Option (Bor Grouped))

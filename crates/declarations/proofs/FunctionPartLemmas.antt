@@ -22,14 +22,14 @@ use Rattle.declarations.specs.Reader.{Finds, ReadsRule, Sticks, classes_in}
 use Rattle.declarations.specs.Reading.{StopsAt}
 use Rattle.declarations.specs.Signs as signs_in
 use Rattle.declarations.specs.Signs.{BeginsWith, group_class, is_restriction, name_class, parentheses_class}
-use Rattle.declarations.specs.declared.class.Class.{Class}
-use Rattle.declarations.specs.declared.class.Class.TheVariants as signs
+use Rattle.declarations.specs.declared.class.SignClass.{SignClass}
+use Rattle.declarations.specs.declared.class.SignClass.TheVariants as signs
 use Rattle.declarations.specs.declared.class.Keyword.TheVariants as keywords
 use Rattle.declarations.specs.declared.class.Word.TheVariants as words
-use Rattle.declarations.specs.declared.place.Part.TheVariants as parts
-use Rattle.declarations.specs.declared.place.Rule.TheVariants as places
-use Rattle.declarations.specs.declared.place.Spot.TheVariants as spots
-use Rattle.declarations.specs.declared.place.State.TheVariants as states
+use Rattle.declarations.specs.declared.walk_state.Part.TheVariants as parts
+use Rattle.declarations.specs.declared.walk_state.Continuation.TheVariants as places
+use Rattle.declarations.specs.declared.walk_state.Spot.TheVariants as spots
+use Rattle.declarations.specs.declared.walk_state.State.TheVariants as states
 use Rattle.declarations.specs.rules.Bodies.{body_end, braces, semicolon}
 use Rattle.declarations.specs.rules.Classes.{is, is_round, is_word}
 use Rattle.declarations.specs.rules.Fronts.{is_safe}
@@ -47,7 +47,7 @@ use Rattle.declarations.proofs.ReaderLemmas.{sign_ends, sign_finds, sign_sticks}
 use Rattle.declarations.proofs.ReaderLemmas.{then_fails, then_finds}
 use Rattle.declarations.proofs.RuleFormLemmas.{found_reads}
 use Rattle.declarations.proofs.RuleLemmas.{starts}
-use Rattle.declarations.proofs.SortLemmas.{grouped, groups, named, names, sort_of, unseen}
+use Rattle.declarations.proofs.SortLemmas.{is_group_sign, groups, is_identifier_sign, names, sort_of, unseen}
 use Rattle.declarations.proofs.TableReaderLemmas.{table_reads}
 
 -- ---- where a reading begins
@@ -80,20 +80,22 @@ where_reads = table_reads (start places.Alone (states.At spots.Where)) where_cla
 
 -- ---- qualifiers
 
-pub may_find : (passes : Class → Bool) (trees rest : List TokenTree) (class : Class) → BeginsWith trees class rest
+pub may_find : (passes : SignClass → Bool) (trees rest : List TokenTree) (class : SignClass)
+    → BeginsWith trees class rest
     → passes class ≡ true
     → Finds (perhaps (Sign passes)) trees rest
 may_find passes trees rest class b h =
     first_finds (Sign passes) Nothing trees rest (heads_sign (Sign passes) trees rest class b ∙ h)
     (sign_finds passes trees rest class b h)
 
-pub may_stay : (passes : Class → Bool) (trees rest : List TokenTree) (class : Class) → BeginsWith trees class rest
+pub may_stay : (passes : SignClass → Bool) (trees rest : List TokenTree) (class : SignClass)
+    → BeginsWith trees class rest
     → passes class ≡ false
     → Finds (perhaps (Sign passes)) trees trees
 may_stay passes trees rest class b h =
     perhaps_stays (Sign passes) trees (heads_sign (Sign passes) trees rest class b ∙ h)
 
-pub may_end : (passes : Class → Bool) (trees : List TokenTree) → trees ≡ []
+pub may_end : (passes : SignClass → Bool) (trees : List TokenTree) → trees ≡ []
     → Finds (perhaps (Sign passes)) trees trees
 may_end passes trees e = perhaps_stays (Sign passes) trees (heads_none (Sign passes) trees e)
 
@@ -101,10 +103,10 @@ or_nothing : (x y : Bool) → (x || false && y) ≡ x
 or_nothing true y = refl
 or_nothing false y = refl
 
-abi_first : (c : Class) → may_begin rule.abi c ≡ is (signs.Keyword keywords.Extern) c
+abi_first : (c : SignClass) → may_begin rule.abi c ≡ is (signs.Keyword keywords.Extern) c
 abi_first c = or_nothing (is (signs.Keyword keywords.Extern) c) (may_begin (perhaps (one signs.Literal)) c)
 
-pub abi_finds : (trees mid rest : List TokenTree) (class : Class) → BeginsWith trees class mid
+pub abi_finds : (trees mid rest : List TokenTree) (class : SignClass) → BeginsWith trees class mid
     → is (signs.Keyword keywords.Extern) class ≡ true → Finds (perhaps (one signs.Literal)) mid rest
     → Finds (perhaps rule.abi) trees rest
 abi_finds trees mid rest class b h f =
@@ -112,7 +114,7 @@ abi_finds trees mid rest class b h f =
     (then_finds (key keywords.Extern) (perhaps (one signs.Literal)) trees mid rest
     (sign_finds (is (signs.Keyword keywords.Extern)) trees mid class b h) f)
 
-pub abi_stays : (trees rest : List TokenTree) (class : Class) → BeginsWith trees class rest
+pub abi_stays : (trees rest : List TokenTree) (class : SignClass) → BeginsWith trees class rest
     → is (signs.Keyword keywords.Extern) class ≡ false
     → Finds (perhaps rule.abi) trees trees
 abi_stays trees rest class b h =
@@ -135,7 +137,7 @@ qualifiers_find trees a b c d rest default const async safe abi =
 -- ---- trees that are one sign
 
 -- the first sign passes no test that only other trees pass
-pub no_sign : (passes : Class → Bool) (trees : List TokenTree)
+pub no_sign : (passes : SignClass → Bool) (trees : List TokenTree)
     → ((sign : signs_in.Sign) (after : List signs_in.Sign) → signs_in.signs trees ≡ sign ∷ after
     → passes sign.class ≡ true → ⊥)
     → heads {N = RuleName} {L = Label} (Sign passes) (classes_in trees) ≡ false
@@ -178,27 +180,27 @@ begins_name trees rest n whole = record {
 
 -- ---- names
 
-is_name : (c : Class) → is_word c ≡ true → IsNameClass c
+is_name : (c : SignClass) → is_word c ≡ true → IsNameClass c
 is_name (signs.Word w) h = tt
 is_name (signs.Keyword k) h = absurd (both_ways _ refl h)
 is_name _ h = absurd (both_ways _ refl h)
 
-is_name_word : (c : Class) → IsNameClass c → is_word c ≡ true
+is_name_word : (c : SignClass) → IsNameClass c → is_word c ≡ true
 is_name_word (signs.Word w) h = refl
 is_name_word c h = absurd h
 
-word_sort : (c : Class) → is_word c ≡ true → sort_of c ≡ names
+word_sort : (c : SignClass) → is_word c ≡ true → sort_of c ≡ names
 word_sort (signs.Word w) h = refl
 word_sort (signs.Keyword k) h = absurd (both_ways _ refl h)
 word_sort _ h = absurd (both_ways _ refl h)
 
-pub name_at : (trees rest : List TokenTree) (n : Name) (class : Class) (b : Bool) → trees ≡ Ident n ∷ rest
+pub name_at : (trees rest : List TokenTree) (n : Name) (class : SignClass) (b : Bool) → trees ≡ Ident n ∷ rest
     → class ≡ name_class n → b ≡ is_word class → b ≡ true
     → IsNameAt trees n rest
 name_at trees rest n class b whole named is h =
     record { whole = whole; is_name = is_name (name_class n) (ap is_word (sym named) ∙ (sym is ∙ h)) }
 
-pub no_name : (trees rest : List TokenTree) (n : Name) (class : Class) (b : Bool) → trees ≡ Ident n ∷ rest
+pub no_name : (trees rest : List TokenTree) (n : Name) (class : SignClass) (b : Bool) → trees ≡ Ident n ∷ rest
     → class ≡ name_class n → b ≡ is_word class → b ≡ false
     → Sticks word trees trees
 no_name trees rest n class b whole named is h =
@@ -210,7 +212,8 @@ pub no_ident : (trees : List TokenTree) → ((n : Name) (rest : List TokenTree) 
 no_ident trees none =
     lacks word trees
     (no_sign is_word trees
-    (λ sign after e h. let at = named trees sign after e (word_sort sign.class h) in none at.0 at.1.more at.1.whole))
+    (λ sign after e h. let at = is_identifier_sign trees sign after e (word_sort sign.class h) in none at.0 at.1.more
+    at.1.whole))
     refl
 
 pub name_finds : (trees rest : List TokenTree) (n : Name) → IsNameAt trees n rest → Finds word trees rest
@@ -222,7 +225,7 @@ pub ruleset names_of = (name_at, no_name, no_ident)
 
 -- ---- parentheses
 
-round_sort : (c : Class) → is_round c ≡ true → sort_of c ≡ groups
+round_sort : (c : SignClass) → is_round c ≡ true → sort_of c ≡ groups
 round_sort signs.Parentheses h = refl
 round_sort signs.Restriction h = refl
 round_sort (signs.Word w) h = absurd (both_ways _ refl h)
@@ -252,7 +255,7 @@ no_parentheses trees none =
     lacks (Sign is_round) trees
     (no_sign is_round trees
     (λ sign after e h.
-    let at = grouped trees sign after e (round_sort sign.class h) in
+    let at = is_group_sign trees sign after e (round_sort sign.class h) in
     let class : sign.class ≡ group_class at.0.delimiter at.0.stream = ap (λ s. s.class) at.1.is in
     none at.0 at.1.more at.1.whole (round_delimiter at.0.delimiter at.0.stream (ap is_round (sym class) ∙ h))))
     refl
@@ -267,26 +270,26 @@ pub ruleset parentheses = (are_parentheses, no_parentheses)
 
 -- ---- return types
 
-begins_as : (trees rest : List TokenTree) (x class : Class) → BeginsWith trees class rest → is x class ≡ true
+begins_as : (trees rest : List TokenTree) (x class : SignClass) → BeginsWith trees class rest → is x class ≡ true
     → BeginsWith trees x rest
 begins_as trees rest x class b h = subst (λ c. BeginsWith trees c rest) (same_class x class h) b
 
-arrow_first : (c : Class) → may_begin rule.with_arrow c ≡ is signs.Arrow c
+arrow_first : (c : SignClass) → may_begin rule.with_arrow c ≡ is signs.Arrow c
 arrow_first c = or_nothing (is signs.Arrow c) (may_begin (Then (Mark Returns) type) c)
 
-module _ (trees from_type : List TokenTree) (class : Class) (b : BeginsWith trees class from_type)
+module _ (trees from_type : List TokenTree) (class : SignClass) (b : BeginsWith trees class from_type)
     (h : is signs.Arrow class ≡ true) where
   arrow_heads : heads rule.with_arrow (classes_in trees) ≡ true
   arrow_heads = heads_sign rule.with_arrow trees from_type class b ∙ (arrow_first class ∙ h)
 
-  pub arrow_finds : (rest : List TokenTree) → Finds type from_type rest → Finds rule.returned trees rest
+  pub arrow_finds : (rest : List TokenTree) → Finds type from_type rest → Finds rule.return_type_rule trees rest
   arrow_finds rest f =
       first_finds rule.with_arrow Nothing trees rest arrow_heads
       (mark_finds Rest _ trees rest
       (then_finds (one signs.Arrow) _ trees from_type rest (sign_finds (is signs.Arrow) trees from_type class b h)
       (mark_finds Returns type from_type rest f)))
 
-  pub arrow_sticks : (left : List TokenTree) → Sticks type from_type left → Sticks rule.returned trees left
+  pub arrow_sticks : (left : List TokenTree) → Sticks type from_type left → Sticks rule.return_type_rule trees left
   arrow_sticks left f =
       first_sticks rule.with_arrow Nothing trees left arrow_heads
       (mark_sticks Rest _ trees left
@@ -302,13 +305,13 @@ module _ (trees from_type : List TokenTree) (class : Class) (b : BeginsWith tree
         type_read = found_reads type starts_type from_type returned rest f whole;
       })
 
-pub no_arrow : (trees rest : List TokenTree) (class : Class) → BeginsWith trees class rest
+pub no_arrow : (trees rest : List TokenTree) (class : SignClass) → BeginsWith trees class rest
     → is signs.Arrow class ≡ false
-    → Finds rule.returned trees trees
+    → Finds rule.return_type_rule trees trees
 no_arrow trees rest class b h =
     perhaps_stays rule.with_arrow trees (heads_sign rule.with_arrow trees rest class b ∙ (arrow_first class ∙ h))
 
-pub no_arrow_left : (trees : List TokenTree) → trees ≡ [] → Finds rule.returned trees trees
+pub no_arrow_left : (trees : List TokenTree) → trees ≡ [] → Finds rule.return_type_rule trees trees
 no_arrow_left trees e = perhaps_stays rule.with_arrow trees (heads_none rule.with_arrow trees e)
 
 pub no_return : (trees returned : List TokenTree) → returned ≡ [] → HasReturn trees returned trees
@@ -318,7 +321,7 @@ pub ruleset returns = (arrow_finds, arrow_sticks, arrow_has, no_arrow, no_arrow_
 
 -- ---- bodies
 
-brace_sort : (c : Class) → is signs.Braces c ≡ true → sort_of c ≡ groups
+brace_sort : (c : SignClass) → is signs.Braces c ≡ true → sort_of c ≡ groups
 brace_sort c h = ap sort_of (same_class signs.Braces c h)
 
 brace_delimiter : (d : Delimiter) (f : Forest) → is signs.Braces (group_class d f) ≡ true → d ≡ delimiters.Brace
@@ -333,7 +336,7 @@ brace_delimiter delimiters.Parenthesis f h = absurd (both_ways _ (round f) h)
         elim (is_restriction f) as (λ b. is signs.Braces (parentheses_class b) ≡ false)
         [ true ↦ refl | false ↦ refl ]
 
-braces_heads : (cs : List Class) → heads braces cs ≡ heads (one signs.Braces) cs
+braces_heads : (cs : List SignClass) → heads braces cs ≡ heads (one signs.Braces) cs
 braces_heads [] = refl
 braces_heads (c ∷ cs) = refl
 
@@ -357,19 +360,19 @@ module _ (trees : List TokenTree)
       braces_heads (classes_in trees)
       ∙ no_sign (is signs.Braces) trees
       (λ sign after e h.
-      let at = grouped trees sign after e (brace_sort sign.class h) in
+      let at = is_group_sign trees sign after e (brace_sort sign.class h) in
       let class : sign.class ≡ group_class at.0.delimiter at.0.stream = ap (λ s. s.class) at.1.is in
       none at.0 at.1.more at.1.whole
       (brace_delimiter at.0.delimiter at.0.stream (ap (is signs.Braces) (sym class) ∙ h)))
 
-  pub semicolon_finds : (rest : List TokenTree) (class : Class) → BeginsWith trees class rest
+  pub semicolon_finds : (rest : List TokenTree) (class : SignClass) → BeginsWith trees class rest
       → is signs.Semicolon class ≡ true
       → Finds body_end trees rest
   semicolon_finds rest class b h =
       other_finds braces semicolon trees rest no_braces refl
       (mark_finds Rest (one signs.Semicolon) trees rest (sign_finds (is signs.Semicolon) trees rest class b h))
 
-  pub body_sticks : (rest : List TokenTree) (class : Class) → BeginsWith trees class rest
+  pub body_sticks : (rest : List TokenTree) (class : SignClass) → BeginsWith trees class rest
       → is signs.Semicolon class ≡ false
       → Sticks body_end trees trees
   body_sticks rest class b h =
@@ -381,7 +384,7 @@ module _ (trees : List TokenTree)
       other_sticks braces semicolon trees trees no_braces refl
       (mark_sticks Rest (one signs.Semicolon) trees trees (sign_ends (is signs.Semicolon) trees e))
 
-pub semicolon_has : (trees rest : List TokenTree) (class : Class) → BeginsWith trees class rest
+pub semicolon_has : (trees rest : List TokenTree) (class : SignClass) → BeginsWith trees class rest
     → is signs.Semicolon class ≡ true
     → BeginsWith trees signs.Semicolon rest
 semicolon_has trees rest class b h = begins_as trees rest signs.Semicolon class b h

@@ -20,13 +20,13 @@ use Rattle.declarations.specs.GenericArgument.{HasAfter, HasArgument, HasConstra
 use Rattle.declarations.specs.Reader.{Finds, ReadsRule, Sticks, classes_in}
 use Rattle.declarations.specs.Reading.{FaultAt, Reads, StopsAt}
 use Rattle.declarations.specs.Signs.{BeginsWith, trees_of}
-use Rattle.declarations.specs.declared.class.Class.{Class}
-use Rattle.declarations.specs.declared.class.Class.TheVariants as signs
+use Rattle.declarations.specs.declared.class.SignClass.{SignClass}
+use Rattle.declarations.specs.declared.class.SignClass.TheVariants as signs
 use Rattle.declarations.specs.declared.generic_argument.ArgumentKind.{ArgumentKind}
 use Rattle.declarations.specs.declared.generic_argument.ArgumentKind.TheVariants as kinds
 use Rattle.declarations.specs.declared.generic_argument.GenericArgument.{GenericArgument}
-use Rattle.declarations.specs.declared.place.Rule.TheVariants as places
-use Rattle.declarations.specs.declared.place.State.TheVariants as states
+use Rattle.declarations.specs.declared.walk_state.Continuation.TheVariants as places
+use Rattle.declarations.specs.declared.walk_state.State.TheVariants as states
 use Rattle.declarations.specs.declared.types.TypeState.TheVariants as types
 use Rattle.declarations.specs.rules.Classes.{is, is_word}
 use Rattle.declarations.specs.rules.Names.{Bounds, G, Named, OfType, Outside, Rest, Value, one}
@@ -80,7 +80,7 @@ same_sticks : (g h : G) (trees left : List TokenTree)
 same_sticks g h trees left e f = record { stuck = e ∙ f.stuck; remains = f.remains }
 
 -- a sign that passes the test of a class has this class
-begins_as : (trees rest : List TokenTree) (x class : Class) → BeginsWith trees class rest → is x class ≡ true
+begins_as : (trees rest : List TokenTree) (x class : SignClass) → BeginsWith trees class rest → is x class ≡ true
     → BeginsWith trees x rest
 begins_as trees rest x class b h = subst (λ c. BeginsWith trees c rest) (same_class x class h) b
 
@@ -91,10 +91,10 @@ or_nothing false y = refl
 -- ---- what follows a type that begins with a word
 
 -- `=` and a type, or `:` and bounds
-abbrev marked : G
-marked = Either rule.assigned rule.bounded
+abbrev equals_or_colon : G
+equals_or_colon = Either rule.assignment rule.colon_bounds
 
-module _ (trees from_end : List TokenTree) (class : Class) (b : BeginsWith trees class from_end) where
+module _ (trees from_end : List TokenTree) (class : SignClass) (b : BeginsWith trees class from_end) where
   module _ (h : is signs.Equals class ≡ true) where
     at_equals : BeginsWith trees signs.Equals from_end
     at_equals = begins_as trees from_end signs.Equals class b h
@@ -104,8 +104,8 @@ module _ (trees from_end : List TokenTree) (class : Class) (b : BeginsWith trees
 
     pub binding_finds : (rest : List TokenTree) → Finds type from_end rest → Finds rule.constraint trees rest
     binding_finds rest f =
-        first_finds marked Nothing trees rest (equals_heads marked refl)
-        (first_finds rule.assigned rule.bounded trees rest (equals_heads rule.assigned refl)
+        first_finds equals_or_colon Nothing trees rest (equals_heads equals_or_colon refl)
+        (first_finds rule.assignment rule.colon_bounds trees rest (equals_heads rule.assignment refl)
         (mark_finds Rest _ trees rest
         (then_finds (one signs.Equals) _ trees from_end rest
         (sign_finds (is signs.Equals) trees from_end signs.Equals at_equals refl)
@@ -113,8 +113,8 @@ module _ (trees from_end : List TokenTree) (class : Class) (b : BeginsWith trees
 
     pub binding_sticks : (left : List TokenTree) → Sticks type from_end left → Sticks rule.constraint trees left
     binding_sticks left f =
-        first_sticks marked Nothing trees left (equals_heads marked refl)
-        (first_sticks rule.assigned rule.bounded trees left (equals_heads rule.assigned refl)
+        first_sticks equals_or_colon Nothing trees left (equals_heads equals_or_colon refl)
+        (first_sticks rule.assignment rule.colon_bounds trees left (equals_heads rule.assignment refl)
         (mark_sticks Rest _ trees left
         (then_fails (one signs.Equals) _ trees from_end left
         (sign_finds (is signs.Equals) trees from_end signs.Equals at_equals refl)
@@ -137,8 +137,8 @@ module _ (trees from_end : List TokenTree) (class : Class) (b : BeginsWith trees
 
     pub bounds_find : (rest : List TokenTree) → Finds bounds from_end rest → Finds rule.constraint trees rest
     bounds_find rest f =
-        first_finds marked Nothing trees rest (colon_heads marked true refl)
-        (other_finds rule.assigned rule.bounded trees rest (colon_heads rule.assigned false refl) refl
+        first_finds equals_or_colon Nothing trees rest (colon_heads equals_or_colon true refl)
+        (other_finds rule.assignment rule.colon_bounds trees rest (colon_heads rule.assignment false refl) refl
         (mark_finds Rest _ trees rest
         (then_finds (one signs.Colon) _ trees from_end rest
         (sign_finds (is signs.Colon) trees from_end signs.Colon at_colon refl)
@@ -146,8 +146,8 @@ module _ (trees from_end : List TokenTree) (class : Class) (b : BeginsWith trees
 
     pub bounds_stick : (left : List TokenTree) → Sticks bounds from_end left → Sticks rule.constraint trees left
     bounds_stick left f =
-        first_sticks marked Nothing trees left (colon_heads marked true refl)
-        (other_sticks rule.assigned rule.bounded trees left (colon_heads rule.assigned false refl) refl
+        first_sticks equals_or_colon Nothing trees left (colon_heads equals_or_colon true refl)
+        (other_sticks rule.assignment rule.colon_bounds trees left (colon_heads rule.assignment false refl) refl
         (mark_sticks Rest _ trees left
         (then_fails (one signs.Colon) _ trees from_end left
         (sign_finds (is signs.Colon) trees from_end signs.Colon at_colon refl)
@@ -163,14 +163,14 @@ module _ (trees from_end : List TokenTree) (class : Class) (b : BeginsWith trees
 
   pub unmarked : is signs.Equals class ≡ false → is signs.Colon class ≡ false → Finds rule.constraint trees trees
   unmarked h j =
-      perhaps_stays marked trees
-      (heads_sign marked trees from_end class b ∙ go (is signs.Equals class) (is signs.Colon class) h j)
+      perhaps_stays equals_or_colon trees
+      (heads_sign equals_or_colon trees from_end class b ∙ go (is signs.Equals class) (is signs.Colon class) h j)
     where
       go : (x y : Bool) → x ≡ false → y ≡ false → ((x || false) || (y || false)) ≡ false
       go x y e f = rw (e, f) refl
 
 pub unmarked_end : (trees : List TokenTree) → trees ≡ [] → Finds rule.constraint trees trees
-unmarked_end trees e = perhaps_stays marked trees (heads_none marked trees e)
+unmarked_end trees e = perhaps_stays equals_or_colon trees (heads_none equals_or_colon trees e)
 
 pub ruleset constraints = (
   binding_finds,
@@ -186,10 +186,10 @@ pub ruleset constraints = (
 -- ---- arguments that begin with a word
 
 -- a type that begins with a word begins as the rule of such types does
-word_step : (c : Class) → is_word c ≡ true → step rules (rule.word_type ∷ []) c ≡ step rules (type ∷ []) c
+word_step : (c : SignClass) → is_word c ≡ true → step rules (rule.word_type ∷ []) c ≡ step rules (type ∷ []) c
 word_step c h = rw h refl
 
-word_find : (cs : List Class) → heads rule.word_type cs ≡ true → find rules rule.word_type cs ≡ find rules type cs
+word_find : (cs : List SignClass) → heads rule.word_type cs ≡ true → find rules rule.word_type cs ≡ find rules type cs
 unfolding find
 word_find [] h = absurd (both_ways _ refl h)
 word_find (c ∷ cs) h =
@@ -267,22 +267,22 @@ abbrev a_constant : G
 a_constant = Then (Mark Value) rule.constant
 
 -- a type, perhaps with a constraint
-abbrev typed : G
-typed = Either rule.word_argument (other_operand Outside)
+abbrev word_or_type : G
+word_or_type = Either rule.word_argument (other_operand Outside)
 
 -- where no word and no lifetime is, a type begins as in an argument
-typed_step : (c : Class) → is_word c ≡ false → is signs.Lifetime c ≡ false
-    → step rules (typed ∷ []) c ≡ step rules (type ∷ []) c
+typed_step : (c : SignClass) → is_word c ≡ false → is signs.Lifetime c ≡ false
+    → step rules (word_or_type ∷ []) c ≡ step rules (type ∷ []) c
 typed_step c h j = rw (h, j) refl
 
-typed_find : (c : Class) (cs : List Class) → is_word c ≡ false → is signs.Lifetime c ≡ false
-    → find rules typed (c ∷ cs) ≡ find rules type (c ∷ cs)
+typed_find : (c : SignClass) (cs : List SignClass) → is_word c ≡ false → is signs.Lifetime c ≡ false
+    → find rules word_or_type (c ∷ cs) ≡ find rules type (c ∷ cs)
 unfolding find
 typed_find c cs h j =
-    scan_step rules (typed ∷ []) c cs (step rules (type ∷ []) c) (typed_step c h j)
+    scan_step rules (word_or_type ∷ []) c cs (step rules (type ∷ []) c) (typed_step c h j)
     ∙ sym (scan_step rules (type ∷ []) c cs (step rules (type ∷ []) c) refl)
 
-module _ (trees after : List TokenTree) (class : Class) (b : BeginsWith trees class after)
+module _ (trees after : List TokenTree) (class : SignClass) (b : BeginsWith trees class after)
     (result : Result (GenericArgument × Bor (List TokenTree)) (Bor (List TokenTree))) where
   pub lifetime_kind : is signs.Lifetime class ≡ true → ReadsArgument (one signs.Lifetime) trees result
       → ReadsArgument rule.generic_argument trees result
@@ -318,17 +318,17 @@ module _ (trees after : List TokenTree) (class : Class) (b : BeginsWith trees cl
       not_constant : heads a_constant (classes_in trees) ≡ false
       not_constant = heads_sign a_constant trees after class b ∙ no_constant
 
-      typed_kind : ReadsArgument typed trees result → ReadsArgument rule.generic_argument trees result
+      typed_kind : ReadsArgument word_or_type trees result → ReadsArgument rule.generic_argument trees result
       typed_kind =
-          lift rule.generic_argument typed trees result
+          lift rule.generic_argument word_or_type trees result
           (λ rest f.
           other_finds a_lifetime (Either a_constant rule.type_argument) trees rest none refl
           (other_finds a_constant rule.type_argument trees rest not_constant refl
-          (mark_finds OfType typed trees rest f)))
+          (mark_finds OfType word_or_type trees rest f)))
           (λ left f.
           other_sticks a_lifetime (Either a_constant rule.type_argument) trees left none refl
           (other_sticks a_constant rule.type_argument trees left not_constant refl
-          (mark_sticks OfType typed trees left f)))
+          (mark_sticks OfType word_or_type trees left f)))
 
       pub word_kind : is_word class ≡ true → ReadsArgument rule.word_argument trees result
           → ReadsArgument rule.generic_argument trees result
@@ -337,20 +337,20 @@ module _ (trees after : List TokenTree) (class : Class) (b : BeginsWith trees cl
           heads_sign rule.word_argument trees after class b
           ∙ (or_nothing (is_word class) (may_begin rule.constraint class) ∙ h) in
           typed_kind
-          (lift typed rule.word_argument trees result
+          (lift word_or_type rule.word_argument trees result
           (λ rest f. first_finds rule.word_argument (other_operand Outside) trees rest begins f)
           (λ left f. first_sticks rule.word_argument (other_operand Outside) trees left begins f) r)
 
       pub plain_kind : is_word class ≡ false → ReadsArgument type trees result
           → ReadsArgument rule.generic_argument trees result
       plain_kind h r =
-          let same : find rules typed (classes_in trees) ≡ find rules type (classes_in trees) =
-          ap (find rules typed) (classes_sign trees after class b)
+          let same : find rules word_or_type (classes_in trees) ≡ find rules type (classes_in trees) =
+          ap (find rules word_or_type) (classes_sign trees after class b)
           ∙ (typed_find class (classes_in after) h no_lifetime
           ∙ ap (find rules type) (sym (classes_sign trees after class b))) in
           typed_kind
-          (lift typed type trees result (λ rest f. same_finds typed type trees rest same f)
-          (λ left f. same_sticks typed type trees left same f) r)
+          (lift word_or_type type trees result (λ rest f. same_finds word_or_type type trees rest same f)
+          (λ left f. same_sticks word_or_type type trees left same f) r)
 
 pub no_kind : (trees : List TokenTree)
     (result : Result (GenericArgument × Bor (List TokenTree)) (Bor (List TokenTree))) → trees ≡ []
@@ -364,7 +364,7 @@ no_kind trees result e =
     (λ rest f. same_finds rule.generic_argument type trees rest same f)
     (λ left f. same_sticks rule.generic_argument type trees left same f)
 
-pub begins_word : (trees rest : List TokenTree) (class : Class) (b : Bool) → BeginsWith trees class rest
+pub begins_word : (trees rest : List TokenTree) (class : SignClass) (b : Bool) → BeginsWith trees class rest
     → b ≡ is_word class → b ≡ true
     → heads rule.word_type (classes_in trees) ≡ true
 begins_word trees rest class b at e h = heads_sign rule.word_type trees rest class at ∙ (sym e ∙ h)

@@ -8,13 +8,13 @@ use Rattle.grammars.specs.Machine.{is_nullable, step}
 use Rattle.grammars.proofs.FindLemmas.{scan_step}
 use Rattle.declarations.specs.Impl.{begins_generics, begins_parameter, ends_parameter, goes_on_parameter, may_for}
 use Rattle.declarations.specs.Found.{bare, finds}
-use Rattle.declarations.specs.declared.class.Class.{Class}
-use Rattle.declarations.specs.declared.class.Class.TheVariants as signs
+use Rattle.declarations.specs.declared.class.SignClass.{SignClass}
+use Rattle.declarations.specs.declared.class.SignClass.TheVariants as signs
 use Rattle.declarations.specs.declared.class.Keyword.TheVariants as keywords
 use Rattle.declarations.specs.declared.class.Word.{Word}
 use Rattle.declarations.specs.declared.class.Word.TheVariants as words
 use Rattle.declarations.specs.declared.types.TypeState.TheVariants as types
-use Rattle.declarations.specs.rules.Bodies.{braced}
+use Rattle.declarations.specs.rules.Bodies.{where_and_body}
 use Rattle.declarations.specs.rules.Classes.{is, is_word, keyword, opens}
 use Rattle.declarations.specs.rules.Impls.{angle_target, const_target, impl_angle, impl_front, impl_word}
 use Rattle.declarations.specs.rules.Impls.{more_parameters, negative, target, target_but}
@@ -37,24 +37,26 @@ or_nothing true y = refl
 or_nothing false y = refl
 
 -- what is found after the same front is the same, if what comes after it is
-bind_same : (x : Found Class Label) (f g : List Class → Found Class Label) → ((r : List Class) → f r ≡ g r)
+bind_same : (x : Found SignClass Label) (f g : List SignClass → Found SignClass Label)
+    → ((r : List SignClass) → f r ≡ g r)
     → bind x f ≡ bind x g
 bind_same (Past e r) f g h = h r
 bind_same (Stuck l) f g h = refl
 
 -- a sign, and what comes after it
-finds_one : (passes : Class → Bool) (g : G) (c : Class) (cs : List Class) → passes c ≡ true
+finds_one : (passes : SignClass → Bool) (g : G) (c : SignClass) (cs : List SignClass) → passes c ≡ true
     → finds (Then (Sign passes) g) (c ∷ cs) ≡ finds g cs
 finds_one passes g c cs h =
     finds_then (Sign passes) g (c ∷ cs) ∙ ap (λ x. bind x (finds g)) (finds_sign passes c cs h)
 
 -- a part that is not there, and what comes after it
-pub finds_past : (a b : G) (cs : List Class) → heads a cs ≡ false → is_nullable a ≡ true
+pub finds_past : (a b : G) (cs : List SignClass) → heads a cs ≡ false → is_nullable a ≡ true
     → finds (Then a b) cs ≡ finds b cs
 finds_past a b cs h e = finds_then a b cs ∙ ap (λ x. bind x (finds b)) (finds_skips a cs h e)
 
 -- three parts can be read as two
-pub finds_three : (a b d : G) (cs : List Class) → finds (Then a (Then b d)) cs ≡ bind (finds (Then a b) cs) (finds d)
+pub finds_three : (a b d : G) (cs : List SignClass)
+    → finds (Then a (Then b d)) cs ≡ bind (finds (Then a b) cs) (finds d)
 finds_three a b d cs =
     finds_then a (Then b d) cs
     ∙ (bind_same (finds a cs) (finds (Then b d)) (λ r. bind (finds b r) (finds d)) (λ r. finds_then b d r)
@@ -64,18 +66,19 @@ finds_three a b d cs =
 -- ---- a type or two, a where clause and a body
 
 -- a type, perhaps `for` and another type, a where clause and a body
-abbrev pub typed : G
-typed = Then (range types.Wanted Target) braced
+abbrev pub impl_type : G
+impl_type = Then (range types.Wanted Target) where_and_body
 
 -- the same, with the types by their own rule
 abbrev pub split_typed : G
-split_typed = Then type (Then may_for braced)
+split_typed = Then type (Then may_for where_and_body)
 
-pub typed_same : (cs : List Class) → finds typed cs ≡ finds split_typed cs
+pub typed_same : (cs : List SignClass) → finds impl_type cs ≡ finds split_typed cs
 typed_same cs =
-    finds_then (range types.Wanted Target) braced cs
-    ∙ (ap (λ x. bind x (finds braced)) (splits types.Wanted cs)
-    ∙ (ap (λ x. bind x (finds braced)) (sym (finds_then type may_for cs)) ∙ sym (finds_three type may_for braced cs)))
+    finds_then (range types.Wanted Target) where_and_body cs
+    ∙ (ap (λ x. bind x (finds where_and_body)) (splits types.Wanted cs)
+    ∙ (ap (λ x. bind x (finds where_and_body)) (sym (finds_then type may_for cs))
+    ∙ sym (finds_three type may_for where_and_body cs)))
 
 -- ---- what comes after the generic parameters
 
@@ -83,11 +86,11 @@ typed_same cs =
 abbrev but_not : Bool → G
 but_not angles = Either (named_operand Target) (operand_but (is signs.Exclamation) angles Target)
 
-but_step : (c : Class) → is signs.Exclamation c ≡ false
+but_step : (c : SignClass) → is signs.Exclamation c ≡ false
     → step rules (but_not true ∷ []) c ≡ step rules (range types.Wanted Target ∷ []) c
 but_step c h = rw h refl
 
-plain_step : (c : Class) → is signs.Exclamation c ≡ false → opens c ≡ false
+plain_step : (c : SignClass) → is signs.Exclamation c ≡ false → opens c ≡ false
     → step rules (but_not false ∷ []) c ≡ step rules (range types.Wanted Target ∷ []) c
 plain_step c h j = go (keyword keywords.For c) refl
   where
@@ -96,25 +99,25 @@ plain_step c h j = go (keyword keywords.For c) refl
     go true e = rw (h, j, e) refl
     go false e = rw (h, j, e) refl
 
-but_types : (c : Class) (cs : List Class) → is signs.Exclamation c ≡ false
-    → finds (target_but true) (c ∷ cs) ≡ finds typed (c ∷ cs)
+but_types : (c : SignClass) (cs : List SignClass) → is signs.Exclamation c ≡ false
+    → finds (target_but true) (c ∷ cs) ≡ finds impl_type (c ∷ cs)
 unfolding find
 but_types c cs h =
-    finds_then (but_not true) braced (c ∷ cs)
-    ∙ (ap (λ x. bind (bare x) (finds braced))
+    finds_then (but_not true) where_and_body (c ∷ cs)
+    ∙ (ap (λ x. bind (bare x) (finds where_and_body))
     (scan_step rules (but_not true ∷ []) c cs (step rules (range types.Wanted Target ∷ []) c) (but_step c h)
     ∙ sym (scan_step rules (range types.Wanted Target ∷ []) c cs (step rules (range types.Wanted Target ∷ []) c) refl))
-    ∙ sym (finds_then (range types.Wanted Target) braced (c ∷ cs)))
+    ∙ sym (finds_then (range types.Wanted Target) where_and_body (c ∷ cs)))
 
-plain_types : (c : Class) (cs : List Class) → is signs.Exclamation c ≡ false → opens c ≡ false
-    → finds (target_but false) (c ∷ cs) ≡ finds typed (c ∷ cs)
+plain_types : (c : SignClass) (cs : List SignClass) → is signs.Exclamation c ≡ false → opens c ≡ false
+    → finds (target_but false) (c ∷ cs) ≡ finds impl_type (c ∷ cs)
 unfolding find
 plain_types c cs h j =
-    finds_then (but_not false) braced (c ∷ cs)
-    ∙ (ap (λ x. bind (bare x) (finds braced))
+    finds_then (but_not false) where_and_body (c ∷ cs)
+    ∙ (ap (λ x. bind (bare x) (finds where_and_body))
     (scan_step rules (but_not false ∷ []) c cs (step rules (range types.Wanted Target ∷ []) c) (plain_step c h j)
     ∙ sym (scan_step rules (range types.Wanted Target ∷ []) c cs (step rules (range types.Wanted Target ∷ []) c) refl))
-    ∙ sym (finds_then (range types.Wanted Target) braced (c ∷ cs)))
+    ∙ sym (finds_then (range types.Wanted Target) where_and_body (c ∷ cs)))
 
 -- `const` and what follows it, and `!` and what follows it
 abbrev with_const : G
@@ -123,69 +126,69 @@ with_const = Then (key keywords.Const) const_target
 abbrev with_not : G
 with_not = Then (one signs.Exclamation) negative
 
-no_const : (c : Class) → is (signs.Keyword keywords.Const) c ≡ false → may_begin with_const c ≡ false
+no_const : (c : SignClass) → is (signs.Keyword keywords.Const) c ≡ false → may_begin with_const c ≡ false
 no_const c h = or_nothing (is (signs.Keyword keywords.Const) c) (may_begin const_target c) ∙ h
 
-no_not : (c : Class) → is signs.Exclamation c ≡ false → may_begin with_not c ≡ false
+no_not : (c : SignClass) → is signs.Exclamation c ≡ false → may_begin with_not c ≡ false
 no_not c h = or_nothing (is signs.Exclamation c) (may_begin negative c) ∙ h
 
 module _ (angles : Bool) where
-  pub target_const : (cs : List Class)
+  pub target_const : (cs : List SignClass)
       → finds (target angles) (signs.Keyword keywords.Const ∷ cs) ≡ finds const_target cs
   target_const cs =
       finds_first with_const (Either with_not (target_but angles)) (signs.Keyword keywords.Const ∷ cs) refl
       ∙ finds_one (is (signs.Keyword keywords.Const)) const_target (signs.Keyword keywords.Const) cs refl
 
-  pub target_not : (cs : List Class) → finds (target angles) (signs.Exclamation ∷ cs) ≡ finds negative cs
+  pub target_not : (cs : List SignClass) → finds (target angles) (signs.Exclamation ∷ cs) ≡ finds negative cs
   target_not cs =
       finds_other with_const (Either with_not (target_but angles)) (signs.Exclamation ∷ cs) refl refl
       ∙ (finds_first with_not (target_but angles) (signs.Exclamation ∷ cs) refl
       ∙ finds_one (is signs.Exclamation) negative signs.Exclamation cs refl)
 
-  target_rest : (c : Class) (cs : List Class) → is (signs.Keyword keywords.Const) c ≡ false
+  target_rest : (c : SignClass) (cs : List SignClass) → is (signs.Keyword keywords.Const) c ≡ false
       → is signs.Exclamation c ≡ false
       → finds (target angles) (c ∷ cs) ≡ finds (target_but angles) (c ∷ cs)
   target_rest c cs h j =
       finds_other with_const (Either with_not (target_but angles)) (c ∷ cs) (no_const c h) refl
       ∙ finds_other with_not (target_but angles) (c ∷ cs) (no_not c j) refl
 
-pub target_typed : (c : Class) (cs : List Class) → is (signs.Keyword keywords.Const) c ≡ false
+pub target_typed : (c : SignClass) (cs : List SignClass) → is (signs.Keyword keywords.Const) c ≡ false
     → is signs.Exclamation c ≡ false
-    → finds (target true) (c ∷ cs) ≡ finds typed (c ∷ cs)
+    → finds (target true) (c ∷ cs) ≡ finds impl_type (c ∷ cs)
 target_typed c cs h j = target_rest true c cs h j ∙ but_types c cs j
 
-pub target_plain : (c : Class) (cs : List Class) → is (signs.Keyword keywords.Const) c ≡ false
+pub target_plain : (c : SignClass) (cs : List SignClass) → is (signs.Keyword keywords.Const) c ≡ false
     → is signs.Exclamation c ≡ false → opens c ≡ false
-    → finds (target false) (c ∷ cs) ≡ finds typed (c ∷ cs)
+    → finds (target false) (c ∷ cs) ≡ finds impl_type (c ∷ cs)
 target_plain c cs h j o = target_rest false c cs h j ∙ plain_types c cs j o
 
-pub target_none : finds (target true) [] ≡ finds typed []
-target_none = finds_lacks (target true) [] refl refl ∙ sym (finds_lacks typed [] refl refl)
+pub target_none : finds (target true) [] ≡ finds impl_type []
+target_none = finds_lacks (target true) [] refl refl ∙ sym (finds_lacks impl_type [] refl refl)
 
-pub const_not : (cs : List Class) → finds const_target (signs.Exclamation ∷ cs) ≡ finds negative cs
+pub const_not : (cs : List SignClass) → finds const_target (signs.Exclamation ∷ cs) ≡ finds negative cs
 const_not cs =
     finds_first with_not (target_but true) (signs.Exclamation ∷ cs) refl
     ∙ finds_one (is signs.Exclamation) negative signs.Exclamation cs refl
 
-pub const_typed : (c : Class) (cs : List Class) → is signs.Exclamation c ≡ false
-    → finds const_target (c ∷ cs) ≡ finds typed (c ∷ cs)
+pub const_typed : (c : SignClass) (cs : List SignClass) → is signs.Exclamation c ≡ false
+    → finds const_target (c ∷ cs) ≡ finds impl_type (c ∷ cs)
 const_typed c cs h = finds_other with_not (target_but true) (c ∷ cs) (no_not c h) refl ∙ but_types c cs h
 
-pub const_none : finds const_target [] ≡ finds typed []
-const_none = finds_lacks const_target [] refl refl ∙ sym (finds_lacks typed [] refl refl)
+pub const_none : finds const_target [] ≡ finds impl_type []
+const_none = finds_lacks const_target [] refl refl ∙ sym (finds_lacks impl_type [] refl refl)
 
-pub negative_typed : (cs : List Class) → heads (range types.Wanted Target) cs ≡ true
-    → finds negative cs ≡ finds typed cs
+pub negative_typed : (cs : List SignClass) → heads (range types.Wanted Target) cs ≡ true
+    → finds negative cs ≡ finds impl_type cs
 negative_typed cs h =
-    finds_then (perhaps (range types.Wanted Target)) braced cs
-    ∙ (ap (λ x. bind x (finds braced)) (finds_first (range types.Wanted Target) Nothing cs h)
-    ∙ sym (finds_then (range types.Wanted Target) braced cs))
+    finds_then (perhaps (range types.Wanted Target)) where_and_body cs
+    ∙ (ap (λ x. bind x (finds where_and_body)) (finds_first (range types.Wanted Target) Nothing cs h)
+    ∙ sym (finds_then (range types.Wanted Target) where_and_body cs))
 
-pub negative_alone : (cs : List Class) → heads (range types.Wanted Target) cs ≡ false
-    → finds negative cs ≡ finds braced cs
-negative_alone cs h = finds_past (perhaps (range types.Wanted Target)) braced cs (none cs h) refl
+pub negative_alone : (cs : List SignClass) → heads (range types.Wanted Target) cs ≡ false
+    → finds negative cs ≡ finds where_and_body cs
+negative_alone cs h = finds_past (perhaps (range types.Wanted Target)) where_and_body cs (none cs h) refl
   where
-    none : (cs : List Class) → heads (range types.Wanted Target) cs ≡ false
+    none : (cs : List SignClass) → heads (range types.Wanted Target) cs ≡ false
         → heads (perhaps (range types.Wanted Target)) cs ≡ false
     none [] h = refl
     none (c ∷ cs) h = rw h refl
@@ -196,31 +199,32 @@ negative_alone cs h = finds_past (perhaps (range types.Wanted Target)) braced cs
 abbrev with_angle : G
 with_angle = Then (Sign opens) impl_angle
 
-angle_first : (c : Class) → may_begin with_angle c ≡ opens c
+angle_first : (c : SignClass) → may_begin with_angle c ≡ opens c
 angle_first c = or_nothing (opens c) (may_begin impl_angle c)
 
-pub front_angle : (c : Class) (cs : List Class) → opens c ≡ true → finds impl_front (c ∷ cs) ≡ finds impl_angle cs
+pub front_angle : (c : SignClass) (cs : List SignClass) → opens c ≡ true
+    → finds impl_front (c ∷ cs) ≡ finds impl_angle cs
 front_angle c cs h =
     finds_first with_angle (target false) (c ∷ cs) (angle_first c ∙ h) ∙ finds_one opens impl_angle c cs h
 
-pub front_plain : (c : Class) (cs : List Class) → opens c ≡ false
+pub front_plain : (c : SignClass) (cs : List SignClass) → opens c ≡ false
     → finds impl_front (c ∷ cs) ≡ finds (target false) (c ∷ cs)
 front_plain c cs h = finds_other with_angle (target false) (c ∷ cs) (angle_first c ∙ h) refl
 
-pub front_none : finds impl_front [] ≡ finds typed []
-front_none = finds_lacks impl_front [] refl refl ∙ sym (finds_lacks typed [] refl refl)
+pub front_none : finds impl_front [] ≡ finds impl_type []
+front_none = finds_lacks impl_front [] refl refl ∙ sym (finds_lacks impl_type [] refl refl)
 
 -- ---- generic parameters
 
 -- what comes after generic parameters
-abbrev rest : List Class → Found Class Label
+abbrev rest : List SignClass → Found SignClass Label
 rest = finds (target true)
 
 -- the end of generic parameters
 abbrev end_mark : G
 end_mark = Then (Mark Rest) (one signs.Greater)
 
-more_same : (cs : List Class)
+more_same : (cs : List SignClass)
     → finds more_parameters cs ≡ bind (bind (finds (further parameter comma) cs) (finds end_mark)) rest
 more_same cs =
     finds_then (further parameter comma) _ cs
@@ -229,7 +233,7 @@ more_same cs =
     ∙ sym (bind_bind (finds (further parameter comma) cs) (finds end_mark) rest))
 
 -- generic parameters that are not empty, and what comes after them
-closed_some : (cs : List Class) → heads parameter cs ≡ true
+closed_some : (cs : List SignClass) → heads parameter cs ≡ true
     → bind (finds closed_parameters cs) rest ≡ bind (finds parameter cs) (finds more_parameters)
 closed_some cs h =
     ap (λ x. bind x rest) (finds_then parameters end_mark cs
@@ -241,12 +245,12 @@ closed_some cs h =
     (finds more_parameters) (λ r. sym (more_same r))))
 
 -- a parameter that begins without attributes
-parameter_plain : (cs : List Class) → heads attributes cs ≡ false → finds parameter cs ≡ finds parameter_rest cs
+parameter_plain : (cs : List SignClass) → heads attributes cs ≡ false → finds parameter cs ≡ finds parameter_rest cs
 parameter_plain cs h =
     finds_marked Parameter (Then attributes parameter_rest) cs ∙ finds_past attributes parameter_rest cs h refl
 
 -- a parameter with attributes
-parameter_hash : (cs : List Class)
+parameter_hash : (cs : List SignClass)
     → finds parameter (signs.Hash ∷ cs)
     ≡ bind (bind (finds (one signs.Brackets) cs) (finds attributes)) (finds parameter_rest)
 parameter_hash cs =
@@ -276,7 +280,7 @@ by_other = Then (all_operand Inside) angle_target
 abbrev by_end : G
 by_end = Then (one signs.Greater) (target true)
 
-angle_hash : (cs : List Class)
+angle_hash : (cs : List SignClass)
     → finds impl_angle (signs.Hash ∷ cs) ≡ bind (finds parameter (signs.Hash ∷ cs)) (finds more_parameters)
 angle_hash cs =
     finds_other by_end _ (signs.Hash ∷ cs) refl refl
@@ -293,7 +297,7 @@ angle_hash cs =
     (sym (bind_bind (finds (one signs.Brackets) cs) (finds attributes) (finds parameter_rest)))
     ∙ ap (λ x. bind x (finds more_parameters)) (sym (parameter_hash cs))))))))
 
-angle_lifetime : (cs : List Class)
+angle_lifetime : (cs : List SignClass)
     → finds impl_angle (signs.Lifetime ∷ cs) ≡ bind (finds parameter (signs.Lifetime ∷ cs)) (finds more_parameters)
 angle_lifetime cs =
     finds_other by_end _ (signs.Lifetime ∷ cs) refl refl
@@ -306,7 +310,7 @@ angle_lifetime cs =
     ∙ (finds_marked Named _ (signs.Lifetime ∷ cs)
     ∙ finds_one (is signs.Lifetime) with_bounds signs.Lifetime cs refl))))))))
 
-angle_const : (cs : List Class)
+angle_const : (cs : List SignClass)
     → finds impl_angle (signs.Keyword keywords.Const ∷ cs)
     ≡ bind (finds parameter (signs.Keyword keywords.Const ∷ cs)) (finds more_parameters)
 angle_const cs =
@@ -333,7 +337,7 @@ abbrev by_default : G
 by_default = Then default_type more_parameters
 
 -- after a word, where a parameter goes on or ends
-word_colon : (cs : List Class)
+word_colon : (cs : List SignClass)
     → finds impl_word (signs.Colon ∷ cs) ≡ bind (finds word_parts (signs.Colon ∷ cs)) (finds more_parameters)
 word_colon cs =
     let c = signs.Colon in
@@ -347,7 +351,7 @@ word_colon cs =
     ∙ (finds_marked Rest _ (c ∷ cs) ∙ (finds_one (is c) _ c cs refl ∙ finds_marked Bounds bounds cs)))
     ∙ sym (finds_then bounds (perhaps default_type) cs)))))))
 
-word_equals : (cs : List Class)
+word_equals : (cs : List SignClass)
     → finds impl_word (signs.Equals ∷ cs) ≡ bind (finds word_parts (signs.Equals ∷ cs)) (finds more_parameters)
 word_equals cs =
     let c = signs.Equals in
@@ -357,7 +361,7 @@ word_equals cs =
     ∙ sym (ap (λ x. bind x (finds more_parameters)) (finds_past with_bounds (perhaps default_type) (c ∷ cs) refl refl
     ∙ finds_first default_type Nothing (c ∷ cs) refl))))
 
-word_end : (c : Class) (cs : List Class) → heads by_bounds (c ∷ cs) ≡ false → heads by_default (c ∷ cs) ≡ false
+word_end : (c : SignClass) (cs : List SignClass) → heads by_bounds (c ∷ cs) ≡ false → heads by_default (c ∷ cs) ≡ false
     → heads more_parameters (c ∷ cs) ≡ true → heads with_bounds (c ∷ cs) ≡ false
     → heads (perhaps default_type) (c ∷ cs) ≡ false
     → finds impl_word (c ∷ cs) ≡ bind (finds word_parts (c ∷ cs)) (finds more_parameters)
@@ -368,7 +372,7 @@ word_end c cs h i j k l =
     ∙ sym (ap (λ x. bind x (finds more_parameters)) (finds_past with_bounds (perhaps default_type) (c ∷ cs) k refl
     ∙ finds_skips (perhaps default_type) (c ∷ cs) l refl))))
 
-word_more : (c : Class) (cs : List Class) → ends_parameter c ≡ true
+word_more : (c : SignClass) (cs : List SignClass) → ends_parameter c ≡ true
     → finds impl_word (c ∷ cs) ≡ bind (finds word_parts (c ∷ cs)) (finds more_parameters)
 word_more signs.Colon cs h = word_colon cs
 word_more signs.Equals cs h = word_equals cs
@@ -381,7 +385,7 @@ word_more (signs.Keyword _) cs h = absurd (both_ways _ refl h)
 word_more _ cs h = absurd (both_ways _ refl h)
 
 -- a word, which no other alternative after `<` begins with
-record IsWordHere (c : Class) : Type 0 where
+record IsWordHere (c : SignClass) : Type 0 where
   no_end : may_begin by_end c ≡ false
   no_hash : may_begin by_hash c ≡ false
   no_lifetime : may_begin by_lifetime c ≡ false
@@ -437,7 +441,7 @@ is_word_here words.Plain = record {
   is_there = refl;
 }
 
-angle_word : (c : Class) (cs : List Class) → IsWordHere c → finds impl_angle (c ∷ cs) ≡ finds impl_word cs
+angle_word : (c : SignClass) (cs : List SignClass) → IsWordHere c → finds impl_angle (c ∷ cs) ≡ finds impl_word cs
 angle_word c cs w =
     finds_other by_end _ (c ∷ cs) w.no_end refl
     ∙ (finds_other by_hash _ (c ∷ cs) w.no_hash refl
@@ -446,18 +450,18 @@ angle_word c cs w =
     ∙ (finds_first by_word _ (c ∷ cs) (or_nothing (is_word c) false ∙ w.is_there)
     ∙ finds_one is_word impl_word c cs w.is_there))))
 
-parameter_word : (c : Class) (cs : List Class) → IsWordHere c → finds parameter (c ∷ cs) ≡ finds word_parts cs
+parameter_word : (c : SignClass) (cs : List SignClass) → IsWordHere c → finds parameter (c ∷ cs) ≡ finds word_parts cs
 parameter_word c cs w =
     parameter_plain (c ∷ cs) w.no_attributes
     ∙ (finds_other (Then (Mark Named) (Then (one signs.Lifetime) with_bounds)) _ (c ∷ cs) w.no_name refl
     ∙ (finds_first (Then (Mark Named) (Then word word_parts)) _ (c ∷ cs) (or_nothing (is_word c) false ∙ w.is_there)
     ∙ (finds_marked Named _ (c ∷ cs) ∙ finds_one is_word word_parts c cs w.is_there)))
 
-word_heads : (c : Class) (cs : List Class) → IsWordHere c → heads parameter (c ∷ cs) ≡ true
+word_heads : (c : SignClass) (cs : List SignClass) → IsWordHere c → heads parameter (c ∷ cs) ≡ true
 word_heads c cs w = rw (w.no_attributes, w.no_name) (or_left _ _ (or_nothing (is_word c) false ∙ w.is_there))
 
 -- no parameters
-closed_none : (cs : List Class) → bind (finds closed_parameters (signs.Greater ∷ cs)) rest ≡ rest cs
+closed_none : (cs : List SignClass) → bind (finds closed_parameters (signs.Greater ∷ cs)) rest ≡ rest cs
 closed_none cs =
     ap (λ x. bind x rest)
     (finds_past parameters end_mark (signs.Greater ∷ cs) refl refl
@@ -471,11 +475,12 @@ no_parameter words.Safe = refl
 no_parameter words.Union = refl
 no_parameter words.Plain = refl
 
-word_goes_on : (w : Word) (cs : List Class) → begins_generics (signs.Word w ∷ cs) ≡ true → goes_on_parameter cs ≡ true
+word_goes_on : (w : Word) (cs : List SignClass) → begins_generics (signs.Word w ∷ cs) ≡ true
+    → goes_on_parameter cs ≡ true
 word_goes_on w cs h = sym (ap (λ b. b || goes_on_parameter cs) (no_parameter w)) ∙ h
 
 -- where generic parameters begin after `<`, they are read
-angle_generics : (cs : List Class) → begins_generics cs ≡ true
+angle_generics : (cs : List SignClass) → begins_generics cs ≡ true
     → finds impl_angle cs ≡ bind (finds closed_parameters cs) rest
 angle_generics [] h = absurd (both_ways _ refl h)
 angle_generics (signs.Greater ∷ cs) h =
@@ -503,7 +508,8 @@ less_alone = Then (one signs.Less) closed_parameters
 abbrev less_joint : G
 less_joint = Then (one signs.LessJoint) closed_parameters
 
-generics_open : (c : Class) (cs : List Class) → opens c ≡ true → finds generics (c ∷ cs) ≡ finds closed_parameters cs
+generics_open : (c : SignClass) (cs : List SignClass) → opens c ≡ true
+    → finds generics (c ∷ cs) ≡ finds closed_parameters cs
 generics_open signs.Less cs h =
     finds_first (Then (Mark Generics) (Either less_alone less_joint)) Nothing (signs.Less ∷ cs) refl
     ∙ (finds_marked Generics (Either less_alone less_joint) (signs.Less ∷ cs)
@@ -520,7 +526,7 @@ generics_open (signs.Keyword keywords.Async) cs h = absurd (both_ways _ refl h)
 generics_open (signs.Keyword _) cs h = absurd (both_ways _ refl h)
 generics_open _ cs h = absurd (both_ways _ refl h)
 
-pub front_generics : (c : Class) (cs : List Class) → opens c ≡ true → begins_generics cs ≡ true
+pub front_generics : (c : SignClass) (cs : List SignClass) → opens c ≡ true → begins_generics cs ≡ true
     → finds impl_front (c ∷ cs) ≡ finds (Then generics (target true)) (c ∷ cs)
 front_generics c cs o h =
     front_angle c cs o
@@ -541,19 +547,19 @@ opening = To opens (Range types.Argument Inside)
 abbrev by_type : G
 by_type = Then (Either (To (is signs.As) (Range types.Wanted Inside)) (plain_continuation Inside)) angle_target
 
-typed_open : (c : Class) (cs : List Class) → opens c ≡ true
-    → finds typed (c ∷ cs) ≡ bind (finds (range types.Argument Inside) cs) (finds angle_target)
+typed_open : (c : SignClass) (cs : List SignClass) → opens c ≡ true
+    → finds impl_type (c ∷ cs) ≡ bind (finds (range types.Argument Inside) cs) (finds angle_target)
 unfolding find
 typed_open c cs h =
-    finds_then (range types.Wanted Target) braced (c ∷ cs)
-    ∙ (ap (λ x. bind x (finds braced)) (open_find c cs h
+    finds_then (range types.Wanted Target) where_and_body (c ∷ cs)
+    ∙ (ap (λ x. bind x (finds where_and_body)) (open_find c cs h
     ∙ (finds_then opening closing (c ∷ cs)
     ∙ ap (λ x. bind x (finds closing)) (finds_to opens (Range types.Argument Inside) c cs h)))
-    ∙ (bind_bind (finds (range types.Argument Inside) cs) (finds closing) (finds braced)
-    ∙ bind_same (finds (range types.Argument Inside) cs) (λ r. bind (finds closing r) (finds braced))
-    (finds angle_target) (λ r. sym (finds_then closing braced r))))
+    ∙ (bind_bind (finds (range types.Argument Inside) cs) (finds closing) (finds where_and_body)
+    ∙ bind_same (finds (range types.Argument Inside) cs) (λ r. bind (finds closing r) (finds where_and_body))
+    (finds angle_target) (λ r. sym (finds_then closing where_and_body r))))
   where
-    open_step : (c : Class) → opens c ≡ true
+    open_step : (c : SignClass) → opens c ≡ true
         → step rules (range types.Wanted Target ∷ []) c ≡ step rules (Then opening closing ∷ []) c
     open_step signs.Less h = refl
     open_step signs.LessJoint h = refl
@@ -563,7 +569,7 @@ typed_open c cs h =
     open_step (signs.Keyword _) h = absurd (both_ways _ refl h)
     open_step _ h = absurd (both_ways _ refl h)
 
-    open_find : (c : Class) (cs : List Class) → opens c ≡ true
+    open_find : (c : SignClass) (cs : List SignClass) → opens c ≡ true
         → finds (range types.Wanted Target) (c ∷ cs) ≡ finds (Then opening closing) (c ∷ cs)
     open_find c cs h =
         ap bare
@@ -572,7 +578,7 @@ typed_open c cs h =
         ∙ sym (scan_step rules (Then opening closing ∷ []) c cs (step rules (Then opening closing ∷ []) c) refl))
 
 -- where no argument can begin, only `>` could come
-no_argument : (cs : List Class) → heads (range types.Argument Inside) cs ≡ false
+no_argument : (cs : List SignClass) → heads (range types.Argument Inside) cs ≡ false
     → bind (finds (range types.Argument Inside) cs) (finds angle_target) ≡ finds angle_target cs
 no_argument cs h = ap (λ x. bind x (finds angle_target)) (finds_skips (range types.Argument Inside) cs h refl)
 
@@ -591,7 +597,8 @@ none_of false false true w h = absurd (both_ways _ h refl)
 none_of false false false true h = absurd (both_ways _ h refl)
 
 -- a sign with which neither an argument nor `>` begins
-not_closed : (c : Class) (cs : List Class) → is signs.Greater c ≡ false → finds angle_target (c ∷ cs) ≡ Stuck (c ∷ cs)
+not_closed : (c : SignClass) (cs : List SignClass) → is signs.Greater c ≡ false
+    → finds angle_target (c ∷ cs) ≡ Stuck (c ∷ cs)
 not_closed c cs h = finds_lacks angle_target (c ∷ cs) (or_nothing (is signs.Greater c) false ∙ h) refl
 
 -- what a word within `<` goes on with
@@ -604,7 +611,7 @@ plain = plain_continuation Inside
 abbrev by_as : G
 by_as = To (is signs.As) (Range types.Wanted Inside)
 
-module _ (c : Class) (cs : List Class)
+module _ (c : SignClass) (cs : List SignClass)
     (no : NoneOf (is signs.Colon c) (is signs.Equals c) (is signs.Comma c) (is signs.Greater c)) where
   to_type : finds impl_word (c ∷ cs) ≡ finds by_type (c ∷ cs)
   to_type =
@@ -647,14 +654,14 @@ word_last =
     ∙ (sym (finds_lacks angle_target [] refl refl)
     ∙ sym (ap (λ x. bind x (finds angle_target)) (finds_skips word_rest [] refl refl)))
 
-word_stays : (cs : List Class) → goes_on_parameter cs ≡ false
+word_stays : (cs : List SignClass) → goes_on_parameter cs ≡ false
     → finds impl_word cs ≡ bind (finds word_rest cs) (finds angle_target)
 word_stays [] h = word_last
 word_stays (c ∷ cs) h =
     word_types c cs (none_of (is signs.Colon c) (is signs.Equals c) (is signs.Comma c) (is signs.Greater c) h)
 
 -- an argument that begins with a word
-word_argument : (c : Class) (cs : List Class) → is_word c ≡ true
+word_argument : (c : SignClass) (cs : List SignClass) → is_word c ≡ true
     → finds (range types.Argument Inside) (c ∷ cs) ≡ finds word_rest cs
 word_argument c cs h =
     finds_first (operand Inside) Nothing (c ∷ cs) (or_left _ _ (or_left _ _ h))
@@ -663,7 +670,7 @@ word_argument c cs h =
     ∙ finds_to is_word (Range types.Whole Inside) c cs h))
 
 -- an argument that begins with no word and no lifetime
-module _ (c : Class) (cs : List Class) (no_word : is_word c ≡ false)
+module _ (c : SignClass) (cs : List SignClass) (no_word : is_word c ≡ false)
     (no : NoneOf (is signs.Greater c) (is signs.Hash c) (is signs.Lifetime c) (is (signs.Keyword keywords.Const) c))
   where
     to_other : finds impl_angle (c ∷ cs) ≡ finds by_other (c ∷ cs)
@@ -692,14 +699,14 @@ module _ (c : Class) (cs : List Class) (no_word : is_word c ≡ false)
             ∙ (sym (not_closed c cs no.one_no)
             ∙ sym (no_argument (c ∷ cs) (rw (no_word, no.three_no, h) refl))))
 
-word_class : (c : Class) → is_word c ≡ true → (w : Word) × (c ≡ signs.Word w)
+word_class : (c : SignClass) → is_word c ≡ true → (w : Word) × (c ≡ signs.Word w)
 word_class (signs.Word w) h = (w, refl)
 word_class (signs.Keyword keywords.Async) h = absurd (both_ways _ refl h)
 word_class (signs.Keyword _) h = absurd (both_ways _ refl h)
 word_class _ h = absurd (both_ways _ refl h)
 
 -- where no generic parameters begin after `<`, a type does
-angle_types : (cs : List Class) → begins_generics cs ≡ false
+angle_types : (cs : List SignClass) → begins_generics cs ≡ false
     → finds impl_angle cs ≡ bind (finds (range types.Argument Inside) cs) (finds angle_target)
 angle_types [] h =
     finds_lacks impl_angle [] refl refl
@@ -718,6 +725,6 @@ angle_types (c ∷ cs) h = go (is_word c) refl (begins_parameter c) refl
         angle_word c cs (subst IsWordHere (sym w.1) (is_word_here w.0))
         ∙ (word_stays cs stays ∙ ap (λ x. bind x (finds angle_target)) (sym (word_argument c cs i)))
 
-pub front_typed : (c : Class) (cs : List Class) → opens c ≡ true → begins_generics cs ≡ false
-    → finds impl_front (c ∷ cs) ≡ finds typed (c ∷ cs)
+pub front_typed : (c : SignClass) (cs : List SignClass) → opens c ≡ true → begins_generics cs ≡ false
+    → finds impl_front (c ∷ cs) ≡ finds impl_type (c ∷ cs)
 front_typed c cs o h = front_angle c cs o ∙ (angle_types cs h ∙ sym (typed_open c cs o))

@@ -20,13 +20,13 @@ use Rattle.declarations.specs.Reader.{Finds, Sticks, classes_in}
 use Rattle.declarations.specs.Reading.{FaultAt, Reads}
 use Rattle.declarations.specs.Signs.{BeginsWith, group_class}
 use Rattle.declarations.specs.Whole.{IsWhole}
-use Rattle.declarations.specs.declared.class.Class.{Class}
-use Rattle.declarations.specs.declared.class.Class.TheVariants as signs
+use Rattle.declarations.specs.declared.class.SignClass.{SignClass}
+use Rattle.declarations.specs.declared.class.SignClass.TheVariants as signs
 use Rattle.declarations.specs.declared.class.Keyword.TheVariants as keywords
 use Rattle.declarations.specs.declared.class.Word.TheVariants as words
 use Rattle.declarations.specs.declared.implementation.Impl.{Impl}
 use Rattle.declarations.specs.declared.implementation.Target.{Target as Targeted}
-use Rattle.declarations.specs.rules.Bodies.{braced, braces}
+use Rattle.declarations.specs.rules.Bodies.{where_and_body, braces}
 use Rattle.declarations.specs.rules.Classes.{is, is_word, keyword, opens}
 use Rattle.declarations.specs.rules.ImplItems as rule
 use Rattle.declarations.specs.rules.Impls.{const_target, impl_front, target}
@@ -128,7 +128,7 @@ no_classes : (trees : List TokenTree) → trees ≡ [] → classes_in trees ≡ 
 unfolding classes_in
 no_classes trees e = rw e refl
 
-pub goes_sign : (trees rest : List TokenTree) (class : Class) (b : Bool) → BeginsWith trees class rest
+pub goes_sign : (trees rest : List TokenTree) (class : SignClass) (b : Bool) → BeginsWith trees class rest
     → b ≡ ends_parameter class
     → b ≡ goes_on_parameter (classes_in trees)
 goes_sign trees rest class b at e = e ∙ sym (ap goes_on_parameter (classes_sign trees rest class at))
@@ -136,14 +136,14 @@ goes_sign trees rest class b at e = e ∙ sym (ap goes_on_parameter (classes_sig
 pub goes_none : (trees : List TokenTree) → trees ≡ [] → false ≡ goes_on_parameter (classes_in trees)
 goes_none trees e = sym (ap goes_on_parameter (no_classes trees e))
 
-pub begins_alone : (trees rest : List TokenTree) (class : Class) (b : Bool) → BeginsWith trees class rest
+pub begins_alone : (trees rest : List TokenTree) (class : SignClass) (b : Bool) → BeginsWith trees class rest
     → b ≡ begins_parameter class → b ≡ true
     → true ≡ begins_generics (classes_in trees)
 begins_alone trees rest class b at e h =
     sym (ap begins_generics (classes_sign trees rest class at)
     ∙ ap (λ x. x || is_word class && goes_on_parameter (classes_in rest)) (sym e ∙ h))
 
-pub begins_word : (trees rest : List TokenTree) (class : Class) (b w g : Bool) → BeginsWith trees class rest
+pub begins_word : (trees rest : List TokenTree) (class : SignClass) (b w g : Bool) → BeginsWith trees class rest
     → b ≡ begins_parameter class → b ≡ false → w ≡ is_word class → w ≡ true
     → g ≡ goes_on_parameter (classes_in rest)
     → g ≡ begins_generics (classes_in trees)
@@ -153,7 +153,7 @@ begins_word trees rest class b w g at e h is i goes =
     ∙ (ap (λ x. x || is_word class && goes_on_parameter (classes_in rest)) (sym e ∙ h)
     ∙ ap (λ x. x && goes_on_parameter (classes_in rest)) (sym is ∙ i)))
 
-pub begins_other : (trees rest : List TokenTree) (class : Class) (b w : Bool) → BeginsWith trees class rest
+pub begins_other : (trees rest : List TokenTree) (class : SignClass) (b w : Bool) → BeginsWith trees class rest
     → b ≡ begins_parameter class → b ≡ false → w ≡ is_word class → w ≡ false
     → false ≡ begins_generics (classes_in trees)
 begins_other trees rest class b w at e h is i =
@@ -164,7 +164,7 @@ begins_other trees rest class b w at e h is i =
 pub begins_none : (trees : List TokenTree) → trees ≡ [] → false ≡ begins_generics (classes_in trees)
 begins_none trees e = sym (ap begins_generics (no_classes trees e))
 
-pub has_open : (trees rest : List TokenTree) (class : Class) (o g : Bool) → BeginsWith trees class rest
+pub has_open : (trees rest : List TokenTree) (class : SignClass) (o g : Bool) → BeginsWith trees class rest
     → o ≡ opens class → o ≡ true → g ≡ begins_generics (classes_in rest)
     → g ≡ has_generics (classes_in trees)
 has_open trees rest class o g at e h begins =
@@ -172,7 +172,7 @@ has_open trees rest class o g at e h begins =
     ∙ sym (ap has_generics (classes_sign trees rest class at)
     ∙ ap (λ x. x && begins_generics (classes_in rest)) (sym e ∙ h))
 
-pub has_other : (trees rest : List TokenTree) (class : Class) (o : Bool) → BeginsWith trees class rest
+pub has_other : (trees rest : List TokenTree) (class : SignClass) (o : Bool) → BeginsWith trees class rest
     → o ≡ opens class → o ≡ false
     → false ≡ has_generics (classes_in trees)
 has_other trees rest class o at e h =
@@ -201,13 +201,13 @@ pub qualifiers_find : (trees mid rest : List TokenTree) → Finds (perhaps (one 
     → Finds rule.impl_qualifiers trees rest
 qualifiers_find trees mid rest default unsafe = then_finds _ _ trees mid rest default unsafe
 
-pub keyword_is : (trees rest : List TokenTree) (class : Class) (b : Bool) → BeginsWith trees class rest
+pub keyword_is : (trees rest : List TokenTree) (class : SignClass) (b : Bool) → BeginsWith trees class rest
     → b ≡ is (signs.Keyword keywords.Impl) class → b ≡ true
     → BeginsWith trees (signs.Keyword keywords.Impl) rest
 keyword_is trees rest class b at e h =
     subst (λ c. BeginsWith trees c rest) (same_class (signs.Keyword keywords.Impl) class (sym e ∙ h)) at
 
-pub keyword_not : (trees rest : List TokenTree) (class : Class) (b : Bool) → BeginsWith trees class rest
+pub keyword_not : (trees rest : List TokenTree) (class : SignClass) (b : Bool) → BeginsWith trees class rest
     → b ≡ is (signs.Keyword keywords.Impl) class → b ≡ false
     → Sticks rule.impl_keyword trees trees
 keyword_not trees rest class b at e h =
@@ -323,10 +323,10 @@ to_const trees c t g f =
     (turns_as impl_front (target true) (Then may_const const_target) trees c g (target_may (classes_in c))) f
 
 pub header_turns : (trees c t rest : List TokenTree) → TurnsTo impl_front trees (target true) c
-    → Finds may_const c t → TurnsTo const_target t braced rest
-    → TurnsTo impl_front trees braced rest
+    → Finds may_const c t → TurnsTo const_target t where_and_body rest
+    → TurnsTo impl_front trees where_and_body rest
 header_turns trees c t rest g f h =
-    turns_turn impl_front const_target braced trees t rest (to_const trees c t g f) h
+    turns_turn impl_front const_target where_and_body trees t rest (to_const trees c t g f) h
 
 pub header_has : (trees c t rest parameters constness negation self_type : List TokenTree)
     (name : Option (Bor (List TokenTree))) → HasGenerics trees parameters c → Finds may_const c t
@@ -350,13 +350,13 @@ pub ruleset headers = (header_turns, header_has, header_sticks)
 
 -- ---- the trait and the type
 
-pub for_is : (trees rest : List TokenTree) (class : Class) (b : Bool) → BeginsWith trees class rest
+pub for_is : (trees rest : List TokenTree) (class : SignClass) (b : Bool) → BeginsWith trees class rest
     → b ≡ is (signs.Keyword keywords.For) class → b ≡ true
     → BeginsWith trees (signs.Keyword keywords.For) rest
 for_is trees rest class b at e h =
     subst (λ c. BeginsWith trees c rest) (same_class (signs.Keyword keywords.For) class (sym e ∙ h)) at
 
-pub for_not : (trees rest : List TokenTree) (class : Class) (b : Bool) → BeginsWith trees class rest
+pub for_not : (trees rest : List TokenTree) (class : SignClass) (b : Bool) → BeginsWith trees class rest
     → b ≡ is (signs.Keyword keywords.For) class → b ≡ false
     → heads for_type (classes_in trees) ≡ false
 for_not trees rest class b at e h =
@@ -367,7 +367,7 @@ for_none trees e = heads_none for_type trees e
 
 pub ruleset fors = (for_is, for_not, for_none)
 
-abbrev for_class : Class
+abbrev for_class : SignClass
 for_class = signs.Keyword keywords.For
 
 for_heads : (trees rest : List TokenTree) → BeginsWith trees for_class rest
@@ -433,14 +433,14 @@ ReadsTypes trees negation result =
 abbrev ReadsTarget : List TokenTree → Result (Targeted × Bor (List TokenTree)) (Bor (List TokenTree)) → Type 0
 ReadsTarget trees result =
     MatchResult result
-    (λ found. TurnsTo const_target trees braced found.1.now
+    (λ found. TurnsTo const_target trees where_and_body found.1.now
     × HasTarget trees found.0.negation.now found.0.trait_path found.0.self_type.now found.1.now)
     (λ left. Sticks const_target trees left.now)
 
 abbrev with_end : G
-with_end = Then target_types braced
+with_end = Then target_types where_and_body
 
-pub positive_reads : (trees rest : List TokenTree) (class : Class) (b : Bool) (negation : List TokenTree)
+pub positive_reads : (trees rest : List TokenTree) (class : SignClass) (b : Bool) (negation : List TokenTree)
     (result : Result (Targeted × Bor (List TokenTree)) (Bor (List TokenTree))) → BeginsWith trees class rest
     → b ≡ is signs.Exclamation class → b ≡ false → negation ≡ [] → ReadsTypes trees negation result
     → ReadsTarget trees result
@@ -456,15 +456,15 @@ positive_reads trees rest class b negation result at e h none r = go result r
     go : (result : Result (Targeted × Bor (List TokenTree)) (Bor (List TokenTree))) → ReadsTypes trees negation result
         → ReadsTarget trees result
     go (Ok found) r = (
-      turns_on const_target target_types braced trees trees found.1.now turns r.0,
+      turns_on const_target target_types where_and_body trees trees found.1.now turns r.0,
       inl (record { no_not = r.2 ∙ none; types = r.1 }),
     )
-    go (Err left) r = turns_stick const_target target_types braced trees trees left.now turns r
+    go (Err left) r = turns_stick const_target target_types where_and_body trees trees left.now turns r
 
 pub target_none : (trees : List TokenTree) → trees ≡ [] → Sticks const_target trees trees
 target_none trees e = lacks const_target trees (heads_none const_target trees e) refl
 
-pub not_is : (trees rest : List TokenTree) (class : Class) (b : Bool) → BeginsWith trees class rest
+pub not_is : (trees rest : List TokenTree) (class : SignClass) (b : Bool) → BeginsWith trees class rest
     → b ≡ is signs.Exclamation class → b ≡ true
     → BeginsWith trees signs.Exclamation rest
 not_is trees rest class b at e h =
@@ -475,13 +475,13 @@ pub ruleset targets = (positive_reads, target_none, not_is)
 -- ---- after `!`
 
 module _ (trees rest : List TokenTree) (at : BeginsWith trees signs.Exclamation rest) (b : Bool)
-    (is_end : b ≡ heads braced (classes_in rest)) where
+    (is_end : b ≡ heads where_and_body (classes_in rest)) where
   not_reads : (sign : List TokenTree) → trees ≡ sign ++ rest → Reads (ByRule (one signs.Exclamation)) trees sign rest
   not_reads sign whole =
       found_reads (one signs.Exclamation) starts_not trees sign rest
       (sign_finds (is signs.Exclamation) trees rest signs.Exclamation at refl) whole
 
-  pub never_turns : b ≡ true → TurnsTo const_target trees braced rest
+  pub never_turns : b ≡ true → TurnsTo const_target trees where_and_body rest
   never_turns h = record {
     same = ap (finds const_target) (classes_sign trees rest signs.Exclamation at)
         ∙ target_never (classes_in rest) (sym is_end ∙ h);
@@ -509,7 +509,7 @@ module _ (trees rest : List TokenTree) (at : BeginsWith trees signs.Exclamation 
       go : (result : Result (Targeted × Bor (List TokenTree)) (Bor (List TokenTree))) → ReadsTypes rest sign result
           → ReadsTarget trees result
       go (Ok found) r = (
-        turns_on const_target target_types braced trees rest found.1.now turns r.0,
+        turns_on const_target target_types where_and_body trees rest found.1.now turns r.0,
         inr (inl (record {
           from_types = rest;
           not_read = subst (λ n. Reads (ByRule (one signs.Exclamation)) trees n rest) (sym r.2)
@@ -517,7 +517,7 @@ module _ (trees rest : List TokenTree) (at : BeginsWith trees signs.Exclamation 
           types = r.1;
         })),
       )
-      go (Err left) r = turns_stick const_target target_types braced trees rest left.now turns r
+      go (Err left) r = turns_stick const_target target_types where_and_body trees rest left.now turns r
 
 pub ruleset negatives = (never_turns, never_has, negative_reads, remains_sign)
 
@@ -525,7 +525,7 @@ pub ruleset negatives = (never_turns, never_has, negative_reads, remains_sign)
 
 pub braces_find : (trees mid rest : List TokenTree) (g : Grouped) → Finds where_clause trees mid → mid ≡ Group g ∷ rest
     → g.delimiter ≡ delimiters.Brace
-    → Finds braced trees rest
+    → Finds where_and_body trees rest
 braces_find trees mid rest g f whole brace =
     then_finds where_clause braces trees mid rest f
     (mark_finds Body (one signs.Braces) mid rest
@@ -544,11 +544,11 @@ braces_have trees mid rest clause g f front whole brace = record {
 
 pub braces_stick : (trees mid : List TokenTree) → Finds where_clause trees mid
     → ((g : Grouped) (rest : List TokenTree) → mid ≡ Group g ∷ rest → g.delimiter ≡ delimiters.Brace → ⊥)
-    → Sticks braced trees mid
+    → Sticks where_and_body trees mid
 braces_stick trees mid f none =
     then_fails where_clause braces trees mid mid f (lacks braces mid (no_braces mid none) refl)
 
-pub where_sticks : (trees left : List TokenTree) → Sticks where_clause trees left → Sticks braced trees left
+pub where_sticks : (trees left : List TokenTree) → Sticks where_clause trees left → Sticks where_and_body trees left
 where_sticks trees left s = then_sticks where_clause braces trees left s
 
 pub ruleset ends = (braces_find, braces_have, braces_stick, where_sticks)
@@ -556,10 +556,11 @@ pub ruleset ends = (braces_find, braces_have, braces_stick, where_sticks)
 -- ---- the whole item
 
 pub item_finds : (trees h c rest : List TokenTree) → TurnsTo rule.impl_item trees impl_front h
-    → TurnsTo impl_front h braced c → Finds braced c rest
+    → TurnsTo impl_front h where_and_body c → Finds where_and_body c rest
     → Finds rule.impl_item trees rest
 item_finds trees h c rest t u f =
-    turns_finds rule.impl_item braced trees c rest (turns_turn rule.impl_item impl_front braced trees h c t u) f
+    turns_finds rule.impl_item where_and_body trees c rest
+    (turns_turn rule.impl_item impl_front where_and_body trees h c t u) f
 
 pub item_has : (trees h c rest : List TokenTree) (item : Impl)
     → HasFront trees item.attributes.now item.visibility.now item.qualifiers.now h
@@ -575,10 +576,11 @@ pub header_fails : (trees h left : List TokenTree) → TurnsTo rule.impl_item tr
 header_fails trees h left t s = turns_sticks rule.impl_item impl_front trees h left t s
 
 pub end_fails : (trees h c left : List TokenTree) → TurnsTo rule.impl_item trees impl_front h
-    → TurnsTo impl_front h braced c → Sticks braced c left
+    → TurnsTo impl_front h where_and_body c → Sticks where_and_body c left
     → Sticks rule.impl_item trees left
 end_fails trees h c left t u s =
-    turns_sticks rule.impl_item braced trees c left (turns_turn rule.impl_item impl_front braced trees h c t u) s
+    turns_sticks rule.impl_item where_and_body trees c left
+    (turns_turn rule.impl_item impl_front where_and_body trees h c t u) s
 
 pub ruleset items = (item_finds, item_has, header_fails, end_fails)
 

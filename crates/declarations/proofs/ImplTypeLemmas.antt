@@ -9,8 +9,8 @@ use Rattle.grammars.specs.Grammar.{Either, Nothing, To, perhaps}
 use Rattle.grammars.specs.Machine.{is_nullable}
 use Rattle.declarations.specs.Found.{finds}
 use Rattle.declarations.specs.Impl.{for_type, may_for}
-use Rattle.declarations.specs.declared.class.Class.{Class}
-use Rattle.declarations.specs.declared.class.Class.TheVariants as signs
+use Rattle.declarations.specs.declared.class.SignClass.{SignClass}
+use Rattle.declarations.specs.declared.class.SignClass.TheVariants as signs
 use Rattle.declarations.specs.declared.class.Keyword.TheVariants as keywords
 use Rattle.declarations.specs.declared.types.TypeState.{TypeState}
 use Rattle.declarations.specs.declared.types.TypeState.TheVariants as types
@@ -25,23 +25,23 @@ use Rattle.declarations.proofs.ClassLemmas.{same_class}
 use Rattle.declarations.proofs.LoopLemmas.{Fits}
 
 -- what is found after a type
-abbrev then_for : Found Class Label → Found Class Label
+abbrev then_for : Found SignClass Label → Found SignClass Label
 then_for f = bind f (finds may_for)
 
 -- where a type after `impl` is read, a type and perhaps `for` and another type are
-abbrev Splits : TypeState → List Class → Type 0
+abbrev Splits : TypeState → List SignClass → Type 0
 Splits s cs = finds (range s Target) cs ≡ then_for (finds (range s Outside) cs)
 
 -- ---- the same step of both rules
 
 -- both rules begin with the sign or neither does, and then they go on alike
-record Alike (a b : G) (c : Class) (cs : List Class) : Type 0 where
+record Alike (a b : G) (c : SignClass) (cs : List SignClass) : Type 0 where
   same : may_begin a c ≡ may_begin b c
   first : is_nullable a ≡ false
   second : is_nullable b ≡ false
   agree : may_begin a c ≡ true → finds a (c ∷ cs) ≡ then_for (finds b (c ∷ cs))
 
-alike_either : (a b d e : G) (c : Class) (cs : List Class) → Alike a d c cs → Alike b e c cs
+alike_either : (a b d e : G) (c : SignClass) (cs : List SignClass) → Alike a d c cs → Alike b e c cs
     → Alike (Either a b) (Either d e) c cs
 alike_either a b d e c cs x y = record {
   same = rw (x.same, y.same) refl;
@@ -61,9 +61,10 @@ alike_either a b d e c cs x y = record {
         ∙ (y.agree later ∙ sym (ap then_for (finds_other d e (c ∷ cs) (sym x.same ∙ i) x.second)))
 
 -- rules of types from the states on, over signs of which fewer are left
-module _ (c : Class) (cs : List Class) (earlier : (s : TypeState) (left : List Class) → length left ≤ length cs
+module _ (c : SignClass) (cs : List SignClass)
+    (earlier : (s : TypeState) (left : List SignClass) → length left ≤ length cs
     → Splits s left) where
-  alike_to : (passes : Class → Bool) (s : TypeState)
+  alike_to : (passes : SignClass → Bool) (s : TypeState)
       → Alike (To passes (Range s Target)) (To passes (Range s Outside)) c cs
   alike_to passes s = record {
     same = refl;
@@ -76,7 +77,7 @@ module _ (c : Class) (cs : List Class) (earlier : (s : TypeState) (left : List C
   }
 
   -- after the arguments in angle brackets
-  closes : (left : List Class) → length left ≤ length cs
+  closes : (left : List SignClass) → length left ≤ length cs
       → finds (To (is signs.Greater) (Range types.Whole Target)) left
       ≡ then_for (finds (To (is signs.Greater) (Range types.Whole Outside)) left)
   closes [] fits =
@@ -103,7 +104,7 @@ module _ (c : Class) (cs : List Class) (earlier : (s : TypeState) (left : List C
   inside_fits h = rw (finds_to opens (Range types.Argument Inside) c cs h)
       (find_fits (rules (Range types.Argument Inside)) cs)
 
-  closed : (f : Found Class Label) → Fits (length cs) f
+  closed : (f : Found SignClass Label) → Fits (length cs) f
       → bind f (finds (To (is signs.Greater) (Range types.Whole Target)))
       ≡ then_for (bind f (finds (To (is signs.Greater) (Range types.Whole Outside))))
   closed (Past e r) fits = closes r fits
@@ -196,7 +197,7 @@ module _ (c : Class) (cs : List Class) (earlier : (s : TypeState) (left : List C
   abbrev at_for : G
   at_for = To (keyword keywords.For) (Range types.Wanted Outside)
 
-  whole_for : (d : Class) → signs.Keyword keywords.For ≡ d
+  whole_for : (d : SignClass) → signs.Keyword keywords.For ≡ d
       → finds (range types.Whole Target) (d ∷ cs) ≡ then_for (finds (range types.Whole Outside) (d ∷ cs))
   whole_for d same = subst
       (λ e. finds (range types.Whole Target) (e ∷ cs) ≡ then_for (finds (range types.Whole Outside) (e ∷ cs))) same
@@ -279,12 +280,12 @@ at_end types.Minus = no_signs _ _ refl refl
 at_end types.For = no_signs _ _ refl refl
 at_end types.Binder = no_signs _ _ refl refl
 
-splits_within : (n : ℕ) (s : TypeState) (cs : List Class) → length cs ≤ n → Splits s cs
+splits_within : (n : ℕ) (s : TypeState) (cs : List SignClass) → length cs ≤ n → Splits s cs
 splits_within n s [] h = at_end s
 splits_within zero s (c ∷ cs) h = absurd (omega arith)
 splits_within (suc n) s (c ∷ cs) h =
     state c cs (λ t left fits. splits_within n t left (omega (arith, h, fits))) s
 
 -- a type after `impl` is a type and perhaps `for` and another type
-pub splits : (s : TypeState) (cs : List Class) → Splits s cs
+pub splits : (s : TypeState) (cs : List SignClass) → Splits s cs
 splits s cs = splits_within (length cs) s cs (omega arith)

@@ -9,7 +9,7 @@ use Rattle.pm_stream.specs.declared.stream.Group.{Group as Grouped}
 use Rattle.pm_stream.specs.declared.stream.TokenTree.{TokenTree}
 use Rattle.pm_stream.specs.declared.stream.TokenTree.TheVariants.{Group, Ident}
 use Rattle.declarations.proofs.CutLemmas.{Goes, Cut, Begins, Takes, cut, firsts, begins_whole, begins_after, no_fault}
-use Rattle.declarations.proofs.PartLemmas.{at, Front, item, before, attributed, among_attributes, attribute_place}
+use Rattle.declarations.proofs.PartLemmas.{at, Front, item, before, attribute_spot, among_attributes, attribute_place}
 use Rattle.declarations.proofs.PartLemmas.{start, attributes_beside, after_attributes, within_visibility}
 use Rattle.declarations.proofs.PartLemmas.{visibility_place, visibility_first, visibility_beside, after_visibility}
 use Rattle.declarations.proofs.RegionLemmas.{Declared, structure, tuple, enumeration, union, item_of, not_alone}
@@ -17,7 +17,7 @@ use Rattle.declarations.proofs.RegionLemmas.{generic_place}
 use Rattle.declarations.proofs.RegionLemmas.{spotted, generics, generics_beside, after_generics, plain_spot}
 use Rattle.declarations.proofs.RegionLemmas.{clause_place, clause_beside, after_clause, predicate}
 use Rattle.declarations.proofs.SignLemmas.{trees_of-signs, no_signs}
-use Rattle.declarations.proofs.SortLemmas.{sort_of, named, grouped, names, groups, unseen}
+use Rattle.declarations.proofs.SortLemmas.{sort_of, is_identifier_sign, is_group_sign, names, groups, unseen}
 use Rattle.declarations.proofs.WalkLemmas.{after, walk-cons}
 use Rattle.declarations.specs.Forms.{IsFrom, IsItem, AreAttributes, IsVisibility, AreGenerics, IsWhere}
 use Rattle.declarations.specs.Grammar.{step, ends}
@@ -30,18 +30,18 @@ use Rattle.declarations.specs.Signs.{Sign, signs, classes_of, group_class, is_re
 use Rattle.declarations.specs.Signs.{parentheses_class}
 use Rattle.declarations.specs.Walk.{walk}
 use Rattle.declarations.specs.Whole.{ReadsAll}
-use Rattle.declarations.specs.declared.class.Class.{Class}
-use Rattle.declarations.specs.declared.class.Class.TheVariants as signs
+use Rattle.declarations.specs.declared.class.SignClass.{SignClass}
+use Rattle.declarations.specs.declared.class.SignClass.TheVariants as signs
 use Rattle.declarations.specs.declared.class.Keyword.TheVariants as keywords
 use Rattle.declarations.specs.declared.class.Word.TheVariants as words
-use Rattle.declarations.specs.declared.place.Item.TheVariants as items
-use Rattle.declarations.specs.declared.place.Part.TheVariants as parts
-use Rattle.declarations.specs.declared.place.Place.{Place}
-use Rattle.declarations.specs.declared.place.Spot.TheVariants as spots
+use Rattle.declarations.specs.declared.walk_state.Item.TheVariants as items
+use Rattle.declarations.specs.declared.walk_state.Part.TheVariants as parts
+use Rattle.declarations.specs.declared.walk_state.WalkState.{WalkState}
+use Rattle.declarations.specs.declared.walk_state.Spot.TheVariants as spots
 
 -- ---- walks over all trees
 
-pub goes_whole : (place : Place) (trees : List TokenTree) → ReadsAll (IsFrom place) trees → Goes place trees
+pub goes_whole : (place : WalkState) (trees : List TokenTree) → ReadsAll (IsFrom place) trees → Goes place trees
 goes_whole place trees reads =
     let all : reads.piece ≡ signs trees = sym (append-nil reads.piece) ∙ sym reads.read in
     record {
@@ -50,7 +50,7 @@ goes_whole place trees reads =
       ended = reads.stands.0.ended;
     }
 
-pub reads_whole : (place : Place) (trees : List TokenTree) → Goes place trees → ReadsAll (IsFrom place) trees
+pub reads_whole : (place : WalkState) (trees : List TokenTree) → Goes place trees → ReadsAll (IsFrom place) trees
 reads_whole place trees goes = record {
   piece = signs trees;
   read = sym (append-nil (signs trees));
@@ -60,7 +60,7 @@ reads_whole place trees goes = record {
 }
 
 -- the walk from a state over a first sign and the signs after it
-pub goes_first : (place next : Place) (trees more : List TokenTree) (sign : Sign) → signs trees ≡ sign ∷ signs more
+pub goes_first : (place next : WalkState) (trees more : List TokenTree) (sign : Sign) → signs trees ≡ sign ∷ signs more
     → step place sign.class ≡ Some next → Goes next more → Goes place trees
 goes_first place next trees more sign read steps goes = record {
   last = goes.last;
@@ -81,15 +81,15 @@ attributes_cut front trees goes =
     (firsts (among_attributes front) attribute_place (after_attributes front) beside start (signs trees))
     goes.walks goes.ended
 
-attributed_step : (front : Front) (class : Class) (next : Place) → after_attributes front class ≡ Some next
-    → step (at items.Alone (attributed front)) class ≡ Some next
+attributed_step : (front : Front) (class : SignClass) (next : WalkState) → after_attributes front class ≡ Some next
+    → step (at items.Alone (attribute_spot front)) class ≡ Some next
 attributed_step front signs.Hash next steps = cc
 attributed_step front class next steps = steps
 
 pub visibility_cut : (front : Front) (trees : List TokenTree) → Begins (after_attributes front) trees
     → Cut (at items.Alone (spots.Before parts.Visibility)) (after_visibility front) trees
 visibility_cut front trees begins =
-    let place = at items.Alone (attributed front) in
+    let place = at items.Alone (attribute_spot front) in
     let goes = goes_first place begins.next trees begins.more begins.sign begins.begins
     (attributed_step front begins.sign.class begins.next begins.steps) begins.left in
     cut (within_visibility front) visibility_place (after_visibility front) (visibility_beside front)
@@ -101,7 +101,7 @@ visibility_cut front trees begins =
 -- ---- the keyword and the name of an item
 
 -- what a keyword declares
-abbrev pub Declares : Class → Declared → Type 0
+abbrev pub Declares : SignClass → Declared → Type 0
 Declares (signs.Keyword keywords.Struct) structure = Unit {0}
 Declares (signs.Keyword keywords.Enum) enumeration = Unit {0}
 Declares (signs.Word words.Union) union = Unit {0}
@@ -115,13 +115,13 @@ pub record Keyword (trees : List TokenTree) : Type 0 where
   pub declares : Declares (name_class ident) kind
   pub left : Goes (at (item_of kind) spots.Name) more
 
-pub record Led (class : Class) (next : Place) : Type 0 where
+pub record Led (class : SignClass) (next : WalkState) : Type 0 where
   pub kind : Declared
   pub sort : sort_of class ≡ names
   pub declares : Declares class kind
   pub is : next ≡ at (item_of kind) spots.Name
 
-led_by : (class : Class) (next : Place) → after_visibility item class ≡ Some next → Led class next
+led_by : (class : SignClass) (next : WalkState) → after_visibility item class ≡ Some next → Led class next
 led_by (signs.Keyword keywords.Struct) next steps =
     record { kind = structure; sort = refl; declares = tt; is = (cc) }
 led_by (signs.Keyword keywords.Enum) next steps =
@@ -132,7 +132,7 @@ led_by class next steps = cc
 pub keyword_of : (trees : List TokenTree) → Begins (after_visibility item) trees → Keyword trees
 keyword_of trees begins =
     let led = led_by begins.sign.class begins.next begins.steps in
-    let found = named trees begins.sign (signs begins.more) begins.begins led.sort in
+    let found = is_identifier_sign trees begins.sign (signs begins.more) begins.begins led.sort in
     let class : begins.sign.class ≡ name_class found.0 = ap (λ s. s.class) found.1.is in
     let one : begins.sign.trees ≡ Ident found.0 ∷ [] = ap (λ s. s.trees) found.1.is in
     record {
@@ -144,19 +144,19 @@ keyword_of trees begins =
       left = subst (λ p. Goes p begins.more) led.is begins.left;
     }
 
-pub record Named (place : Place) (trees : List TokenTree) : Type 0 where
+pub record Named (place : WalkState) (trees : List TokenTree) : Type 0 where
   pub ident : Name
   pub more : List TokenTree
   pub whole : trees ≡ Ident ident ∷ more
   pub is_name : IsNameClass (name_class ident)
   pub left : Goes place more
 
-record LedName (place : Place) (class : Class) (next : Place) : Type 0 where
+record LedName (place : WalkState) (class : SignClass) (next : WalkState) : Type 0 where
   sort : sort_of class ≡ names
   is_name : IsNameClass class
   is : next ≡ place
 
-led_name : (kind : Declared) (class : Class) (next : Place)
+led_name : (kind : Declared) (class : SignClass) (next : WalkState)
     → step (at (item_of kind) spots.Name) class ≡ Some next → LedName (at (item_of kind) spots.Generics) class next
 led_name kind (signs.Word word) next steps = record { sort = refl; is_name = tt; is = (cc) }
 led_name kind class next steps = cc
@@ -166,7 +166,7 @@ pub name_of : (kind : Declared) (trees : List TokenTree) → Goes (at (item_of k
 name_of kind trees goes =
     let begins = begins_whole (at (item_of kind) spots.Name) trees goes refl in
     let led = led_name kind begins.sign.class begins.next begins.steps in
-    let found = named trees begins.sign (signs begins.more) begins.begins led.sort in
+    let found = is_identifier_sign trees begins.sign (signs begins.more) begins.begins led.sort in
     let is : begins.sign.class ≡ name_class found.0 = ap (λ s. s.class) found.1.is in
     let one : begins.sign.trees ≡ Ident found.0 ∷ [] = ap (λ s. s.trees) found.1.is in
     record {
@@ -199,12 +199,12 @@ goes_after_generics kind trees begins =
 -- ---- a where clause and the body
 
 -- the sign is the fields of a tuple struct, in parentheses
-abbrev pub IsTuple : Declared → Class → Type 0
+abbrev pub IsTuple : Declared → SignClass → Type 0
 IsTuple structure signs.Parentheses = Unit {0}
 IsTuple structure signs.Restriction = Unit {0}
 IsTuple kind class = ⊥
 
-clause_first : (kind : Declared) (class : Class) → (IsTuple kind class → ⊥)
+clause_first : (kind : Declared) (class : SignClass) → (IsTuple kind class → ⊥)
     → Takes (clause_place (item_of kind)) (clause_place items.Alone) (after_clause (item_of kind) class)
     (ends (at items.Alone spots.Where)) (step (at (item_of kind) spots.AfterGenerics) class)
     (step (at items.Alone spots.Where) class)
@@ -261,7 +261,7 @@ pub data LastOf (kind : Declared) (trees : List TokenTree) : Type 0 where
       → LastOf kind trees
   semicolon : classes_of (signs trees) ≡ signs.Semicolon ∷ [] → (IsBraced kind → ⊥) → LastOf kind trees
 
-abbrev EndBy : Declared → Class → Type 0
+abbrev EndBy : Declared → SignClass → Type 0
 EndBy structure signs.Braces = Unit {0}
 EndBy structure signs.Semicolon = Unit {0}
 EndBy tuple signs.Semicolon = Unit {0}
@@ -269,10 +269,10 @@ EndBy enumeration signs.Braces = Unit {0}
 EndBy union signs.Braces = Unit {0}
 EndBy kind class = ⊥
 
-abbrev IsEnd : Declared → Class → Place → Type 0
+abbrev IsEnd : Declared → SignClass → WalkState → Type 0
 IsEnd kind class next = EndBy kind class × (next ≡ at (item_of kind) spots.ItemEnd)
 
-end_by : (kind : Declared) (class : Class) (next : Place) → after_clause (item_of kind) class ≡ Some next
+end_by : (kind : Declared) (class : SignClass) (next : WalkState) → after_clause (item_of kind) class ≡ Some next
     → IsEnd kind class next
 end_by structure signs.Braces next steps = (tt, cc)
 end_by structure signs.Semicolon next steps = (tt, cc)
@@ -305,14 +305,14 @@ parenthesis_of delimiters.None f is =
 braces_end : (kind : Declared) (trees more : List TokenTree) (sign : Sign) → signs trees ≡ sign ∷ signs more
     → trees ≡ sign.trees ++ more → more ≡ [] → sign.class ≡ signs.Braces → (kind ≡ tuple → ⊥) → LastOf kind trees
 braces_end kind trees more sign read whole none is other =
-    let found = grouped trees sign (signs more) read (ap sort_of is) in
+    let found = is_group_sign trees sign (signs more) read (ap sort_of is) in
     let class : sign.class ≡ group_class found.0.delimiter found.0.stream = ap (λ s. s.class) found.1.is in
     let one : sign.trees ≡ Group found.0 ∷ [] = ap (λ s. s.trees) found.1.is in
     braces found.0 (whole ∙ ap (λ ts. ts ++ more) one ∙ ap (λ m. Group found.0 ∷ m) none)
     (brace_of found.0.delimiter found.0.stream (sym class ∙ is)) other
 
 ends_by : (kind : Declared) (trees more : List TokenTree) (sign : Sign) → signs trees ≡ sign ∷ signs more
-    → trees ≡ sign.trees ++ more → more ≡ [] → (class : Class) → sign.class ≡ class → EndBy kind class
+    → trees ≡ sign.trees ++ more → more ≡ [] → (class : SignClass) → sign.class ≡ class → EndBy kind class
     → LastOf kind trees
 ends_by structure trees more sign read whole none signs.Braces is end =
     braces_end structure trees more sign read whole none is (λ same. cc)
@@ -353,7 +353,7 @@ pub tuple_left : (g : Grouped) (rest : List TokenTree) → g.delimiter ≡ delim
     → Goes (at items.Struct spots.AfterGenerics) (Group g ∷ rest) → Goes (at items.Tuple spots.AfterGenerics) rest
 tuple_left g rest is goes =
     let start = at items.Struct spots.AfterGenerics in
-    let class : Class = group_class g.delimiter g.stream in
+    let class : SignClass = group_class g.delimiter g.stream in
     let steps : step start class ≡ Some (at items.Tuple spots.AfterGenerics) =
     ap (λ d. step start (group_class d g.stream)) is ∙ tuple_step (is_restriction g.stream) in
     let walks : walk step start (class ∷ classes_of (signs rest)) ≡ Some goes.last =
@@ -365,7 +365,7 @@ tuple_left g rest is goes =
       ended = goes.ended;
     }
 
-tuple_sort : (class : Class) → IsTuple structure class → sort_of class ≡ groups
+tuple_sort : (class : SignClass) → IsTuple structure class → sort_of class ≡ groups
 tuple_sort signs.Parentheses is = refl
 tuple_sort signs.Restriction is = refl
 tuple_sort class is = absurd is
@@ -376,7 +376,7 @@ first_is_none : (trees : List TokenTree) (all : List Sign) → signs trees ≡ a
     → NoTuple structure all
 first_is_none trees [] read other = tt
 first_is_none trees (sign ∷ all) read other = λ is.
-    let found = grouped trees sign all read (tuple_sort sign.class is) in
+    let found = is_group_sign trees sign all read (tuple_sort sign.class is) in
     let class : sign.class ≡ group_class found.0.delimiter found.0.stream = ap (λ s. s.class) found.1.is in
     other found.0 found.1.more found.1.whole
     (parenthesis_of found.0.delimiter found.0.stream (subst (IsTuple structure) class is))
@@ -458,21 +458,22 @@ pub after_name-found : (keyword name : Name) (trees rest : List TokenTree) → A
     → trees ≡ Ident name ∷ rest → AfterName keyword name rest
 after_name-found keyword name trees rest found whole =
     let named = name_of found.kind trees found.left in
-    let same : Ident named.ident ∷ named.more ≡ Ident name ∷ rest = sym named.whole ∙ whole in
-    let idents : named.ident ≡ name = cc in
-    let rests : named.more ≡ rest = cc in
+    let same : Ident is_identifier_sign.ident ∷ is_identifier_sign.more ≡ Ident name ∷ rest =
+    sym is_identifier_sign.whole ∙ whole in
+    let idents : is_identifier_sign.ident ≡ name = cc in
+    let rests : is_identifier_sign.more ≡ rest = cc in
     record {
       kind = found.kind;
       declares = found.declares;
-      is_name = subst (λ i. IsNameClass (name_class i)) idents named.is_name;
-      left = subst (Goes (at (item_of found.kind) spots.Generics)) rests named.left;
+      is_name = subst (λ i. IsNameClass (name_class i)) idents is_identifier_sign.is_name;
+      left = subst (Goes (at (item_of found.kind) spots.Generics)) rests is_identifier_sign.left;
     }
 
 pub name_stands : (keyword : Name) (trees : List TokenTree) → AfterKeyword keyword trees
     → ((ident : Name) (rest : List TokenTree) → trees ≡ Ident ident ∷ rest → ⊥) → ⊥
 name_stands keyword trees found none =
     let named = name_of found.kind trees found.left in
-    none named.ident named.more named.whole
+    none is_identifier_sign.ident is_identifier_sign.more is_identifier_sign.whole
 
 pub generics_stand : (keyword name : Name) (trees : List TokenTree) (fault : ℕ) → AfterName keyword name trees
     → FaultAt AreGenerics trees fault → ⊥
@@ -480,7 +481,7 @@ generics_stand keyword name trees fault found wrong =
     no_fault (at items.Alone spots.Generics) (after_generics (item_of found.kind)) trees fault
     (generics_cut found.kind trees found.left) wrong
 
-left_by : (class : Class) (kind : Declared) (trees : List TokenTree) → Declares class kind
+left_by : (class : SignClass) (kind : Declared) (trees : List TokenTree) → Declares class kind
     → Goes (at (item_of kind) spots.AfterGenerics) trees → IsLeft class trees
 left_by (signs.Keyword keywords.Struct) structure trees declares goes =
     reads_whole (at items.Struct spots.AfterGenerics) trees goes

@@ -2,23 +2,24 @@
 use Rattle.std.proofs.Common.{◌≡◌, refl, ap, Bool, true, false, List, Option, Some, None}
 use Rattle.declarations.specs.Grammar.{step}
 use Rattle.declarations.specs.rules.Names.{G, word}
-use Rattle.declarations.specs.declared.class.Class.{Class}
-use Rattle.declarations.specs.declared.class.Class.TheVariants as signs
+use Rattle.declarations.specs.declared.class.SignClass.{SignClass}
+use Rattle.declarations.specs.declared.class.SignClass.TheVariants as signs
 use Rattle.declarations.specs.declared.class.Keyword.TheVariants as keywords
 use Rattle.declarations.specs.declared.class.Word.TheVariants as words
-use Rattle.declarations.specs.declared.place.Front.{Front}
-use Rattle.declarations.specs.declared.place.Front.TheVariants as fronts
-use Rattle.declarations.specs.declared.place.Item.{Item}
-use Rattle.declarations.specs.declared.place.Item.TheVariants as items
-use Rattle.declarations.specs.declared.place.Rule.{Rule}
-use Rattle.declarations.specs.declared.place.Spot.{Spot}
-use Rattle.declarations.specs.declared.place.Spot.TheVariants as spots
+use Rattle.declarations.specs.declared.walk_state.Front.{Front}
+use Rattle.declarations.specs.declared.walk_state.Front.TheVariants as fronts
+use Rattle.declarations.specs.declared.walk_state.Item.{Item}
+use Rattle.declarations.specs.declared.walk_state.Item.TheVariants as items
+use Rattle.declarations.specs.declared.walk_state.Continuation.{Continuation}
+use Rattle.declarations.specs.declared.walk_state.Spot.{Spot}
+use Rattle.declarations.specs.declared.walk_state.Spot.TheVariants as spots
 use Rattle.declarations.proofs.StackLemmas.{ahead_of, before_generics, left_at}
 use Rattle.declarations.proofs.AgreeLemmas.{Agrees, at_spot}
 
 -- ---- before the names of items
 
-impl_agrees : (rule : Rule) (class : Class) → Agrees (left_at (at_spot (spots.Front fronts.Impl) items.Impl rule))
+impl_agrees : (rule : Continuation) (class : SignClass)
+    → Agrees (left_at (at_spot (spots.Front fronts.Impl) items.Impl rule))
     (step (at_spot (spots.Front fronts.Impl) items.Impl rule) class) class
 impl_agrees rule (signs.Word words.Auto) = refl
 impl_agrees rule (signs.Word _) = refl
@@ -26,7 +27,8 @@ impl_agrees rule (signs.Keyword keywords.Async) = refl
 impl_agrees rule (signs.Keyword _) = refl
 impl_agrees rule _ = refl
 
-const_agrees : (rule : Rule) (class : Class) → Agrees (left_at (at_spot (spots.Front fronts.ImplConst) items.Impl rule))
+const_agrees : (rule : Continuation) (class : SignClass)
+    → Agrees (left_at (at_spot (spots.Front fronts.ImplConst) items.Impl rule))
     (step (at_spot (spots.Front fronts.ImplConst) items.Impl rule) class) class
 const_agrees rule (signs.Word words.Auto) = refl
 const_agrees rule (signs.Word _) = refl
@@ -34,7 +36,8 @@ const_agrees rule (signs.Keyword keywords.Async) = refl
 const_agrees rule (signs.Keyword _) = refl
 const_agrees rule _ = refl
 
-not_agrees : (rule : Rule) (class : Class) → Agrees (left_at (at_spot (spots.Front fronts.ImplNot) items.Impl rule))
+not_agrees : (rule : Continuation) (class : SignClass)
+    → Agrees (left_at (at_spot (spots.Front fronts.ImplNot) items.Impl rule))
     (step (at_spot (spots.Front fronts.ImplNot) items.Impl rule) class) class
 not_agrees rule (signs.Word words.Auto) = refl
 not_agrees rule (signs.Word _) = refl
@@ -42,7 +45,7 @@ not_agrees rule (signs.Keyword keywords.Async) = refl
 not_agrees rule (signs.Keyword _) = refl
 not_agrees rule _ = refl
 
-pub front_agrees : (front : Front) (item : Item) (rule : Rule) (class : Class)
+pub front_agrees : (front : Front) (item : Item) (rule : Continuation) (class : SignClass)
     → Agrees (left_at (at_spot (spots.Front front) item rule))
     (step (at_spot (spots.Front front) item rule) class) class
 front_agrees fronts.Impl items.Impl rule class = impl_agrees rule class
@@ -62,7 +65,7 @@ front_agrees _ item rule _ = refl
 
 -- ---- generic parameters and where clauses
 
-pub closing_agrees : (item : Item) (rule : Rule) (class : Class)
+pub closing_agrees : (item : Item) (rule : Continuation) (class : SignClass)
     → Agrees (left_at (at_spot spots.AfterGenerics item rule))
     (step (at_spot spots.AfterGenerics item rule) class) class
 closing_agrees items.Alone rule (signs.Word words.Auto) = refl
@@ -72,7 +75,7 @@ closing_agrees _ rule (signs.Keyword keywords.Async) = refl
 closing_agrees _ rule (signs.Keyword _) = refl
 closing_agrees _ rule _ = refl
 
-pub predicate_agrees : (item : Item) (rule : Rule) (class : Class)
+pub predicate_agrees : (item : Item) (rule : Continuation) (class : SignClass)
     → Agrees (left_at (at_spot spots.Predicate item rule)) (step (at_spot spots.Predicate item rule) class) class
 predicate_agrees items.Alone rule (signs.Word words.Auto) = refl
 predicate_agrees _ rule (signs.Word words.Auto) = refl
@@ -81,7 +84,7 @@ predicate_agrees _ rule (signs.Keyword keywords.Async) = refl
 predicate_agrees _ rule (signs.Keyword _) = refl
 predicate_agrees _ rule _ = refl
 
-pub generics_agrees : (item : Item) (rule : Rule) (class : Class)
+pub generics_agrees : (item : Item) (rule : Continuation) (class : SignClass)
     → Agrees (left_at (at_spot spots.Generics item rule)) (step (at_spot spots.Generics item rule) class) class
 generics_agrees items.Variants rule class = refl
 generics_agrees items.Tuple rule class = refl
@@ -103,11 +106,11 @@ generics_agrees _ rule (signs.Keyword keywords.Async) = refl
 generics_agrees _ rule (signs.Keyword _) = refl
 generics_agrees _ rule _ = refl
 
-pub name_agrees : (item : Item) (rule : Rule) (class : Class)
+pub name_agrees : (item : Item) (rule : Continuation) (class : SignClass)
     → Agrees (left_at (at_spot spots.Name item rule)) (step (at_spot spots.Name item rule) class) class
 name_agrees item rule class = go class (before_generics item) refl
   where
-    go : (class : Class) (o : Option (List G)) → before_generics item ≡ o
+    go : (class : SignClass) (o : Option (List G)) → before_generics item ≡ o
         → Agrees (ahead_of word o) (step (at_spot spots.Name item rule) class) class
     go class None e = refl
     go (signs.Word _) (Some k) e = ap Some e
@@ -115,7 +118,7 @@ name_agrees item rule class = go class (before_generics item) refl
     go (signs.Keyword _) (Some k) e = refl
     go _ (Some k) e = refl
 
-pub where_agrees : (rule : Rule) (class : Class) → Agrees (left_at (at_spot spots.Where items.Alone rule))
+pub where_agrees : (rule : Continuation) (class : SignClass) → Agrees (left_at (at_spot spots.Where items.Alone rule))
     (step (at_spot spots.Where items.Alone rule) class) class
 where_agrees rule (signs.Word words.Auto) = refl
 where_agrees rule (signs.Word _) = refl
@@ -159,7 +162,7 @@ abbrev pub item_in : Bool → Item
 item_in true = items.Variants
 item_in false = items.Alone
 
-pub discriminant_agrees : (spot : Discriminant) (listed : Bool) (rule : Rule) (class : Class)
+pub discriminant_agrees : (spot : Discriminant) (listed : Bool) (rule : Continuation) (class : SignClass)
     → Agrees (left_at (at_spot (spot_in spot) (item_in listed) rule))
     (step (at_spot (spot_in spot) (item_in listed) rule) class) class
 discriminant_agrees VariantName true rule (signs.Word words.Auto) = refl

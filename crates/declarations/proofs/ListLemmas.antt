@@ -7,7 +7,7 @@ use Rattle.pm_span.specs.Extent.{Extent}
 use Rattle.pm_token.specs.Leaf.{Mark}
 use Rattle.pm_stream.specs.declared.stream.TokenTree.{TokenTree}
 use Rattle.pm_stream.specs.declared.stream.TokenTree.TheVariants.{Group, Ident, Punct, Literal}
-use Rattle.declarations.proofs.SignLemmas.{paired, signs-cons}
+use Rattle.declarations.proofs.SignLemmas.{pair_signs, signs-cons}
 use Rattle.declarations.specs.Fault.{extent_at, first_extent}
 use Rattle.declarations.specs.Forms.{IsFrom, start}
 use Rattle.declarations.specs.Grammar.{step, ends}
@@ -16,14 +16,14 @@ use Rattle.declarations.specs.Reading.{Reads}
 use Rattle.declarations.specs.Signs.{Sign, signs, classes_of, trees_of, tree_class, pair_class}
 use Rattle.declarations.specs.Variant.{IsVariantAt}
 use Rattle.declarations.specs.Walk.{walk}
-use Rattle.declarations.specs.declared.class.Class.{Class}
+use Rattle.declarations.specs.declared.class.SignClass.{SignClass}
 use Rattle.declarations.specs.declared.fault.Fault.{Fault}
 use Rattle.declarations.specs.declared.field.Field.{Field}
-use Rattle.declarations.specs.declared.place.Part.TheVariants as parts
-use Rattle.declarations.specs.declared.place.Place.{Place}
-use Rattle.declarations.specs.declared.place.Rule.TheVariants as rules
-use Rattle.declarations.specs.declared.place.Spot.TheVariants as spots
-use Rattle.declarations.specs.declared.place.State.TheVariants as states
+use Rattle.declarations.specs.declared.walk_state.Part.TheVariants as parts
+use Rattle.declarations.specs.declared.walk_state.WalkState.{WalkState}
+use Rattle.declarations.specs.declared.walk_state.Continuation.TheVariants as rules
+use Rattle.declarations.specs.declared.walk_state.Spot.TheVariants as spots
+use Rattle.declarations.specs.declared.walk_state.State.TheVariants as states
 use Rattle.declarations.specs.declared.variant.Variant.{Variant}
 
 -- ---- a comma
@@ -53,7 +53,7 @@ first_some (first ∷ []) sign after read =
     let is : one ≡ sign = cc in
     subst (λ s. 0 < length s.trees) is (omega arith)
 first_some (first ∷ second ∷ rest) sign after read =
-    elim (pair_class first second) as (λ o. paired o first second rest ≡ sign ∷ after → 0 < length sign.trees) [
+    elim (pair_class first second) as (λ o. pair_signs o first second rest ≡ sign ∷ after → 0 < length sign.trees) [
       | None ↦ λ h.
           let one : Sign = record { class = tree_class first; trees = first ∷ [] } in
           let is : one ≡ sign = cc in
@@ -64,7 +64,7 @@ first_some (first ∷ second ∷ rest) sign after read =
           subst (λ s. 0 < length s.trees) is (omega arith)
     ] (sym (signs-cons first second rest) ∙ read)
 
-piece_some : (start : Place) (trees rest : List TokenTree) (piece : List Sign) (last : Place)
+piece_some : (start : WalkState) (trees rest : List TokenTree) (piece : List Sign) (last : WalkState)
     → signs trees ≡ piece ++ signs rest → walk step start (classes_of piece) ≡ Some last → ends last ≡ true
     → ends start ≡ false → 0 < length (trees_of piece)
 piece_some start trees rest [] last read walks ended unended =
@@ -78,7 +78,7 @@ piece_some start trees rest (sign ∷ piece) last read walks ended unended =
     omega arith
 
 -- what is read from a state in which nothing may end has at least one tree
-pub reads_fewer : (start : Place) (trees part rest : List TokenTree) → ends start ≡ false
+pub reads_fewer : (start : WalkState) (trees part rest : List TokenTree) → ends start ≡ false
     → Reads (IsFrom start) trees part rest → length rest < length trees
 reads_fewer start trees part rest unended reads =
     let some = piece_some start trees rest reads.piece reads.stands.last reads.read reads.stands.walks
@@ -116,7 +116,7 @@ part_span trees part rest at span whole counted first =
     first ∙ ap first_extent (sym (drop-append_seam part rest) ∙ ap (λ n. drop n (part ++ rest)) (sym counted)
     ∙ ap (drop at) (sym whole))
 
-pub lacks_comma : (form : List Class → List Class → Type 0) (trees part rest : List TokenTree) (fault : Fault)
+pub lacks_comma : (form : List SignClass → List SignClass → Type 0) (trees part rest : List TokenTree) (fault : Fault)
     → Reads form trees part rest → ((left : List TokenTree) → IsPastComma rest left → ⊥)
     → fault.at ≡ length trees - length rest → fault.span ≡ first_extent rest → IsListFault form trees fault
 lacks_comma form trees part rest fault reads none at span =
@@ -127,7 +127,7 @@ lacks_comma form trees part rest fault reads none at span =
       span = part_span trees part rest fault.at fault.span reads.whole counted span;
     }
 
-pub rest_within : (form : List Class → List Class → Type 0) (trees part rest : List TokenTree)
+pub rest_within : (form : List SignClass → List SignClass → Type 0) (trees part rest : List TokenTree)
     → Reads form trees part rest → length rest ≤ length trees
 rest_within form trees part rest reads =
     let all = ap length reads.whole ∙ length-append part rest in

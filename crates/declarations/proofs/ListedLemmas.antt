@@ -11,8 +11,8 @@ use Rattle.declarations.specs.Parameter.{LeadsTo}
 use Rattle.declarations.specs.Reader.{Finds, Sticks, classes_in}
 use Rattle.declarations.specs.Signs.{BeginsWith}
 use Rattle.declarations.specs.TypePath.{IsElement}
-use Rattle.declarations.specs.declared.class.Class.{Class}
-use Rattle.declarations.specs.declared.class.Class.TheVariants as signs
+use Rattle.declarations.specs.declared.class.SignClass.{SignClass}
+use Rattle.declarations.specs.declared.class.SignClass.TheVariants as signs
 use Rattle.declarations.specs.rules.Classes.{is}
 use Rattle.declarations.specs.rules.Names.{G, Rest, comma, one}
 use Rattle.declarations.specs.rules.Paths as rule
@@ -23,7 +23,7 @@ use Rattle.declarations.proofs.ReaderLemmas.{remains_within, sign_finds, stays}
 
 -- ---- any list
 
-heads_listed : (a s : G) (cs : List Class) → heads (Listed a s) cs ≡ heads a cs
+heads_listed : (a s : G) (cs : List SignClass) → heads (Listed a s) cs ≡ heads a cs
 heads_listed a s [] = refl
 heads_listed a s (c ∷ cs) = refl
 
@@ -84,7 +84,7 @@ module _ (trees mid : List TokenTree) (has : Bool) (h : has ≡ heads rule.gener
     after_argument : LeadsTo rule.generic_arguments trees more mid
     after_argument = element_leads rule.generic_argument comma trees mid argument_heads f
 
-    pub comma_leads : (rest : List TokenTree) (class : Class) → BeginsWith mid class rest
+    pub comma_leads : (rest : List TokenTree) (class : SignClass) → BeginsWith mid class rest
         → is signs.Comma class ≡ true
         → LeadsTo rule.generic_arguments trees rule.generic_arguments rest
     comma_leads rest class b e =
@@ -92,14 +92,14 @@ module _ (trees mid : List TokenTree) (has : Bool) (h : has ≡ heads rule.gener
         (further_leads rule.generic_argument comma mid rest (heads_sign comma mid rest class b ∙ e)
         (mark_finds Rest (one signs.Comma) mid rest (sign_finds (is signs.Comma) mid rest class b e)))
 
-    pub comma_fewer : (rest : List TokenTree) (class : Class) → BeginsWith mid class rest
+    pub comma_fewer : (rest : List TokenTree) (class : SignClass) → BeginsWith mid class rest
         → length rest < length trees
     comma_fewer rest class b =
         let within = remains_within trees mid f.remains in
         let fewer = b.fewer in
         omega (arith, within, fewer)
 
-    pub no_comma : (rest : List TokenTree) (class : Class) → BeginsWith mid class rest
+    pub no_comma : (rest : List TokenTree) (class : SignClass) → BeginsWith mid class rest
         → is signs.Comma class ≡ false
         → Finds rule.generic_arguments trees mid
     no_comma rest class b e =

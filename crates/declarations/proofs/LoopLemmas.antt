@@ -3,14 +3,14 @@ use Rattle.std.proofs.Common.{◌≡◌, refl, sym, ◌∙◌, ap, subst, ℕ, �
 use Rattle.std.proofs.Common.{[], ◌∷◌, ◌++◌, Some, None, arith, if◌then◌else◌}
 use Rattle.std.proofs.lemmas.Bool.{both_ways}
 use Rattle.grammars.specs.Grammar.{Grammar, Many, Event}
-use Rattle.grammars.specs.Machine.{Step, closing, ends, step}
+use Rattle.grammars.specs.Machine.{Transition, closing, ends, step}
 use Rattle.grammars.specs.First.{heads}
 use Rattle.grammars.specs.Find.{Found, Past, Stuck, and_then, find, front, scan}
 use Rattle.grammars.proofs.FindLemmas.{front_front, scan_step}
 use Rattle.grammars.proofs.WordLemmas.{find_more, find_skips, into_some}
 use Rattle.pm_stream.specs.declared.stream.TokenTree.{TokenTree}
 use Rattle.declarations.specs.Reader.{Finds, Remains, Sticks, classes_in}
-use Rattle.declarations.specs.declared.class.Class.{Class}
+use Rattle.declarations.specs.declared.class.SignClass.{SignClass}
 use Rattle.declarations.specs.rules.Names.{G, Label}
 use Rattle.declarations.specs.rules.Rules.{rules}
 use Rattle.declarations.proofs.ReaderLemmas.{remains_on, remains_self}
@@ -39,7 +39,7 @@ scan_fits {C = C} {N = N} {L = L} rules k (c ∷ signs) = go (step rules k c) (�
     stop true = omega arith
     stop false = omega arith
 
-    go : (s : Step C N L) → ((j : List (Grammar C N L)) → Fits (length signs) (scan rules j signs))
+    go : (s : Transition C N L) → ((j : List (Grammar C N L)) → Fits (length signs) (scan rules j signs))
         → Fits (length (c ∷ signs)) (elim s as (λ x. Found C L) [
           | None ↦ if ends k then Past (closing k) (c ∷ signs) else Stuck (c ∷ signs)
           | Some taken ↦ front taken.0 (scan rules taken.1 signs)
@@ -47,7 +47,7 @@ scan_fits {C = C} {N = N} {L = L} rules k (c ∷ signs) = go (step rules k c) (�
     go None f = stop (ends k)
     go (Some t) f = fits_front (length signs) (length (c ∷ signs)) t.0 (scan rules t.1 signs) (omega arith) (f t.1)
 
-fewer_signs : (g : G) (left next : List Class) (events : List (Event Class Label)) → heads g left ≡ true
+fewer_signs : (g : G) (left next : List SignClass) (events : List (Event SignClass Label)) → heads g left ≡ true
     → find rules g left ≡ Past events next
     → length next < length left
 unfolding find
@@ -70,7 +70,7 @@ fewer g left next h f = fewer_signs g (classes_in left) (classes_in next) f.even
 
 -- what the rule finds in the trees is what comes before the left trees, and then what it finds in them
 pub record Leads (g : G) (trees left : List TokenTree) : Type 0 where
-  pub events : List (Event Class Label)
+  pub events : List (Event SignClass Label)
   pub found : find rules g (classes_in trees) ≡ front events (find rules g (classes_in left))
   pub remains : Remains left trees
 
@@ -78,7 +78,7 @@ pub leads_start : (g : G) (trees : List TokenTree) → Leads g trees trees
 leads_start g trees =
     record { events = []; found = go (find rules g (classes_in trees)); remains = remains_self trees }
   where
-    go : (f : Found Class Label) → f ≡ front [] f
+    go : (f : Found SignClass Label) → f ≡ front [] f
     go (Past e r) = refl
     go (Stuck l) = refl
 
@@ -94,7 +94,7 @@ leads_more a trees left next x h p = record {
   remains = remains_on trees left next x.remains p.remains;
 }
 
-heads_many : (a : G) (cs : List Class) → heads (Many a) cs ≡ heads a cs
+heads_many : (a : G) (cs : List SignClass) → heads (Many a) cs ≡ heads a cs
 heads_many a [] = refl
 heads_many a (c ∷ cs) = refl
 

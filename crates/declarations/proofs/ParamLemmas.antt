@@ -17,15 +17,15 @@ use Rattle.declarations.specs.Param.{negative, of_type}
 use Rattle.declarations.specs.Reading.{Reads, FaultAt}
 use Rattle.declarations.specs.Signs.{BeginsWith, Sign, signs, classes_of, trees_of}
 use Rattle.declarations.specs.Walk.{walk}
-use Rattle.declarations.specs.declared.class.Class.{Class}
-use Rattle.declarations.specs.declared.class.Class.TheVariants as classes
+use Rattle.declarations.specs.declared.class.SignClass.{SignClass}
+use Rattle.declarations.specs.declared.class.SignClass.TheVariants as classes
 use Rattle.declarations.specs.declared.class.Keyword.TheVariants as keywords
 use Rattle.declarations.specs.declared.generics.ParamKind.{ParamKind}
 use Rattle.declarations.specs.declared.generics.ParamKind.TheVariants as kinds
-use Rattle.declarations.specs.declared.place.Item.TheVariants as items
-use Rattle.declarations.specs.declared.place.Place.{Place}
-use Rattle.declarations.specs.declared.place.Rule.TheVariants as rules
-use Rattle.declarations.specs.declared.place.State.TheVariants as states
+use Rattle.declarations.specs.declared.walk_state.Item.TheVariants as items
+use Rattle.declarations.specs.declared.walk_state.WalkState.{WalkState}
+use Rattle.declarations.specs.declared.walk_state.Continuation.TheVariants as rules
+use Rattle.declarations.specs.declared.walk_state.State.TheVariants as states
 use Rattle.declarations.specs.declared.types.TypeState.TheVariants as types
 
 -- ---- at most one part can be read
@@ -36,10 +36,10 @@ IsOne form =
     (trees part rest part2 rest2 : List TokenTree) → form trees part rest → form trees part2 rest2
     → (part2 ≡ part) × (rest2 ≡ rest)
 
-pub one_reading : (start : Place) → IsOne (Reads (IsFrom start))
+pub one_reading : (start : WalkState) → IsOne (Reads (IsFrom start))
 one_reading start trees part rest part2 rest2 here there = split_only start trees part rest here part2 rest2 there
 
-pub same_class : (trees : List TokenTree) (class class2 : Class) (rest rest2 : List TokenTree)
+pub same_class : (trees : List TokenTree) (class class2 : SignClass) (rest rest2 : List TokenTree)
     → BeginsWith trees class rest → BeginsWith trees class2 rest2 → class2 ≡ class
 same_class trees class class2 rest rest2 here there =
     let one : Sign = record { class = class; trees = here.front } in
@@ -48,7 +48,7 @@ same_class trees class class2 rest rest2 here there =
     let same : two ≡ one = cc in
     ap (λ s. s.class) same
 
-pub same_rest : (trees : List TokenTree) (class class2 : Class) (rest rest2 : List TokenTree)
+pub same_rest : (trees : List TokenTree) (class class2 : SignClass) (rest rest2 : List TokenTree)
     → BeginsWith trees class rest → BeginsWith trees class2 rest2 → rest2 ≡ rest
 same_rest trees class class2 rest rest2 here there =
     let one : Sign = record { class = class; trees = here.front } in
@@ -64,7 +64,7 @@ same_part : (trees part rest part2 rest2 : List TokenTree) → trees ≡ part ++
 same_part trees part rest part2 rest2 here there same =
     append_cancel_right part2 part rest (ap (λ r. part2 ++ r) (sym same) ∙ sym there ∙ here)
 
-pub one_named : (class : Class) → IsOne (HasSign class)
+pub one_named : (class : SignClass) → IsOne (HasSign class)
 one_named class trees part rest part2 rest2 here there =
     let rests = same_rest trees class class rest rest2 here.begins there.begins in
     (same_part trees part rest part2 rest2 here.whole there.whole rests, rests)
@@ -75,13 +75,13 @@ one_word trees part rest part2 rest2 here there =
     there.sign.begins in
     (same_part trees part rest part2 rest2 here.sign.whole there.sign.whole rests, rests)
 
-pub one_must : (led : Class) (form : List TokenTree → List TokenTree → List TokenTree → Type 0) → IsOne form
+pub one_must : (led : SignClass) (form : List TokenTree → List TokenTree → List TokenTree → Type 0) → IsOne form
     → IsOne (MustHave led form)
 one_must led form one trees part rest part2 rest2 here there =
     let lefts = same_rest trees led led here.left there.left here.begins there.begins in
     one here.left part rest part2 rest2 here.reads (subst (λ left. form left part2 rest2) lefts there.reads)
 
-pub one_may : (led : Class) (form : List TokenTree → List TokenTree → List TokenTree → Type 0) → IsOne form
+pub one_may : (led : SignClass) (form : List TokenTree → List TokenTree → List TokenTree → Type 0) → IsOne form
     → IsOne (MayHave led form)
 one_may led form one trees part rest part2 rest2 (stands left begins reads) (stands left2 begins2 reads2) =
     let lefts = same_rest trees led led left left2 begins begins2 in
@@ -94,77 +94,77 @@ one_may led form one trees part rest part2 rest2 (left_out none empty all) (left
     (empty2 ∙ sym empty, all2 ∙ sym all)
 
 -- trees that begin with a sign are not empty
-begun : (trees : List TokenTree) (class : Class) (rest : List TokenTree) → BeginsWith trees class rest
+begins_tree : (trees : List TokenTree) (class : SignClass) (rest : List TokenTree) → BeginsWith trees class rest
     → trees ≡ [] → ⊥
-begun trees class rest begins none =
+begins_tree trees class rest begins none =
     let count : length trees ≡ 0 = ap length none in
     let fewer : length rest < length trees = begins.fewer in
     omega arith
 
-pub no_sign : (class : Class) (trees : List TokenTree) → trees ≡ [] → HasNo class trees
-no_sign class trees none rest begins = begun trees class rest begins none
+pub no_sign : (class : SignClass) (trees : List TokenTree) → trees ≡ [] → HasNo class trees
+no_sign class trees none rest begins = begins_tree trees class rest begins none
 
 pub one_end : (trees rest rest2 : List TokenTree) → EndsElement trees rest → EndsElement trees rest2 → rest2 ≡ rest
 one_end trees rest rest2 (comma begins) (comma begins2) =
     same_rest trees classes.Comma classes.Comma rest rest2 begins begins2
-one_end trees rest rest2 (comma begins) (last none left) = absurd (begun trees classes.Comma rest begins none)
-one_end trees rest rest2 (last none left) (comma begins) = absurd (begun trees classes.Comma rest2 begins none)
+one_end trees rest rest2 (comma begins) (last none left) = absurd (begins_tree trees classes.Comma rest begins none)
+one_end trees rest rest2 (last none left) (comma begins) = absurd (begins_tree trees classes.Comma rest2 begins none)
 one_end trees rest rest2 (last none left) (last none2 left2) = left2 ∙ sym left
 
 -- ---- defaults of constants
 
-abbrev wanted : Place
-wanted = record { item = items.Alone; rule = rules.Alone; state = states.Range types.Wanted; depth = 0 }
+abbrev type_start : WalkState
+type_start = record { item = items.Alone; rule = rules.Alone; state = states.Range types.Wanted; depth = 0 }
 
 -- no type begins with this sign
-abbrev BeginsNone : Class → Type 0
+abbrev BeginsNone : SignClass → Type 0
 BeginsNone classes.Literal = Unit {0}
 BeginsNone classes.Braces = Unit {0}
 BeginsNone classes.Truth = Unit {0}
 BeginsNone classes.Minus = Unit {0}
 BeginsNone _ = ⊥
 
-no_step : (class : Class) → BeginsNone class → step wanted class ≡ None
+no_step : (class : SignClass) → BeginsNone class → step type_start class ≡ None
 no_step classes.Literal none = refl
 no_step classes.Braces none = refl
 no_step classes.Truth none = refl
 no_step classes.Minus none = refl
 no_step class none = absurd none
 
-constant_begins : (class : Class) → is_constant class ≡ true → BeginsNone class
+constant_begins : (class : SignClass) → is_constant class ≡ true → BeginsNone class
 constant_begins classes.Literal is = tt
 constant_begins classes.Braces is = tt
 constant_begins classes.Truth is = tt
 constant_begins class is = cc
 
-no_walk : (class : Class) (piece : List Class) (end : Place) → BeginsNone class
-    → walk step wanted (class ∷ piece) ≡ Some end → ⊥
+no_walk : (class : SignClass) (piece : List SignClass) (end : WalkState) → BeginsNone class
+    → walk step type_start (class ∷ piece) ≡ Some end → ⊥
 no_walk class piece end none walks =
-    let here : walk step wanted (class ∷ piece) ≡ None =
-    walk-cons step wanted class piece ∙ ap (λ o. after step o piece) (no_step class none) in
+    let here : walk step type_start (class ∷ piece) ≡ None =
+    walk-cons step type_start class piece ∙ ap (λ o. after step o piece) (no_step class none) in
     cc
 
-no_type_by : (piece : List Sign) (class : Class) (front : List TokenTree) (left rest : List TokenTree)
-    (end : Place) → BeginsNone class
+no_type_by : (piece : List Sign) (class : SignClass) (front : List TokenTree) (left rest : List TokenTree)
+    (end : WalkState) → BeginsNone class
     → record { class = class; trees = front } ∷ signs left ≡ piece ++ signs rest
-    → walk step wanted (classes_of piece) ≡ Some end → ends end ≡ true → ⊥
+    → walk step type_start (classes_of piece) ≡ Some end → ends end ≡ true → ⊥
 no_type_by [] class front left rest end none read walks ended =
-    let same : wanted ≡ end = cc in
-    let wrong : ends wanted ≡ true = ap ends same ∙ ended in
+    let same : type_start ≡ end = cc in
+    let wrong : ends type_start ≡ true = ap ends same ∙ ended in
     cc
 no_type_by (sign ∷ piece) class front left rest end none read walks ended =
     let first : record { class = class; trees = front } ≡ sign = cc in
     let is : class ≡ sign.class = ap (λ s. s.class) first in
     no_walk class (classes_of piece) end none
-    (ap (λ k. walk step wanted (k ∷ classes_of piece)) is ∙ walks)
+    (ap (λ k. walk step type_start (k ∷ classes_of piece)) is ∙ walks)
 
-no_type : (trees part rest left : List TokenTree) (class : Class) → BeginsNone class
+no_type : (trees part rest left : List TokenTree) (class : SignClass) → BeginsNone class
     → BeginsWith trees class left → Reads IsType trees part rest → ⊥
 no_type trees part rest left class none begins reads =
     no_type_by reads.piece class begins.front left rest reads.stands.last none (sym begins.read ∙ reads.read)
     reads.stands.walks reads.stands.ended
 
-minus_alone : (class : Class) → is_constant class ≡ true → classes.Minus ≡ class → ⊥
+minus_alone : (class : SignClass) → is_constant class ≡ true → classes.Minus ≡ class → ⊥
 minus_alone class is same =
     let wrong : is_constant classes.Minus ≡ true = ap is_constant same ∙ is in
     cc
@@ -191,7 +191,7 @@ one_constant trees part rest part2 rest2 (of_type reads) (one_sign class is sign
 one_constant trees part rest part2 rest2 (of_type reads) (negative left begins number whole) =
     absurd (no_type trees part rest left classes.Minus tt begins reads)
 one_constant trees part rest part2 rest2 (of_type reads) (of_type reads2) =
-    one_reading wanted trees part rest part2 rest2 reads reads2
+    one_reading type_start trees part rest part2 rest2 reads reads2
 
 -- ---- parameters and predicates
 
@@ -310,8 +310,8 @@ pub record Defaulted (trees : List TokenTree) (param : ParamTrees) (from_end : L
   pub bounded : Bounded trees param.attributes param.kind param.name param.bounds from_default
   pub default_read : HasDefault param.kind from_default param.default from_end
 
-abbrev made : List TokenTree → ParamKind → List TokenTree → List TokenTree → List TokenTree → ParamTrees
-made attributes kind name bounds default = record {
+abbrev make_param : List TokenTree → ParamKind → List TokenTree → List TokenTree → List TokenTree → ParamTrees
+make_param attributes kind name bounds default = record {
   attributes = attributes;
   kind = kind;
   name = name;
@@ -330,11 +330,11 @@ from_end_same trees param from_end so_far param2 rest is =
     (subst (λ k. HasDefault k is.from_default param2.default is.from_end) first.kind_same is.default) in
     let second = one_default param.kind so_far.from_default param.default from_end param2.default is.from_end
     so_far.default_read here in (
-      ap (λ x. made x param2.kind param2.name param2.bounds param2.default) first.attributes_same
-          ∙ ap (λ x. made param.attributes x param2.name param2.bounds param2.default) first.kind_same
-          ∙ ap (λ x. made param.attributes param.kind x param2.bounds param2.default) first.name_same
-          ∙ ap (λ x. made param.attributes param.kind param.name x param2.default) first.bounds_same
-          ∙ ap (λ x. made param.attributes param.kind param.name param.bounds x) second.0,
+      ap (λ x. make_param x param2.kind param2.name param2.bounds param2.default) first.attributes_same
+          ∙ ap (λ x. make_param param.attributes x param2.name param2.bounds param2.default) first.kind_same
+          ∙ ap (λ x. make_param param.attributes param.kind x param2.bounds param2.default) first.name_same
+          ∙ ap (λ x. make_param param.attributes param.kind param.name x param2.default) first.bounds_same
+          ∙ ap (λ x. make_param param.attributes param.kind param.name param.bounds x) second.0,
       second.1,
     )
 
@@ -352,9 +352,9 @@ param_at trees param from_end rest so_far ends = record {
   ends = ends;
 }
 
-pub defaulted : (trees : List TokenTree) (param : ParamTrees) (rest : List TokenTree)
+pub default_splits : (trees : List TokenTree) (param : ParamTrees) (rest : List TokenTree)
     → (is : IsParamAt trees param rest) → Defaulted trees param is.from_end
-defaulted trees param rest is = record {
+default_splits trees param rest is = record {
   from_default = is.from_default;
   bounded = record {
     from_bounds = is.from_bounds;
@@ -368,7 +368,7 @@ pub one_param : (trees : List TokenTree) (param : ParamTrees) (rest : List Token
     → (param2 : ParamTrees) (rest2 : List TokenTree) → IsParamAt trees param2 rest2
     → (param2 ≡ param) × (rest2 ≡ rest)
 one_param trees param rest is param2 rest2 is2 =
-    let same = from_end_same trees param is.from_end (defaulted trees param rest is) param2 rest2 is2 in
+    let same = from_end_same trees param is.from_end (default_splits trees param rest is) param2 rest2 is2 in
     (same.0, one_end is.from_end rest rest2 is.ends (subst (λ t. EndsElement t rest2) same.1 is2.ends))
 
 pub one_predicate : (trees : List TokenTree) (predicate : PredicateTrees) (rest : List TokenTree)
@@ -399,11 +399,11 @@ back_more trees middle left outer inner = (
   outer.1 ∙ ap (λ t. outer.0 ++ t) inner.1 ∙ sym (append_assoc outer.0 inner.0 left),
 )
 
-pub back_sign : (trees : List TokenTree) (class : Class) (rest : List TokenTree) → BeginsWith trees class rest
+pub back_sign : (trees : List TokenTree) (class : SignClass) (rest : List TokenTree) → BeginsWith trees class rest
     → IsBack rest trees
 back_sign trees class rest begins = (begins.front, begins.whole)
 
-pub back_reads : (start : Place) (trees part rest : List TokenTree) → Reads (IsFrom start) trees part rest
+pub back_reads : (start : WalkState) (trees part rest : List TokenTree) → Reads (IsFrom start) trees part rest
     → IsBack rest trees
 back_reads start trees part rest reads = (part, reads.whole)
 
@@ -415,14 +415,14 @@ back_name kinds.Const trees name rest has =
     back_more trees has.left rest (back_sign trees (classes.Keyword keywords.Const) has.left has.begins)
     (name, has.reads.sign.whole)
 
-back_may : (led : Class) (form : List TokenTree → List TokenTree → List TokenTree → Type 0)
+back_may : (led : SignClass) (form : List TokenTree → List TokenTree → List TokenTree → Type 0)
     → ((trees part rest : List TokenTree) → form trees part rest → IsBack rest trees)
     → (trees part rest : List TokenTree) → MayHave led form trees part rest → IsBack rest trees
 back_may led form backs trees part rest (stands left begins reads) =
     back_more trees left rest (back_sign trees led left begins) (backs left part rest reads)
 back_may led form backs trees part rest (left_out none empty all) = ([], sym all)
 
-back_must : (led : Class) (form : List TokenTree → List TokenTree → List TokenTree → Type 0)
+back_must : (led : SignClass) (form : List TokenTree → List TokenTree → List TokenTree → Type 0)
     → ((trees part rest : List TokenTree) → form trees part rest → IsBack rest trees)
     → (trees part rest : List TokenTree) → MustHave led form trees part rest → IsBack rest trees
 back_must led form backs trees part rest has =
@@ -477,7 +477,7 @@ back_fewer trees left back =
     let sum = ap length back.1 ∙ length-append back.0 left in
     omega arith
 
-pub fault_within : (form : List Class → List Class → Type 0) (trees : List TokenTree) (at : ℕ)
+pub fault_within : (form : List SignClass → List SignClass → Type 0) (trees : List TokenTree) (at : ℕ)
     → FaultAt form trees at → at ≤ length trees
 fault_within form trees at fault =
     let sum = ap length fault.whole ∙ length-append (trees_of fault.front) fault.left in
@@ -486,7 +486,7 @@ fault_within form trees at fault =
 
 -- ---- parts that may be left out, and the ends of elements
 
-may_none : (led : Class) (form : List TokenTree → List TokenTree → List TokenTree → Type 0)
+may_none : (led : SignClass) (form : List TokenTree → List TokenTree → List TokenTree → Type 0)
     (trees left fault part rest : List TokenTree) → BeginsWith trees led left → Fails form left fault
     → MayHave led form trees part rest → ⊥
 may_none led form trees left fault part rest begins fails (stands left2 begins2 reads) =
@@ -494,7 +494,7 @@ may_none led form trees left fault part rest begins fails (stands left2 begins2 
 may_none led form trees left fault part rest begins fails (left_out none empty all) = none left begins
 
 -- if the mark is there and the form fails after it, then the whole fails there
-may_fails : (led : Class) (form : List TokenTree → List TokenTree → List TokenTree → Type 0)
+may_fails : (led : SignClass) (form : List TokenTree → List TokenTree → List TokenTree → Type 0)
     (trees left fault : List TokenTree) → BeginsWith trees led left → Fails form left fault
     → Fails (MayHave led form) trees fault
 may_fails led form trees left fault begins fails = record {
@@ -502,7 +502,7 @@ may_fails led form trees left fault begins fails = record {
   nothing = λ part rest has. may_none led form trees left fault part rest begins fails has;
 }
 
-must_fails : (led : Class) (form : List TokenTree → List TokenTree → List TokenTree → Type 0)
+must_fails : (led : SignClass) (form : List TokenTree → List TokenTree → List TokenTree → Type 0)
     (trees left fault : List TokenTree) → BeginsWith trees led left → Fails form left fault
     → Fails (MustHave led form) trees fault
 must_fails led form trees left fault begins fails = record {
@@ -512,7 +512,7 @@ must_fails led form trees left fault begins fails = record {
       (subst (λ t. form t part rest) (same_rest trees led led left has.left begins has.begins) has.reads);
 }
 
-pub must_none : (led : Class) (form : List TokenTree → List TokenTree → List TokenTree → Type 0)
+pub must_none : (led : SignClass) (form : List TokenTree → List TokenTree → List TokenTree → Type 0)
     (trees : List TokenTree) → HasNo led trees → Fails (MustHave led form) trees trees
 must_none led form trees none = record {
   back = back_here trees;
@@ -521,7 +521,7 @@ must_none led form trees none = record {
 
 -- a result of the form after its mark is a result of the mark and the form
 pub may_found : {T E : Type 0} → (r : Result T E) (part rest : T → List TokenTree) (fault : E → List TokenTree)
-    (led : Class) (form : List TokenTree → List TokenTree → List TokenTree → Type 0) (trees left : List TokenTree)
+    (led : SignClass) (form : List TokenTree → List TokenTree → List TokenTree → Type 0) (trees left : List TokenTree)
     → BeginsWith trees led left → MatchResult r (λ f. form left (part f) (rest f)) (λ e. Fails form left (fault e))
     → MatchResult r (λ f. MayHave led form trees (part f) (rest f)) (λ e. Fails (MayHave led form) trees (fault e))
 may_found (Ok f) part rest fault led form trees left begins reads = stands left begins reads
@@ -529,7 +529,7 @@ may_found (Err e) part rest fault led form trees left begins fails =
     may_fails led form trees left (fault e) begins fails
 
 pub must_found : {T E : Type 0} → (r : Result T E) (part rest : T → List TokenTree) (fault : E → List TokenTree)
-    (led : Class) (form : List TokenTree → List TokenTree → List TokenTree → Type 0) (trees left : List TokenTree)
+    (led : SignClass) (form : List TokenTree → List TokenTree → List TokenTree → Type 0) (trees left : List TokenTree)
     → BeginsWith trees led left → MatchResult r (λ f. form left (part f) (rest f)) (λ e. Fails form left (fault e))
     → MatchResult r (λ f. MustHave led form trees (part f) (rest f)) (λ e. Fails (MustHave led form) trees (fault e))
 must_found (Ok f) part rest fault led form trees left begins reads =
@@ -538,7 +538,7 @@ must_found (Err e) part rest fault led form trees left begins fails =
     must_fails led form trees left (fault e) begins fails
 
 -- if no constant begins here, then the default of a constant is a type
-no_constant : (trees left part rest after : List TokenTree) (class : Class) → BeginsWith trees class after
+no_constant : (trees left part rest after : List TokenTree) (class : SignClass) → BeginsWith trees class after
     → is_constant class ≡ false → (class ≡ classes.Minus → ⊥) → Fails (Reads IsType) trees left
     → ReadsConstant trees part rest → ⊥
 no_constant trees left part rest after class begins other minus fails (one_sign class2 is sign) =
@@ -551,7 +551,7 @@ no_constant trees left part rest after class begins other minus fails (of_type r
     fails.nothing part rest reads
 
 pub type_found : {T E : Type 0} → (r : Result T E) (part rest : T → List TokenTree) (fault : E → List TokenTree)
-    (trees after : List TokenTree) (class : Class) → BeginsWith trees class after → is_constant class ≡ false
+    (trees after : List TokenTree) (class : SignClass) → BeginsWith trees class after → is_constant class ≡ false
     → (class ≡ classes.Minus → ⊥)
     → MatchResult r (λ f. Reads IsType trees (part f) (rest f)) (λ e. Fails (Reads IsType) trees (fault e))
     → MatchResult r (λ f. ReadsConstant trees (part f) (rest f)) (λ e. Fails ReadsConstant trees (fault e))

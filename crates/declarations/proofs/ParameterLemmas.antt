@@ -22,8 +22,8 @@ use Rattle.declarations.specs.Parameter.{front_of, left_of}
 use Rattle.declarations.specs.Reader.{Finds, ReadsRule, Sticks, classes_in}
 use Rattle.declarations.specs.Reading.{FaultAt, IsOnly, Reads, StopsAt}
 use Rattle.declarations.specs.Signs.{BeginsWith, trees_of}
-use Rattle.declarations.specs.declared.class.Class.{Class}
-use Rattle.declarations.specs.declared.class.Class.TheVariants as signs
+use Rattle.declarations.specs.declared.class.SignClass.{SignClass}
+use Rattle.declarations.specs.declared.class.SignClass.TheVariants as signs
 use Rattle.declarations.specs.declared.class.Keyword.TheVariants as keywords
 use Rattle.declarations.specs.declared.class.Word.TheVariants as words
 use Rattle.declarations.specs.declared.parameter.Parameter.{Parameter}
@@ -32,10 +32,10 @@ use Rattle.declarations.specs.declared.parameter.ParameterKind.TheVariants as ki
 use Rattle.declarations.specs.declared.parameter.Named.{Named}
 use Rattle.declarations.specs.declared.parameter.Shape.{Shape}
 use Rattle.declarations.specs.declared.parameter.Shape.TheVariants as shapes
-use Rattle.declarations.specs.declared.place.Part.TheVariants as parts
-use Rattle.declarations.specs.declared.place.Rule.TheVariants as places
-use Rattle.declarations.specs.declared.place.Spot.TheVariants as spots
-use Rattle.declarations.specs.declared.place.State.TheVariants as states
+use Rattle.declarations.specs.declared.walk_state.Part.TheVariants as parts
+use Rattle.declarations.specs.declared.walk_state.Continuation.TheVariants as places
+use Rattle.declarations.specs.declared.walk_state.Spot.TheVariants as spots
+use Rattle.declarations.specs.declared.walk_state.State.TheVariants as states
 use Rattle.declarations.specs.declared.types.TypeState.TheVariants as types
 use Rattle.declarations.specs.rules.Classes.{is, keyword, opens}
 use Rattle.declarations.specs.rules.Names.{G, Label, Named as NamedPart, OfType, Outside}
@@ -96,7 +96,7 @@ attributes_read = table_reads (start places.Alone (states.At (spots.Before parts
 
 -- ---- a rule that goes on as another rule
 
-pub leads_sign : (g h : G) (trees rest : List TokenTree) (class : Class) → BeginsWith trees class rest
+pub leads_sign : (g h : G) (trees rest : List TokenTree) (class : SignClass) → BeginsWith trees class rest
     → step rules (g ∷ []) class ≡ Some (One class ∷ [], h ∷ [])
     → LeadsTo g trees h rest
 unfolding find
@@ -159,7 +159,7 @@ other_leads a b h trees rest d e l = record {
 }
 
 -- the sign is all that the rule reads
-step_finds : (g : G) (trees rest : List TokenTree) (class : Class) → BeginsWith trees class rest
+step_finds : (g : G) (trees rest : List TokenTree) (class : SignClass) → BeginsWith trees class rest
     → step rules (g ∷ []) class ≡ Some (One class ∷ [], [])
     → Finds g trees rest
 unfolding find
@@ -170,12 +170,12 @@ step_finds g trees rest class b e = record {
   remains = remains_sign trees rest class b;
 }
   where
-    ends : (cs : List Class) → front (One class ∷ []) (scan rules [] cs) ≡ Past (One class ∷ []) cs
+    ends : (cs : List SignClass) → front (One class ∷ []) (scan rules [] cs) ≡ Past (One class ∷ []) cs
     ends [] = refl
     ends (c ∷ cs) = refl
 
 -- a sign that passes the test of a class has this class
-begins_as : (trees rest : List TokenTree) (x class : Class) → BeginsWith trees class rest → is x class ≡ true
+begins_as : (trees rest : List TokenTree) (x class : SignClass) → BeginsWith trees class rest → is x class ≡ true
     → BeginsWith trees x rest
 begins_as trees rest x class b h = subst (λ c. BeginsWith trees c rest) (same_class x class h) b
 
@@ -208,15 +208,15 @@ or_nothing true y = refl
 or_nothing false y = refl
 
 -- the rule of arguments in angle brackets, and of the path after them
-abbrev angled : G
-angled = angle (Range types.Whole Outside)
+abbrev angle_rule : G
+angle_rule = angle (Range types.Whole Outside)
 
-angle_first : (c : Class) → may_begin rule.pattern_angle c ≡ opens c
+angle_first : (c : SignClass) → may_begin rule.pattern_angle c ≡ opens c
 angle_first c =
-    or_nothing (may_begin angled c) (may_begin (perhaps (one signs.Braces)) c)
+    or_nothing (may_begin angle_rule c) (may_begin (perhaps (one signs.Braces)) c)
     ∙ or_nothing (opens c) (is signs.Greater c)
 
-pub angle_begins : (trees rest : List TokenTree) (class : Class) (b : Bool) → BeginsWith trees class rest
+pub angle_begins : (trees rest : List TokenTree) (class : SignClass) (b : Bool) → BeginsWith trees class rest
     → b ≡ opens class
     → b ≡ heads rule.pattern_angle (classes_in trees)
 angle_begins trees rest class b at h =
@@ -226,7 +226,7 @@ pub angle_none : (trees : List TokenTree) → trees ≡ [] → false ≡ heads r
 angle_none trees e = sym (heads_none rule.pattern_angle trees e)
 
 -- a type that begins with `<` begins as the rule of angle brackets does
-angle_step : (c : Class) → opens c ≡ true → step rules (type ∷ []) c ≡ step rules (angled ∷ []) c
+angle_step : (c : SignClass) → opens c ≡ true → step rules (type ∷ []) c ≡ step rules (angle_rule ∷ []) c
 angle_step signs.Less h = refl
 angle_step signs.LessJoint h = refl
 angle_step (signs.Word words.Auto) h = absurd (both_ways _ refl h)
@@ -235,33 +235,33 @@ angle_step (signs.Keyword keywords.Async) h = absurd (both_ways _ refl h)
 angle_step (signs.Keyword _) h = absurd (both_ways _ refl h)
 angle_step _ h = absurd (both_ways _ refl h)
 
-angle_find : (cs : List Class) → heads rule.pattern_angle cs ≡ true → find rules angled cs ≡ find rules type cs
+angle_find : (cs : List SignClass) → heads rule.pattern_angle cs ≡ true → find rules angle_rule cs ≡ find rules type cs
 unfolding find
 angle_find [] h = absurd (both_ways _ refl h)
 angle_find (c ∷ cs) h =
-    scan_step rules (angled ∷ []) c cs (step rules (angled ∷ []) c) refl
-    ∙ sym (scan_step rules (type ∷ []) c cs (step rules (angled ∷ []) c) (angle_step c (sym (angle_first c) ∙ h)))
+    scan_step rules (angle_rule ∷ []) c cs (step rules (angle_rule ∷ []) c) refl
+    ∙ sym (scan_step rules (type ∷ []) c cs (step rules (angle_rule ∷ []) c) (angle_step c (sym (angle_first c) ∙ h)))
 
 pub angle_reads : (trees mid : List TokenTree) (result : Result (Bor (List TokenTree)) (Bor (List TokenTree)))
     → heads rule.pattern_angle (classes_in trees) ≡ true → Finds type trees mid
     → ReadsRule (perhaps (one signs.Braces)) mid result
     → ReadsRule rule.pattern_angle trees result
 angle_reads trees mid result h f r =
-    then_reads angled (perhaps (one signs.Braces)) trees mid result
-    (same_finds angled type trees mid (angle_find (classes_in trees) h) f) r
+    then_reads angle_rule (perhaps (one signs.Braces)) trees mid result
+    (same_finds angle_rule type trees mid (angle_find (classes_in trees) h) f) r
 
 pub angle_sticks : (trees left : List TokenTree) → heads rule.pattern_angle (classes_in trees) ≡ true
     → Sticks type trees left
     → Sticks rule.pattern_angle trees left
 angle_sticks trees left h f =
-    then_sticks angled (perhaps (one signs.Braces)) trees left
-    (same_sticks angled type trees left (angle_find (classes_in trees) h) f)
+    then_sticks angle_rule (perhaps (one signs.Braces)) trees left
+    (same_sticks angle_rule type trees left (angle_find (classes_in trees) h) f)
 
 pub ruleset angles = (angle_begins, angle_none, angle_reads, angle_sticks)
 
 -- ---- patterns
 
-pattern_first : (c : Class) → may_begin rule.pattern c ≡ (rule.is_pattern c || opens c)
+pattern_first : (c : SignClass) → may_begin rule.pattern c ≡ (rule.is_pattern c || opens c)
 pattern_first c =
     go (rule.is_pattern c) (may_begin rule.pattern_angle c) (opens c) (may_begin rule.pattern_rest c) (angle_first c)
   where
@@ -269,7 +269,7 @@ pattern_first c =
     go true y z u e = refl
     go false y z u e = e
 
-pub pattern_begins : (trees rest : List TokenTree) (class : Class) (b : Bool) → BeginsWith trees class rest
+pub pattern_begins : (trees rest : List TokenTree) (class : SignClass) (b : Bool) → BeginsWith trees class rest
     → b ≡ (rule.is_pattern class || opens class)
     → b ≡ heads rule.pattern (classes_in trees)
 pattern_begins trees rest class b at h =
@@ -278,12 +278,12 @@ pattern_begins trees rest class b at h =
 pub pattern_none : (trees : List TokenTree) → trees ≡ [] → false ≡ heads rule.pattern (classes_in trees)
 pattern_none trees e = sym (heads_none rule.pattern trees e)
 
-then_stack : (a b : G) (cs : List Class) → scan rules (Then a b ∷ []) cs ≡ scan rules (a ∷ b ∷ []) cs
+then_stack : (a b : G) (cs : List SignClass) → scan rules (Then a b ∷ []) cs ≡ scan rules (a ∷ b ∷ []) cs
 unfolding find
 then_stack a b cs = find_then rules a b cs ∙ sym (scan_append rules (a ∷ []) (b ∷ []) cs)
 
 -- a pattern cannot go on with `<` as one of its signs
-angle_apart : (c : Class) → opens c ≡ true → rule.continues c ≡ false
+angle_apart : (c : SignClass) → opens c ≡ true → rule.continues c ≡ false
 angle_apart c h = go (rule.continues c) refl
   where
     apart : (not (opens c && rule.continues c)) ≡ true
@@ -293,7 +293,7 @@ angle_apart c h = go (rule.continues c) refl
     go false e = refl
     go true e = absurd (both_ways _ (rw (h, e) refl) apart)
 
-front_none : (f : Found Class Label) → front [] f ≡ f
+front_none : (f : Found SignClass Label) → front [] f ≡ f
 front_none (Past e r) = refl
 front_none (Stuck l) = refl
 
@@ -302,7 +302,7 @@ abbrev angle_end : G
 angle_end = perhaps rule.pattern_angle
 
 -- where a pattern begins, it reads the same as the rest of a pattern
-pattern_whole : (cs : List Class) → heads rule.pattern cs ≡ true
+pattern_whole : (cs : List SignClass) → heads rule.pattern cs ≡ true
     → find rules rule.pattern cs ≡ find rules rule.pattern_rest cs
 unfolding find
 pattern_whole [] h = absurd (both_ways _ refl h)
@@ -338,18 +338,18 @@ pattern_reads trees (Err left) h f =
 pub ruleset patterns = (pattern_begins, pattern_none, pattern_reads, lacks)
 
 -- a pattern whose first sign does not pass the test is any pattern
-but_step : (without : Class → Bool) (c : Class) → without c ≡ false
+but_step : (without : SignClass → Bool) (c : SignClass) → without c ≡ false
     → step rules (rule.pattern_but without ∷ []) c ≡ step rules (rule.pattern ∷ []) c
 but_step without c h = rw h refl
 
-but_find : (without : Class → Bool) (c : Class) (cs : List Class) → without c ≡ false
+but_find : (without : SignClass → Bool) (c : SignClass) (cs : List SignClass) → without c ≡ false
     → find rules (rule.pattern_but without) (c ∷ cs) ≡ find rules rule.pattern (c ∷ cs)
 unfolding find
 but_find without c cs h =
     scan_step rules (rule.pattern_but without ∷ []) c cs (step rules (rule.pattern ∷ []) c) (but_step without c h)
     ∙ sym (scan_step rules (rule.pattern ∷ []) c cs (step rules (rule.pattern ∷ []) c) refl)
 
-but_same : (without : Class → Bool) (trees rest : List TokenTree) (class : Class) → BeginsWith trees class rest
+but_same : (without : SignClass → Bool) (trees rest : List TokenTree) (class : SignClass) → BeginsWith trees class rest
     → without class ≡ false
     → find rules (rule.pattern_but without) (classes_in trees) ≡ find rules rule.pattern (classes_in trees)
 but_same without trees rest class b h =
@@ -358,7 +358,7 @@ but_same without trees rest class b h =
     ∙ ap (find rules rule.pattern) (sym (classes_sign trees rest class b)))
 
 -- a sign that can begin a pattern, and a pattern after it, are a pattern
-pattern_more : (trees mid rest : List TokenTree) (class : Class) → BeginsWith trees class mid
+pattern_more : (trees mid rest : List TokenTree) (class : SignClass) → BeginsWith trees class mid
     → rule.is_pattern class ≡ true → Finds rule.pattern mid rest
     → Finds rule.pattern trees rest
 pattern_more trees mid rest class b h f =
@@ -374,13 +374,13 @@ pattern_more trees mid rest class b h f =
 -- ---- up to the `:`
 
 -- a result after a first sign is also a result from that sign on
-lift : (g h r s : G) (p : Class) (trees mid : List TokenTree)
+lift : (g h r s : G) (p : SignClass) (trees mid : List TokenTree)
     (result : Result (Shape × Bor (List TokenTree)) (Bor (List TokenTree))) → BeginsWith trees p mid
     → step rules (g ∷ []) p ≡ Some (One p ∷ [], h ∷ []) → step rules (r ∷ []) p ≡ Some (One p ∷ [], s ∷ [])
     → rule.is_pattern p ≡ true → ReadsFront h s mid result
     → ReadsFront g r trees result
 lift g h r s p trees mid (Ok (shapes.Pattern, rest)) b e d i f = (
-  leads_on g h rule.typed trees mid rest.now (leads_sign g h trees mid p b e) f.0,
+  leads_on g h rule.pattern_parameter trees mid rest.now (leads_sign g h trees mid p b e) f.0,
   pattern_more trees mid rest.now p b i f.1,
 )
 lift g h r s p trees mid (Ok (shapes.Receiver, rest)) b e d i f = (
@@ -393,7 +393,7 @@ lift g h r s p trees mid (Ok (shapes.Reference, rest)) b e d i f = (
 )
 lift g h r s p trees mid (Err left) b e d i f = leads_sticks g h trees mid left.now (leads_sign g h trees mid p b e) f
 
-pub lift_mut : (trees mid : List TokenTree) (class : Class)
+pub lift_mut : (trees mid : List TokenTree) (class : SignClass)
     (result : Result (Shape × Bor (List TokenTree)) (Bor (List TokenTree))) → BeginsWith trees class mid
     → is (signs.Keyword keywords.Mut) class ≡ true → ReadsFront rule.after_mut (one signs.SelfValue) mid result
     → ReadsFront rule.named_parameter rule.receiver trees result
@@ -401,70 +401,71 @@ lift_mut trees mid class result b h f =
     lift rule.named_parameter rule.after_mut rule.receiver (one signs.SelfValue) (signs.Keyword keywords.Mut) trees mid
     result (begins_as trees mid (signs.Keyword keywords.Mut) class b h) refl refl refl f
 
-pub lift_and : (trees mid : List TokenTree) (class : Class)
+pub lift_and : (trees mid : List TokenTree) (class : SignClass)
     (result : Result (Shape × Bor (List TokenTree)) (Bor (List TokenTree))) → BeginsWith trees class mid
-    → is signs.And class ≡ true → ReadsFront rule.after_and rule.referred mid result
+    → is signs.And class ≡ true → ReadsFront rule.after_and rule.receiver_rest mid result
     → ReadsFront rule.named_parameter rule.receiver trees result
 lift_and trees mid class result b h f =
-    lift rule.named_parameter rule.after_and rule.receiver rule.referred signs.And trees mid result
+    lift rule.named_parameter rule.after_and rule.receiver rule.receiver_rest signs.And trees mid result
     (begins_as trees mid signs.And class b h) refl refl refl f
 
-pub lift_and_mut : (trees mid : List TokenTree) (class : Class)
+pub lift_and_mut : (trees mid : List TokenTree) (class : SignClass)
     (result : Result (Shape × Bor (List TokenTree)) (Bor (List TokenTree))) → BeginsWith trees class mid
     → is (signs.Keyword keywords.Mut) class ≡ true → ReadsFront rule.after_and_mut (one signs.SelfValue) mid result
-    → ReadsFront rule.after_and rule.referred trees result
+    → ReadsFront rule.after_and rule.receiver_rest trees result
 lift_and_mut trees mid class result b h f =
-    lift rule.after_and rule.after_and_mut rule.referred (one signs.SelfValue) (signs.Keyword keywords.Mut) trees mid
+    lift rule.after_and rule.after_and_mut rule.receiver_rest (one signs.SelfValue) (signs.Keyword keywords.Mut) trees
+    mid
     result (begins_as trees mid (signs.Keyword keywords.Mut) class b h) refl refl refl f
 
 -- after `mut` comes `self`
-pub mut_self : (trees rest : List TokenTree) (class : Class) → BeginsWith trees class rest
+pub mut_self : (trees rest : List TokenTree) (class : SignClass) → BeginsWith trees class rest
     → is signs.SelfValue class ≡ true
     → LeadsTo rule.after_mut trees rule.self_type rest
 mut_self trees rest class b h =
     leads_sign rule.after_mut rule.self_type trees rest signs.SelfValue
     (begins_as trees rest signs.SelfValue class b h) refl
 
-pub and_mut_self : (trees rest : List TokenTree) (class : Class) → BeginsWith trees class rest
+pub and_mut_self : (trees rest : List TokenTree) (class : SignClass) → BeginsWith trees class rest
     → is signs.SelfValue class ≡ true
     → LeadsTo rule.after_and_mut trees Nothing rest
 and_mut_self trees rest class b h =
     end_leads rule.after_and_mut trees rest
     (step_finds rule.after_and_mut trees rest signs.SelfValue (begins_as trees rest signs.SelfValue class b h) refl)
 
-pub and_self : (trees rest : List TokenTree) (class : Class) → BeginsWith trees class rest
+pub and_self : (trees rest : List TokenTree) (class : SignClass) → BeginsWith trees class rest
     → is signs.SelfValue class ≡ true
     → LeadsTo rule.after_and trees Nothing rest
 and_self trees rest class b h =
     end_leads rule.after_and trees rest
     (step_finds rule.after_and trees rest signs.SelfValue (begins_as trees rest signs.SelfValue class b h) refl)
 
-pub and_self_part : (trees rest : List TokenTree) (class : Class) → BeginsWith trees class rest
+pub and_self_part : (trees rest : List TokenTree) (class : SignClass) → BeginsWith trees class rest
     → is signs.SelfValue class ≡ true
-    → Finds rule.referred trees rest
+    → Finds rule.receiver_rest trees rest
 and_self_part trees rest class b h =
-    step_finds rule.referred trees rest signs.SelfValue (begins_as trees rest signs.SelfValue class b h) refl
+    step_finds rule.receiver_rest trees rest signs.SelfValue (begins_as trees rest signs.SelfValue class b h) refl
 
-pub named_self : (trees rest : List TokenTree) (class : Class) → BeginsWith trees class rest
+pub named_self : (trees rest : List TokenTree) (class : SignClass) → BeginsWith trees class rest
     → is signs.SelfValue class ≡ true
     → LeadsTo rule.named_parameter trees rule.self_type rest
 named_self trees rest class b h =
     leads_sign rule.named_parameter rule.self_type trees rest signs.SelfValue
     (begins_as trees rest signs.SelfValue class b h) refl
 
-pub named_self_part : (trees rest : List TokenTree) (class : Class) → BeginsWith trees class rest
+pub named_self_part : (trees rest : List TokenTree) (class : SignClass) → BeginsWith trees class rest
     → is signs.SelfValue class ≡ true
     → Finds rule.receiver trees rest
 named_self_part trees rest class b h =
     step_finds rule.receiver trees rest signs.SelfValue (begins_as trees rest signs.SelfValue class b h) refl
 
-pub self_part : (trees rest : List TokenTree) (class : Class) → BeginsWith trees class rest
+pub self_part : (trees rest : List TokenTree) (class : SignClass) → BeginsWith trees class rest
     → is signs.SelfValue class ≡ true
     → Finds (one signs.SelfValue) trees rest
 self_part trees rest class b h = sign_finds (is signs.SelfValue) trees rest class b h
 
 -- after `&` comes a lifetime
-pub lifetime_leads : (trees mid rest : List TokenTree) (class : Class) → BeginsWith trees class mid
+pub lifetime_leads : (trees mid rest : List TokenTree) (class : SignClass) → BeginsWith trees class mid
     → is signs.Lifetime class ≡ true → Finds rule.may_mutate mid rest
     → LeadsTo rule.after_and trees Nothing rest
 lifetime_leads trees mid rest class b h f =
@@ -473,15 +474,15 @@ lifetime_leads trees mid rest class b h f =
     (leads_finds rule.after_and rule.may_mutate trees mid rest
     (leads_sign rule.after_and rule.may_mutate trees mid signs.Lifetime at refl) f)
 
-pub lifetime_part : (trees mid rest : List TokenTree) (class : Class) → BeginsWith trees class mid
+pub lifetime_part : (trees mid rest : List TokenTree) (class : SignClass) → BeginsWith trees class mid
     → is signs.Lifetime class ≡ true → Finds rule.may_mutate mid rest
-    → Finds rule.referred trees rest
+    → Finds rule.receiver_rest trees rest
 lifetime_part trees mid rest class b h f =
     let at = begins_as trees mid signs.Lifetime class b h in
-    leads_finds rule.referred rule.may_mutate trees mid rest
-    (leads_sign rule.referred rule.may_mutate trees mid signs.Lifetime at refl) f
+    leads_finds rule.receiver_rest rule.may_mutate trees mid rest
+    (leads_sign rule.receiver_rest rule.may_mutate trees mid signs.Lifetime at refl) f
 
-pub lifetime_sticks : (trees mid left : List TokenTree) (class : Class) → BeginsWith trees class mid
+pub lifetime_sticks : (trees mid left : List TokenTree) (class : SignClass) → BeginsWith trees class mid
     → is signs.Lifetime class ≡ true → Sticks rule.may_mutate mid left
     → Sticks rule.after_and trees left
 lifetime_sticks trees mid left class b h f =
@@ -490,19 +491,19 @@ lifetime_sticks trees mid left class b h f =
     (leads_sign rule.after_and rule.may_mutate trees mid signs.Lifetime at refl) f
 
 -- the first sign cannot begin a sequence that begins with another sign
-no_then : (x : Class) (g : G) (trees rest : List TokenTree) (class : Class) → BeginsWith trees class rest
+no_then : (x : SignClass) (g : G) (trees rest : List TokenTree) (class : SignClass) → BeginsWith trees class rest
     → is x class ≡ false
     → heads (Then (one x) g) (classes_in trees) ≡ false
 no_then x g trees rest class b h =
     heads_sign (Then (one x) g) trees rest class b ∙ (or_nothing (is x class) (may_begin g class) ∙ h)
 
-no_one : (x : Class) (trees rest : List TokenTree) (class : Class) → BeginsWith trees class rest
+no_one : (x : SignClass) (trees rest : List TokenTree) (class : SignClass) → BeginsWith trees class rest
     → is x class ≡ false
     → heads (one x) (classes_in trees) ≡ false
 no_one x trees rest class b h = heads_sign (one x) trees rest class b ∙ h
 
 -- a pattern, where a receiver could also be
-module _ (trees rest : List TokenTree) (class : Class) (b : BeginsWith trees class rest)
+module _ (trees rest : List TokenTree) (class : SignClass) (b : BeginsWith trees class rest)
     (no_self : is signs.SelfValue class ≡ false) where
   pub mut_pattern : (result : Result (Shape × Bor (List TokenTree)) (Bor (List TokenTree))) → ReadsPattern trees result
       → ReadsFront rule.after_mut (one signs.SelfValue) trees result
@@ -512,14 +513,15 @@ module _ (trees rest : List TokenTree) (class : Class) (b : BeginsWith trees cla
       subst
       (λ s. LeadsTo rule.after_mut trees (left_of s) mid.now × Finds (front_of (one signs.SelfValue) s) trees mid.now)
       (sym f.0) (
-        other_leads (Then (one signs.SelfValue) rule.self_type) rule.typed_pattern rule.typed trees mid.now none refl
-            (finds_leads rule.pattern rule.typed trees mid.now found),
+        other_leads (Then (one signs.SelfValue) rule.self_type) rule.typed_pattern rule.pattern_parameter trees mid.now
+            none refl
+            (finds_leads rule.pattern rule.pattern_parameter trees mid.now found),
         found,
       )
   mut_pattern (Err left) f =
       other_sticks (Then (one signs.SelfValue) rule.self_type) rule.typed_pattern trees left.now
       (no_then signs.SelfValue rule.self_type trees rest class b no_self) refl
-      (then_sticks rule.pattern rule.typed trees left.now f)
+      (then_sticks rule.pattern rule.pattern_parameter trees left.now f)
 
   pub and_mut_pattern : (result : Result (Shape × Bor (List TokenTree)) (Bor (List TokenTree)))
       → ReadsPattern trees result
@@ -531,33 +533,34 @@ module _ (trees rest : List TokenTree) (class : Class) (b : BeginsWith trees cla
       (λ s. LeadsTo rule.after_and_mut trees (left_of s) mid.now
       × Finds (front_of (one signs.SelfValue) s) trees mid.now)
       (sym f.0) (
-        other_leads (one signs.SelfValue) rule.typed_pattern rule.typed trees mid.now none refl
-            (finds_leads rule.pattern rule.typed trees mid.now found),
+        other_leads (one signs.SelfValue) rule.typed_pattern rule.pattern_parameter trees mid.now none refl
+            (finds_leads rule.pattern rule.pattern_parameter trees mid.now found),
         found,
       )
   and_mut_pattern (Err left) f =
       other_sticks (one signs.SelfValue) rule.typed_pattern trees left.now
       (no_one signs.SelfValue trees rest class b no_self) refl
-      (then_sticks rule.pattern rule.typed trees left.now f)
+      (then_sticks rule.pattern rule.pattern_parameter trees left.now f)
 
   module _ (no_mut : is (signs.Keyword keywords.Mut) class ≡ false) where
     -- a pattern after `&`
     pub and_pattern : (result : Result (Shape × Bor (List TokenTree)) (Bor (List TokenTree)))
         → is signs.Lifetime class ≡ false → ReadsPattern trees result
-        → ReadsFront rule.after_and rule.referred trees result
+        → ReadsFront rule.after_and rule.receiver_rest trees result
     and_pattern (Ok (shape, mid)) no_lifetime f =
         let found : Finds rule.pattern trees mid.now = f.1 in
         let but = same_finds (rule.pattern_but (keyword keywords.Mut)) rule.pattern trees mid.now
         (but_same (keyword keywords.Mut) trees rest class b no_mut) found in
-        subst (λ s. LeadsTo rule.after_and trees (left_of s) mid.now × Finds (front_of rule.referred s) trees mid.now)
+        subst (λ s. LeadsTo rule.after_and trees (left_of s) mid.now
+        × Finds (front_of rule.receiver_rest s) trees mid.now)
         (sym f.0) (
-          other_leads (Then (one signs.Lifetime) rule.may_mutate) _ rule.typed trees mid.now
+          other_leads (Then (one signs.Lifetime) rule.may_mutate) _ rule.pattern_parameter trees mid.now
               (no_then signs.Lifetime rule.may_mutate trees rest class b no_lifetime) refl
-              (other_leads (Then (key keywords.Mut) rule.after_and_mut) _ rule.typed trees mid.now
+              (other_leads (Then (key keywords.Mut) rule.after_and_mut) _ rule.pattern_parameter trees mid.now
               (no_then (signs.Keyword keywords.Mut) rule.after_and_mut trees rest class b no_mut) refl
-              (other_leads (one signs.SelfValue) _ rule.typed trees mid.now
+              (other_leads (one signs.SelfValue) _ rule.pattern_parameter trees mid.now
               (no_one signs.SelfValue trees rest class b no_self) refl
-              (finds_leads (rule.pattern_but (keyword keywords.Mut)) rule.typed trees mid.now but))),
+              (finds_leads (rule.pattern_but (keyword keywords.Mut)) rule.pattern_parameter trees mid.now but))),
           found,
         )
     and_pattern (Err left) no_lifetime f =
@@ -568,7 +571,7 @@ module _ (trees rest : List TokenTree) (class : Class) (b : BeginsWith trees cla
         (other_sticks (Then (key keywords.Mut) rule.after_and_mut) _ trees left.now
         (no_then (signs.Keyword keywords.Mut) rule.after_and_mut trees rest class b no_mut) refl
         (other_sticks (one signs.SelfValue) _ trees left.now (no_one signs.SelfValue trees rest class b no_self) refl
-        (then_sticks (rule.pattern_but (keyword keywords.Mut)) rule.typed trees left.now but)))
+        (then_sticks (rule.pattern_but (keyword keywords.Mut)) rule.pattern_parameter trees left.now but)))
 
     -- a pattern at the start of a parameter
     pub named_pattern : (result : Result (Shape × Bor (List TokenTree)) (Bor (List TokenTree)))
@@ -581,13 +584,13 @@ module _ (trees rest : List TokenTree) (class : Class) (b : BeginsWith trees cla
         subst
         (λ s. LeadsTo rule.named_parameter trees (left_of s) mid.now × Finds (front_of rule.receiver s) trees mid.now)
         (sym f.0) (
-          other_leads (Then (one signs.SelfValue) rule.self_type) _ rule.typed trees mid.now
+          other_leads (Then (one signs.SelfValue) rule.self_type) _ rule.pattern_parameter trees mid.now
               (no_then signs.SelfValue rule.self_type trees rest class b no_self) refl
-              (other_leads (Then (key keywords.Mut) rule.after_mut) _ rule.typed trees mid.now
+              (other_leads (Then (key keywords.Mut) rule.after_mut) _ rule.pattern_parameter trees mid.now
               (no_then (signs.Keyword keywords.Mut) rule.after_mut trees rest class b no_mut) refl
-              (other_leads (Then (one signs.And) rule.after_and) _ rule.typed trees mid.now
+              (other_leads (Then (one signs.And) rule.after_and) _ rule.pattern_parameter trees mid.now
               (no_then signs.And rule.after_and trees rest class b no_and) refl
-              (finds_leads (rule.pattern_but rule.is_shared) rule.typed trees mid.now but))),
+              (finds_leads (rule.pattern_but rule.is_shared) rule.pattern_parameter trees mid.now but))),
           found,
         )
     named_pattern (Err left) no_and f =
@@ -599,7 +602,7 @@ module _ (trees rest : List TokenTree) (class : Class) (b : BeginsWith trees cla
         (no_then (signs.Keyword keywords.Mut) rule.after_mut trees rest class b no_mut) refl
         (other_sticks (Then (one signs.And) rule.after_and) _ trees left.now
         (no_then signs.And rule.after_and trees rest class b no_and) refl
-        (then_sticks (rule.pattern_but rule.is_shared) rule.typed trees left.now but)))
+        (then_sticks (rule.pattern_but rule.is_shared) rule.pattern_parameter trees left.now but)))
 
 pub ruleset fronts = (
   lift_mut,
@@ -646,7 +649,7 @@ with_type_heads : (trees from_type : List TokenTree) → BeginsWith trees signs.
     → heads rule.with_type (classes_in trees) ≡ true
 with_type_heads trees from_type b = heads_sign rule.with_type trees from_type signs.Colon b
 
-pub self_typed : (trees from_type rest : List TokenTree) (class : Class) → BeginsWith trees class from_type
+pub self_typed : (trees from_type rest : List TokenTree) (class : SignClass) → BeginsWith trees class from_type
     → is signs.Colon class ≡ true → Finds type from_type rest
     → Finds rule.self_type trees rest
 self_typed trees from_type rest class b h f =
@@ -654,7 +657,7 @@ self_typed trees from_type rest class b h f =
     first_finds rule.with_type Nothing trees rest (with_type_heads trees from_type at)
     (with_type_finds trees from_type rest at f)
 
-pub self_typed_sticks : (trees from_type left : List TokenTree) (class : Class) → BeginsWith trees class from_type
+pub self_typed_sticks : (trees from_type left : List TokenTree) (class : SignClass) → BeginsWith trees class from_type
     → is signs.Colon class ≡ true → Sticks type from_type left
     → Sticks rule.self_type trees left
 self_typed_sticks trees from_type left class b h f =
@@ -662,7 +665,7 @@ self_typed_sticks trees from_type left class b h f =
     first_sticks rule.with_type Nothing trees left (with_type_heads trees from_type at)
     (with_type_sticks trees from_type left at f)
 
-pub self_typed_has : (trees from_type ty rest : List TokenTree) (class : Class) → BeginsWith trees class from_type
+pub self_typed_has : (trees from_type ty rest : List TokenTree) (class : SignClass) → BeginsWith trees class from_type
     → is signs.Colon class ≡ true → Finds type from_type rest → from_type ≡ ty ++ rest
     → (from : List TokenTree) × BeginsWith trees signs.Colon from × Reads (ByRule type) from ty rest
 self_typed_has trees from_type ty rest class b h f whole = (
@@ -671,10 +674,10 @@ self_typed_has trees from_type ty rest class b h f whole = (
   found_reads type starts_type from_type ty rest f whole,
 )
 
-colon_first : (c : Class) → may_begin rule.with_type c ≡ is signs.Colon c
+colon_first : (c : SignClass) → may_begin rule.with_type c ≡ is signs.Colon c
 colon_first c = or_nothing (is signs.Colon c) (may_begin (Then (Mark OfType) type) c)
 
-pub self_alone : (trees rest : List TokenTree) (class : Class) → BeginsWith trees class rest
+pub self_alone : (trees rest : List TokenTree) (class : SignClass) → BeginsWith trees class rest
     → is signs.Colon class ≡ false
     → Finds rule.self_type trees trees
 self_alone trees rest class b h =
@@ -686,7 +689,7 @@ self_last trees e = perhaps_stays rule.with_type trees (heads_none rule.with_typ
 pub ruleset self_types = (self_typed, self_typed_sticks, self_typed_has, self_alone, self_last)
 
 -- `...` begins exactly where a `.` is
-dots_heads : (cs : List Class) → heads rule.dots cs ≡ heads (one signs.Dot) cs
+dots_heads : (cs : List SignClass) → heads rule.dots cs ≡ heads (one signs.Dot) cs
 dots_heads [] = refl
 dots_heads (c ∷ cs) = or_nothing (is signs.Dot c) (may_begin rule.two_dots c)
 
@@ -728,10 +731,10 @@ dots_read trees rest f = (
 pub ruleset typed_ends = (end_dots, end_dots_sticks, end_type, end_type_sticks, type_read, dots_read)
 
 -- the result from the `:` on
-pub typed_reads : (trees from_end : List TokenTree) (class : Class)
+pub typed_reads : (trees from_end : List TokenTree) (class : SignClass)
     (result : Result (ParameterKind × Bor (List TokenTree)) (Bor (List TokenTree))) → BeginsWith trees class from_end
     → is signs.Colon class ≡ true → ReadsTyped from_end result
-    → ReadsEnd rule.typed shapes.Pattern trees result
+    → ReadsEnd rule.pattern_parameter shapes.Pattern trees result
 typed_reads trees from_end class (Ok (kind, rest)) b h f =
     let at = begins_as trees from_end signs.Colon class b h in (
       mark_finds Rest _ trees rest.now
@@ -747,19 +750,20 @@ typed_reads trees from_end class (Err left) b h f =
     (sign_finds (is signs.Colon) trees from_end signs.Colon at refl)
     (mark_sticks OfType rule.typed_end from_end left.now f))
 
-typed_lacks : (trees : List TokenTree) → heads rule.typed (classes_in trees) ≡ false → Sticks rule.typed trees trees
-typed_lacks trees h = lacks rule.typed trees h refl
+typed_lacks : (trees : List TokenTree) → heads rule.pattern_parameter (classes_in trees) ≡ false
+    → Sticks rule.pattern_parameter trees trees
+typed_lacks trees h = lacks rule.pattern_parameter trees h refl
 
-pub typed_other : (trees rest : List TokenTree) (class : Class) → BeginsWith trees class rest
+pub typed_other : (trees rest : List TokenTree) (class : SignClass) → BeginsWith trees class rest
     → is signs.Colon class ≡ false
-    → Sticks rule.typed trees trees
+    → Sticks rule.pattern_parameter trees trees
 typed_other trees rest class b h =
     typed_lacks trees
-    (heads_sign rule.typed trees rest class b
+    (heads_sign rule.pattern_parameter trees rest class b
     ∙ (or_nothing (is signs.Colon class) (may_begin (Then (Mark OfType) rule.typed_end) class) ∙ h))
 
-pub typed_none : (trees : List TokenTree) → trees ≡ [] → Sticks rule.typed trees trees
-typed_none trees e = typed_lacks trees (heads_none rule.typed trees e)
+pub typed_none : (trees : List TokenTree) → trees ≡ [] → Sticks rule.pattern_parameter trees trees
+typed_none trees e = typed_lacks trees (heads_none rule.pattern_parameter trees e)
 
 pub ruleset typeds = (typed_reads, typed_other, typed_none)
 
@@ -828,21 +832,21 @@ pub ruleset named = (named_kind, named_finds, named_sticks)
 -- ---- parameters
 
 -- `...`, or a parameter with a pattern or a receiver
-abbrev unmarked : G
-unmarked = Either rule.dots rule.named_parameter
+abbrev bare_parameter : G
+bare_parameter = Either rule.dots rule.named_parameter
 
 pub rest_dots : (trees rest : List TokenTree) (b : Bool) → b ≡ heads (one signs.Dot) (classes_in trees) → b ≡ true
     → Finds rule.dots trees rest
     → Finds rule.parameter_rest trees rest
 rest_dots trees rest b e h f =
-    mark_finds NamedPart unmarked trees rest
+    mark_finds NamedPart bare_parameter trees rest
     (first_finds rule.dots rule.named_parameter trees rest (dots_heads (classes_in trees) ∙ (sym e ∙ h)) f)
 
 pub rest_dots_sticks : (trees left : List TokenTree) (b : Bool) → b ≡ heads (one signs.Dot) (classes_in trees)
     → b ≡ true → Sticks rule.dots trees left
     → Sticks rule.parameter_rest trees left
 rest_dots_sticks trees left b e h f =
-    mark_sticks NamedPart unmarked trees left
+    mark_sticks NamedPart bare_parameter trees left
     (first_sticks rule.dots rule.named_parameter trees left (dots_heads (classes_in trees) ∙ (sym e ∙ h)) f)
 
 pub rest_variadic : (trees pattern rest : List TokenTree) → pattern ≡ [] → Finds rule.dots trees rest
@@ -855,13 +859,13 @@ pub rest_named : (trees : List TokenTree) (b : Bool)
     → b ≡ heads (one signs.Dot) (classes_in trees) → b ≡ false → ReadsNamed rule.named_parameter trees result
     → ReadsNamed rule.parameter_rest trees result
 rest_named trees b (Ok found) e h f = (
-  mark_finds NamedPart unmarked trees found.1.now
+  mark_finds NamedPart bare_parameter trees found.1.now
       (other_finds rule.dots rule.named_parameter trees found.1.now (dots_heads (classes_in trees) ∙ (sym e ∙ h)) refl
       f.0),
   f.1,
 )
 rest_named trees b (Err left) e h f =
-    mark_sticks NamedPart unmarked trees left.now
+    mark_sticks NamedPart bare_parameter trees left.now
     (other_sticks rule.dots rule.named_parameter trees left.now (dots_heads (classes_in trees) ∙ (sym e ∙ h)) refl f)
 
 pub ruleset rests = (rest_dots, rest_dots_sticks, rest_variadic, rest_named)

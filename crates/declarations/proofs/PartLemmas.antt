@@ -1,31 +1,32 @@
 -- Where the parts of an item, of a field and of a variant end.
 use Rattle.std.proofs.Common.{◌≡◌, refl, inl, inr, ap, ℕ, true, false, Option, Some, None, ◌∙◌}
 use Rattle.declarations.proofs.CutLemmas.{Takes, Beside}
-use Rattle.declarations.specs.Grammar.{step, ends, attributed as attributed_shift, begin, else_type, type_at, ranged}
+use Rattle.declarations.specs.Grammar.{step, ends, after_attribute as attributed_shift, begin, else_type, type_at}
+use Rattle.declarations.specs.Grammar.{after_range}
 use Rattle.declarations.specs.Grammar.{spot_type}
 use Rattle.declarations.specs.TypeStep.{step_of}
-use Rattle.declarations.specs.declared.class.Class.{Class}
-use Rattle.declarations.specs.declared.class.Class.TheVariants as signs
+use Rattle.declarations.specs.declared.class.SignClass.{SignClass}
+use Rattle.declarations.specs.declared.class.SignClass.TheVariants as signs
 use Rattle.declarations.specs.declared.class.Keyword.TheVariants as keywords
-use Rattle.declarations.specs.declared.place.Item.{Item}
-use Rattle.declarations.specs.declared.place.Item.TheVariants as items
-use Rattle.declarations.specs.declared.place.Part.{Part}
-use Rattle.declarations.specs.declared.place.Part.TheVariants as parts
-use Rattle.declarations.specs.declared.place.Place.{Place}
-use Rattle.declarations.specs.declared.place.Rule.{Rule}
-use Rattle.declarations.specs.declared.place.Rule.TheVariants as rules
-use Rattle.declarations.specs.declared.place.Shift.{Shift}
-use Rattle.declarations.specs.declared.place.Spot.{Spot}
-use Rattle.declarations.specs.declared.place.Spot.TheVariants as spots
-use Rattle.declarations.specs.declared.place.State.TheVariants as states
-use Rattle.declarations.specs.declared.place.TypeStart.{TypeStart}
+use Rattle.declarations.specs.declared.walk_state.Item.{Item}
+use Rattle.declarations.specs.declared.walk_state.Item.TheVariants as items
+use Rattle.declarations.specs.declared.walk_state.Part.{Part}
+use Rattle.declarations.specs.declared.walk_state.Part.TheVariants as parts
+use Rattle.declarations.specs.declared.walk_state.WalkState.{WalkState}
+use Rattle.declarations.specs.declared.walk_state.Continuation.{Continuation}
+use Rattle.declarations.specs.declared.walk_state.Continuation.TheVariants as rules
+use Rattle.declarations.specs.declared.walk_state.Shift.{Shift}
+use Rattle.declarations.specs.declared.walk_state.Spot.{Spot}
+use Rattle.declarations.specs.declared.walk_state.Spot.TheVariants as spots
+use Rattle.declarations.specs.declared.walk_state.State.TheVariants as states
+use Rattle.declarations.specs.declared.walk_state.TypeStart.{TypeStart}
 use Rattle.declarations.specs.declared.types.TypeState.{TypeState}
 use Rattle.declarations.specs.declared.types.TypeStep.{TypeStep}
 
-abbrev pub at : Item → Spot → Place
+abbrev pub at : Item → Spot → WalkState
 at item spot = record { item = item; rule = rules.Alone; state = states.At spot; depth = 0 }
 
-abbrev pub range : Item → Rule → TypeState → ℕ → Place
+abbrev pub range : Item → Continuation → TypeState → ℕ → WalkState
 range item rule state depth = record { item = item; rule = rule; state = states.Range state; depth = depth }
 
 -- ---- what attributes and a visibility can come before
@@ -48,24 +49,24 @@ before front = spots.Before (part_of front)
 abbrev pub hash : Front → Spot
 hash front = spots.Hash (part_of front)
 
-abbrev pub attributed : Front → Spot
-attributed front = spots.Attributed (part_of front)
+abbrev pub attribute_spot : Front → Spot
+attribute_spot front = spots.Attributed (part_of front)
 
 abbrev pub public : Front → Spot
 public front = spots.Public (part_of front)
 
 -- the state after a visibility
-abbrev pub visible : Front → Place
+abbrev pub visible : Front → WalkState
 visible front = at items.Alone (spots.Visible (part_of front))
 
 -- two states lead to the same state by the same step of a type
-ranged_same : (p q : Spot) (rule : Rule) (taken : Option TypeStep)
-    → ranged (record { item = items.Alone; rule = rule; state = states.At p; depth = 0 }) taken
-    ≡ ranged (record { item = items.Alone; rule = rule; state = states.At q; depth = 0 }) taken
+ranged_same : (p q : Spot) (rule : Continuation) (taken : Option TypeStep)
+    → after_range (record { item = items.Alone; rule = rule; state = states.At p; depth = 0 }) taken
+    ≡ after_range (record { item = items.Alone; rule = rule; state = states.At q; depth = 0 }) taken
 ranged_same p q rule None = refl
 ranged_same p q rule (Some taken) = refl
 
-type_same : (p q : Spot) (begun : Option TypeStart) (class : Class)
+type_same : (p q : Spot) (begun : Option TypeStart) (class : SignClass)
     → type_at begun (at items.Alone p) class ≡ type_at begun (at items.Alone q) class
 type_same p q None class = refl
 type_same p q (Some begun) class = ranged_same p q begun.rule (step_of begun.state class true)
@@ -74,7 +75,7 @@ type_same p q (Some begun) class = ranged_same p q begun.rule (step_of begun.sta
 abbrev type_of : Spot → Option TypeStart
 type_of spot = spot_type items.Alone rules.Alone spot
 
-else_same : (p q : Spot) (s : Option Shift) (class : Class)
+else_same : (p q : Spot) (s : Option Shift) (class : SignClass)
     → type_of p ≡ type_of q
     → else_type s (at items.Alone p) p class ≡ else_type s (at items.Alone q) q class
 else_same p q (Some s) class same = refl
@@ -88,40 +89,40 @@ pub data AttributePlace : Type 0 where
   opened : AttributePlace
   closed : AttributePlace
 
-abbrev pub among_attributes : Front → AttributePlace → Place
+abbrev pub among_attributes : Front → AttributePlace → WalkState
 among_attributes front start = at items.Alone (before front)
 among_attributes front opened = at items.Alone (hash front)
-among_attributes front closed = at items.Alone (attributed front)
+among_attributes front closed = at items.Alone (attribute_spot front)
 
-abbrev pub attribute_place : AttributePlace → Place
+abbrev pub attribute_place : AttributePlace → WalkState
 attribute_place start = at items.Alone (spots.Before parts.Attributes)
 attribute_place opened = at items.Alone (spots.Hash parts.Attributes)
 attribute_place closed = at items.Alone (spots.Attributed parts.Attributes)
 
 -- the step after all attributes of a part
-abbrev pub after_attributes : Front → Class → Option Place
+abbrev pub after_attributes : Front → SignClass → Option WalkState
 after_attributes front signs.Hash = None
-after_attributes front class = step (at items.Alone (attributed front)) class
+after_attributes front class = step (at items.Alone (attribute_spot front)) class
 
-abbrev TakesAttribute : Front → AttributePlace → Class → Type 0
+abbrev TakesAttribute : Front → AttributePlace → SignClass → Type 0
 TakesAttribute front g class =
     Takes (among_attributes front) attribute_place (after_attributes front class) (ends (attribute_place g))
     (step (among_attributes front g) class) (step (attribute_place g) class)
 
 types_same : (front : Front)
-    → type_of (before front) ≡ type_of (attributed front)
+    → type_of (before front) ≡ type_of (attribute_spot front)
 types_same item = refl
 types_same field = refl
 types_same tuple_field = refl
 types_same variant = refl
 
 -- a sign that is no attribute has the same step before the first attribute as after one
-start_ends : (front : Front) (s : Option Shift) (class : Class)
+start_ends : (front : Front) (s : Option Shift) (class : SignClass)
     → else_type s (at items.Alone (before front)) (before front) class
-    ≡ else_type s (at items.Alone (attributed front)) (attributed front) class
-start_ends front s class = else_same (before front) (attributed front) s class (types_same front)
+    ≡ else_type s (at items.Alone (attribute_spot front)) (attribute_spot front) class
+start_ends front s class = else_same (before front) (attribute_spot front) s class (types_same front)
 
-attribute_start : (front : Front) (class : Class) → TakesAttribute front start class
+attribute_start : (front : Front) (class : SignClass) → TakesAttribute front start class
 attribute_start item signs.Hash = (opened, refl, refl)
 attribute_start item (signs.Keyword keywords.Pub) = inr (refl, refl)
 attribute_start item class =
@@ -139,7 +140,7 @@ attribute_start variant (signs.Keyword keywords.Pub) = inr (refl, refl)
 attribute_start variant class =
     inr (refl, start_ends variant (attributed_shift parts.Variant items.Alone rules.Alone class) class)
 
-attribute_closed : (front : Front) (class : Class) → TakesAttribute front closed class
+attribute_closed : (front : Front) (class : SignClass) → TakesAttribute front closed class
 attribute_closed item signs.Hash = (opened, refl, refl)
 attribute_closed item (signs.Keyword keywords.Pub) = inr (refl, refl)
 attribute_closed item class = inr (refl, refl)
@@ -153,11 +154,11 @@ attribute_closed variant signs.Hash = (opened, refl, refl)
 attribute_closed variant (signs.Keyword keywords.Pub) = inr (refl, refl)
 attribute_closed variant class = inr (refl, refl)
 
-attribute_open : (front : Front) (class : Class) → TakesAttribute front opened class
+attribute_open : (front : Front) (class : SignClass) → TakesAttribute front opened class
 attribute_open front signs.Brackets = (closed, refl, refl)
 attribute_open front class = inl refl
 
-attribute_takes : (front : Front) (g : AttributePlace) (class : Class) → TakesAttribute front g class
+attribute_takes : (front : Front) (g : AttributePlace) (class : SignClass) → TakesAttribute front g class
 attribute_takes front start class = attribute_start front class
 attribute_takes front opened class = attribute_open front class
 attribute_takes front closed class = attribute_closed front class
@@ -165,19 +166,19 @@ attribute_takes front closed class = attribute_closed front class
 -- a part may not end before its attributes, after them or after its visibility
 abbrev IsUnended : Front → Type 0
 IsUnended front =
-    (ends (at items.Alone (before front)) ≡ false) × (ends (at items.Alone (attributed front)) ≡ false)
+    (ends (at items.Alone (before front)) ≡ false) × (ends (at items.Alone (attribute_spot front)) ≡ false)
     × (ends (at items.Alone (public front)) ≡ false) × (ends (visible front) ≡ false)
 
-unended : (front : Front) → IsUnended front
-unended item = (refl, refl, refl, refl)
-unended field = (refl, refl, refl, refl)
-unended tuple_field = (refl, refl, refl, refl)
-unended variant = (refl, refl, refl, refl)
+unended_front : (front : Front) → IsUnended front
+unended_front item = (refl, refl, refl, refl)
+unended_front field = (refl, refl, refl, refl)
+unended_front tuple_field = (refl, refl, refl, refl)
+unended_front variant = (refl, refl, refl, refl)
 
 attribute_goes_on : (front : Front) (g : AttributePlace) → ends (among_attributes front g) ≡ false
-attribute_goes_on front start = (unended front).0
+attribute_goes_on front start = (unended_front front).0
 attribute_goes_on front opened = refl
-attribute_goes_on front closed = (unended front).1
+attribute_goes_on front closed = (unended_front front).1
 
 pub attributes_beside : (front : Front)
     → Beside (among_attributes front) attribute_place (after_attributes front)
@@ -189,18 +190,18 @@ pub data VisibilityPlace : Type 0 where
   bare : VisibilityPlace
   complete : VisibilityPlace
 
-abbrev pub within_visibility : Front → VisibilityPlace → Place
+abbrev pub within_visibility : Front → VisibilityPlace → WalkState
 within_visibility front bare = at items.Alone (public front)
 within_visibility front complete = visible front
 
-abbrev pub visibility_place : VisibilityPlace → Place
+abbrev pub visibility_place : VisibilityPlace → WalkState
 visibility_place bare = at items.Alone (spots.Public parts.Visibility)
 visibility_place complete = at items.Alone (spots.Visible parts.Visibility)
 
-abbrev pub after_visibility : Front → Class → Option Place
+abbrev pub after_visibility : Front → SignClass → Option WalkState
 after_visibility front class = step (visible front) class
 
-abbrev TakesVisibility : Front → Place → Place → Class → Type 0
+abbrev TakesVisibility : Front → WalkState → WalkState → SignClass → Type 0
 TakesVisibility front from part class =
     Takes (within_visibility front) visibility_place (after_visibility front class) (ends part)
     (step from class) (step part class)
@@ -208,7 +209,7 @@ TakesVisibility front from part class =
 -- the same types can begin after a visibility, after `pub`, and where there is no visibility
 abbrev SameTypes : Front → Type 0
 SameTypes front =
-    (type_of (attributed front) ≡ type_of (spots.Visible (part_of front)))
+    (type_of (attribute_spot front) ≡ type_of (spots.Visible (part_of front)))
     × (type_of (public front) ≡ type_of (spots.Visible (part_of front)))
 
 visible_types : (front : Front) → SameTypes front
@@ -217,19 +218,22 @@ visible_types field = (refl, refl)
 visible_types tuple_field = (refl, refl)
 visible_types variant = (refl, refl)
 
-left_out : (front : Front) (s : Option Shift) (class : Class)
-    → else_type s (at items.Alone (attributed front)) (attributed front) class
+left_out : (front : Front) (s : Option Shift) (class : SignClass)
+    → else_type s (at items.Alone (attribute_spot front)) (attribute_spot front) class
     ≡ else_type s (visible front) (spots.Visible (part_of front)) class
-left_out front s class = else_same (attributed front) (spots.Visible (part_of front)) s class (visible_types front).0
+left_out front s class = else_same (attribute_spot front) (spots.Visible (part_of front)) s class
+    (visible_types front).0
 
-unrestricted : (front : Front) (s : Option Shift) (class : Class)
+unrestricted_front : (front : Front) (s : Option Shift) (class : SignClass)
     → else_type s (at items.Alone (public front)) (public front) class
     ≡ else_type s (visible front) (spots.Visible (part_of front)) class
-unrestricted front s class = else_same (public front) (spots.Visible (part_of front)) s class (visible_types front).1
+unrestricted_front front s class =
+    else_same (public front) (spots.Visible (part_of front)) s class (visible_types front).1
 
 -- the step where a visibility can begin, after the attributes
-pub visibility_first : (front : Front) (class : Class) (next : Place) → after_attributes front class ≡ Some next
-    → TakesVisibility front (at items.Alone (attributed front)) (at items.Alone (spots.Before parts.Visibility)) class
+pub visibility_first : (front : Front) (class : SignClass) (next : WalkState) → after_attributes front class ≡ Some next
+    → TakesVisibility front (at items.Alone (attribute_spot front)) (at items.Alone (spots.Before parts.Visibility))
+    class
 visibility_first item signs.Hash next steps = cc
 visibility_first item (signs.Keyword keywords.Pub) next steps = (bare, refl, refl)
 visibility_first item signs.Visibility next steps = (complete, refl, refl)
@@ -251,20 +255,20 @@ visibility_first variant signs.Visibility next steps = (complete, refl, refl)
 visibility_first variant class next steps =
     inr (refl, left_out variant (begin parts.Variant items.Alone rules.Alone class) class)
 
-visibility_bare : (front : Front) (class : Class)
+visibility_bare : (front : Front) (class : SignClass)
     → TakesVisibility front (within_visibility front bare) (visibility_place bare) class
 visibility_bare front signs.Restriction = (complete, refl, refl)
 visibility_bare front class =
-    inr (refl, unrestricted front (begin (part_of front) items.Alone rules.Alone class) class)
+    inr (refl, unrestricted_front front (begin (part_of front) items.Alone rules.Alone class) class)
 
-visibility_takes : (front : Front) (g : VisibilityPlace) (class : Class)
+visibility_takes : (front : Front) (g : VisibilityPlace) (class : SignClass)
     → TakesVisibility front (within_visibility front g) (visibility_place g) class
 visibility_takes front bare class = visibility_bare front class
 visibility_takes front complete class = inr (refl, refl)
 
 visibility_goes_on : (front : Front) (g : VisibilityPlace) → ends (within_visibility front g) ≡ false
-visibility_goes_on front bare = (unended front).2
-visibility_goes_on front complete = (unended front).3
+visibility_goes_on front bare = (unended_front front).2
+visibility_goes_on front complete = (unended_front front).3
 
 pub visibility_beside : (front : Front)
     → Beside (within_visibility front) visibility_place (after_visibility front)

@@ -7,7 +7,7 @@ use Rattle.declarations.specs.Fault.{extent_at, first_extent}
 use Rattle.declarations.specs.Forms.{AreAttributes, AreGenerics, IsVisibility, IsWhere}
 use Rattle.declarations.specs.Reader.{Finds, Sticks}
 use Rattle.declarations.specs.Reading.{FaultAt, IsOnly, Reads}
-use Rattle.declarations.specs.declared.class.Class.{Class}
+use Rattle.declarations.specs.declared.class.SignClass.{SignClass}
 use Rattle.declarations.specs.rules.Names.{G}
 use Rattle.declarations.specs.rules.Parts.{attributes, generics, visibility, where_clause}
 use Rattle.declarations.specs.rules.Pieces.{ByRule, ReadsBy}
@@ -18,7 +18,7 @@ use Rattle.declarations.proofs.RuleFormLemmas.{found_reads, only_reading, stuck_
 use Rattle.declarations.proofs.RuleLemmas.{starts}
 use Rattle.declarations.proofs.TransferLemmas.{fault_to, only_to, reads_to}
 
-module _ (g : G) (form : List Class → List Class → Type 0) (by : ReadsBy g form)
+module _ (g : G) (form : List SignClass → List SignClass → Type 0) (by : ReadsBy g form)
     (start : IsStart rules follows (g ∷ [])) where
   pub part_reads : (trees part rest : List TokenTree) → Finds g trees rest → trees ≡ part ++ rest
       → Reads form trees part rest

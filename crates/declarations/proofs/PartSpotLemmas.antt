@@ -1,19 +1,19 @@
 -- Steps in the states around a part: before it, at its attributes, and after its visibility.
 use Rattle.std.proofs.Common.{refl}
 use Rattle.declarations.specs.Grammar.{step}
-use Rattle.declarations.specs.declared.class.Class.{Class}
-use Rattle.declarations.specs.declared.class.Class.TheVariants as signs
+use Rattle.declarations.specs.declared.class.SignClass.{SignClass}
+use Rattle.declarations.specs.declared.class.SignClass.TheVariants as signs
 use Rattle.declarations.specs.declared.class.Keyword.TheVariants as keywords
 use Rattle.declarations.specs.declared.class.Word.TheVariants as words
-use Rattle.declarations.specs.declared.place.Item.{Item}
-use Rattle.declarations.specs.declared.place.Item.TheVariants as items
-use Rattle.declarations.specs.declared.place.Part.{Part}
-use Rattle.declarations.specs.declared.place.Part.TheVariants as parts
-use Rattle.declarations.specs.declared.place.Place.{Place}
-use Rattle.declarations.specs.declared.place.Rule.{Rule}
-use Rattle.declarations.specs.declared.place.Rule.TheVariants as places
-use Rattle.declarations.specs.declared.place.Spot.{Spot}
-use Rattle.declarations.specs.declared.place.Spot.TheVariants as spots
+use Rattle.declarations.specs.declared.walk_state.Item.{Item}
+use Rattle.declarations.specs.declared.walk_state.Item.TheVariants as items
+use Rattle.declarations.specs.declared.walk_state.Part.{Part}
+use Rattle.declarations.specs.declared.walk_state.Part.TheVariants as parts
+use Rattle.declarations.specs.declared.walk_state.WalkState.{WalkState}
+use Rattle.declarations.specs.declared.walk_state.Continuation.{Continuation}
+use Rattle.declarations.specs.declared.walk_state.Continuation.TheVariants as places
+use Rattle.declarations.specs.declared.walk_state.Spot.{Spot}
+use Rattle.declarations.specs.declared.walk_state.Spot.TheVariants as spots
 use Rattle.declarations.proofs.StackLemmas.{Around, Before, Hash, Attributed, Public, Visible, around_left}
 use Rattle.declarations.proofs.AgreeLemmas.{Agrees, EndsAgree, at_spot}
 
@@ -56,16 +56,16 @@ item_of Variant item = items.Alone
 item_of Variants item = items.Variants
 item_of _ item = item
 
-abbrev pub rule_of : Within → Rule
+abbrev pub rule_of : Within → Continuation
 rule_of Fields = places.Fields
 rule_of TupleFields = places.TupleFields
 rule_of _ = places.Alone
 
 -- the state of a part
-abbrev pub around : Around → Within → Item → Place
+abbrev pub around : Around → Within → Item → WalkState
 around spot part item = at_spot (spot_of spot (part_of part)) (item_of part item) (rule_of part)
 
-around_agrees : (spot : Around) (part : Within) (item : Item) (class : Class)
+around_agrees : (spot : Around) (part : Within) (item : Item) (class : SignClass)
     → Agrees (around_left spot (part_of part) (item_of part item) (rule_of part))
     (step (around spot part item) class) class
 around_agrees Hash Visibility item class = refl
@@ -81,7 +81,7 @@ around_agrees _ _ item (signs.Keyword keywords.Async) = refl
 around_agrees _ _ item (signs.Keyword _) = refl
 around_agrees _ _ item _ = refl
 
-pub part_agrees : (spot : Around) (part : Part) (rule : Rule) (item : Item) (class : Class)
+pub part_agrees : (spot : Around) (part : Part) (rule : Continuation) (item : Item) (class : SignClass)
     → Agrees (around_left spot part item rule) (step (at_spot (spot_of spot part) item rule) class) class
 part_agrees spot parts.Attributes places.Alone item class = around_agrees spot Attributes item class
 part_agrees spot parts.Visibility places.Alone item class = around_agrees spot Visibility item class
@@ -117,7 +117,7 @@ around_ends Public Attributes item = refl
 around_ends Visible Attributes item = refl
 around_ends _ _ item = refl
 
-pub part_ends_agree : (spot : Around) (part : Part) (rule : Rule) (item : Item)
+pub part_ends_agree : (spot : Around) (part : Part) (rule : Continuation) (item : Item)
     → EndsAgree (around_left spot part item rule) (at_spot (spot_of spot part) item rule)
 part_ends_agree spot parts.Attributes places.Alone item = around_ends spot Attributes item
 part_ends_agree spot parts.Visibility places.Alone item = around_ends spot Visibility item

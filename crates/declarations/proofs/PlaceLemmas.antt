@@ -6,44 +6,45 @@ use Rattle.declarations.proofs.WalkLemmas.{after, walk-cons}
 use Rattle.declarations.specs.Walk.{walk}
 use Rattle.declarations.specs.Grammar.{step, ends, range_state}
 use Rattle.declarations.specs.declared.types.Turn.TheVariants as turns
-use Rattle.declarations.specs.declared.class.Class.{Class}
-use Rattle.declarations.specs.declared.class.Class.TheVariants.{Literal, Less, Greater, Parentheses, Colon, Semicolon}
-use Rattle.declarations.specs.declared.class.Class.TheVariants.{Braces, Brackets, Lifetime, Bar, Comma, Dot, Word}
-use Rattle.declarations.specs.declared.class.Class.TheVariants.{Exclamation, Hash, Keyword, Restriction}
+use Rattle.declarations.specs.declared.class.SignClass.{SignClass}
+use Rattle.declarations.specs.declared.class.SignClass.TheVariants.{Literal, Less, Greater, Parentheses, Colon}
+use Rattle.declarations.specs.declared.class.SignClass.TheVariants.{Semicolon}
+use Rattle.declarations.specs.declared.class.SignClass.TheVariants.{Braces, Brackets, Lifetime, Bar, Comma, Dot, Word}
+use Rattle.declarations.specs.declared.class.SignClass.TheVariants.{Exclamation, Hash, Keyword, Restriction}
 use Rattle.declarations.specs.declared.class.Keyword.TheVariants as keywords
 use Rattle.declarations.specs.declared.class.Word.TheVariants as words
-use Rattle.declarations.specs.declared.place.Front.{Front}
-use Rattle.declarations.specs.declared.place.Front.TheVariants as fronts
-use Rattle.declarations.specs.declared.place.Item.{Item}
-use Rattle.declarations.specs.declared.place.Item.TheVariants as items
-use Rattle.declarations.specs.declared.place.Part.{Part}
-use Rattle.declarations.specs.declared.place.Part.TheVariants as parts
-use Rattle.declarations.specs.declared.place.Place.{Place}
-use Rattle.declarations.specs.declared.place.Rule.{Rule}
-use Rattle.declarations.specs.declared.place.Rule.TheVariants as places
-use Rattle.declarations.specs.declared.place.Spot.{Spot}
-use Rattle.declarations.specs.declared.place.Spot.TheVariants as spots
-use Rattle.declarations.specs.declared.place.State.{State}
-use Rattle.declarations.specs.declared.place.State.TheVariants as states
+use Rattle.declarations.specs.declared.walk_state.Front.{Front}
+use Rattle.declarations.specs.declared.walk_state.Front.TheVariants as fronts
+use Rattle.declarations.specs.declared.walk_state.Item.{Item}
+use Rattle.declarations.specs.declared.walk_state.Item.TheVariants as items
+use Rattle.declarations.specs.declared.walk_state.Part.{Part}
+use Rattle.declarations.specs.declared.walk_state.Part.TheVariants as parts
+use Rattle.declarations.specs.declared.walk_state.WalkState.{WalkState}
+use Rattle.declarations.specs.declared.walk_state.Continuation.{Continuation}
+use Rattle.declarations.specs.declared.walk_state.Continuation.TheVariants as places
+use Rattle.declarations.specs.declared.walk_state.Spot.{Spot}
+use Rattle.declarations.specs.declared.walk_state.Spot.TheVariants as spots
+use Rattle.declarations.specs.declared.walk_state.State.{State}
+use Rattle.declarations.specs.declared.walk_state.State.TheVariants as states
 use Rattle.declarations.specs.declared.types.TypeState.{TypeState}
 use Rattle.declarations.specs.declared.types.TypeState.TheVariants as types
 
 -- some signs lead from the state to one in which the walk may end
-pub record GoesOn (place : Place) : Type 0 where
-  pub more : List Class
-  pub final : Place
+pub record GoesOn (place : WalkState) : Type 0 where
+  pub more : List SignClass
+  pub final : WalkState
   pub walks : walk step place more ≡ Some final
   pub ended : ends final ≡ true
 
-abbrev in_type : Item → Rule → TypeState → ℕ → Place
+abbrev in_type : Item → Continuation → TypeState → ℕ → WalkState
 in_type item rule state depth = record { item = item; rule = rule; state = states.Range state; depth = depth }
 
-abbrev at : Item → Rule → Spot → ℕ → Place
+abbrev at : Item → Continuation → Spot → ℕ → WalkState
 at item rule spot depth = record { item = item; rule = rule; state = states.At spot; depth = depth }
 
 -- signs that lead to a state that goes on
-led : (place next : Place) (front : List Class)
-    → ((more : List Class) → walk step place (front ++ more) ≡ walk step next more)
+led : (place next : WalkState) (front : List SignClass)
+    → ((more : List SignClass) → walk step place (front ++ more) ≡ walk step next more)
     → GoesOn next → GoesOn place
 led place next front leads goes = record {
   more = front ++ goes.more;
@@ -52,27 +53,27 @@ led place next front leads goes = record {
   ended = goes.ended;
 }
 
-here : (place : Place) → ends place ≡ true → GoesOn place
+here : (place : WalkState) → ends place ≡ true → GoesOn place
 here place ended = record { more = []; final = place; walks = refl; ended = ended }
 
-abbrev a_word : Class
+abbrev a_word : SignClass
 a_word = Word words.Plain
 
-abbrev a_function : List Class
+abbrev a_function : List SignClass
 a_function = Keyword keywords.Fn ∷ a_word ∷ Parentheses ∷ Braces ∷ []
 
 item_end : (item : Item) (depth : ℕ) → GoesOn (at item places.Alone spots.ItemEnd depth)
 item_end item depth = here (at item places.Alone spots.ItemEnd depth) refl
 
-to_end : (item : Item) (depth : ℕ) (place : Place) (front : List Class)
-    → ((more : List Class) → walk step place (front ++ more)
+to_end : (item : Item) (depth : ℕ) (place : WalkState) (front : List SignClass)
+    → ((more : List SignClass) → walk step place (front ++ more)
     ≡ walk step (at item places.Alone spots.ItemEnd depth) more)
     → GoesOn place
 to_end item depth place front leads =
     led place (at item places.Alone spots.ItemEnd depth) front leads (item_end item depth)
 
 -- before a predicate, or where there is none
-predicate : (item : Item) (rule : Rule) (depth : ℕ) → GoesOn (at item rule spots.Predicate depth)
+predicate : (item : Item) (rule : Continuation) (depth : ℕ) → GoesOn (at item rule spots.Predicate depth)
 predicate items.Alone rule depth = here _ refl
 predicate items.Variants rule depth = here _ refl
 predicate items.Group rule depth = here _ refl
@@ -132,7 +133,7 @@ target_end item =
     (Keyword keywords.For ∷ a_word ∷ []) (λ more. refl) (header_end item)
 
 -- the state after the `>` of an open angle bracket
-after_close : Item → Rule → ℕ → Place
+after_close : Item → Continuation → ℕ → WalkState
 after_close item rule depth = record {
   item = item;
   rule = rule;
@@ -140,7 +141,7 @@ after_close item rule depth = record {
   depth = depth;
 }
 
-closer : (item : Item) (rule : Rule) (depth : ℕ)
+closer : (item : Item) (rule : Continuation) (depth : ℕ)
     → step (in_type item rule types.Whole (suc depth)) Greater ≡ Some (after_close item rule depth)
 unfolding after_close
 closer item rule depth =
@@ -148,14 +149,14 @@ closer item rule depth =
     let fewer : suc depth - 1 ≡ depth = omega arith in
     rw (inside, fewer) refl
 
-still_within : (item : Item) (rule : Rule) (depth : ℕ)
+still_within : (item : Item) (rule : Continuation) (depth : ℕ)
     → after_close item rule (suc depth) ≡ in_type item rule types.Whole (suc depth)
 unfolding after_close
 still_within item rule depth =
     let inside : (suc depth == 0) ≡ false = grind (arith, nat_tests) in
     rw inside refl
 
-closes : (item : Item) (rule : Rule) (depth : ℕ) → GoesOn (after_close item rule zero)
+closes : (item : Item) (rule : Continuation) (depth : ℕ) → GoesOn (after_close item rule zero)
     → GoesOn (after_close item rule depth)
 closes item rule zero last = last
 closes item rule (suc depth) last =
@@ -165,7 +166,7 @@ closes item rule (suc depth) last =
     ∙ ap (λ o. after step o more) (closer item rule depth)) (closes item rule depth last))
 
 -- within angle brackets, if the states outside of them and after the last of them go on
-within : (item : Item) (rule : Rule) (depth : ℕ) → GoesOn (in_type item rule types.Whole 0)
+within : (item : Item) (rule : Continuation) (depth : ℕ) → GoesOn (in_type item rule types.Whole 0)
     → GoesOn (after_close item rule zero) → GoesOn (in_type item rule types.Whole depth)
 within item rule zero without last = without
 within item rule (suc depth) without last =
@@ -173,15 +174,15 @@ within item rule (suc depth) without last =
     (λ more. walk-cons step (in_type item rule types.Whole (suc depth)) Greater more
     ∙ ap (λ o. after step o more) (closer item rule depth)) (closes item rule depth last)
 
-headed : (item : Item) (depth : ℕ) → GoesOn (in_type item places.Header types.Whole depth)
+header_goes_on : (item : Item) (depth : ℕ) → GoesOn (in_type item places.Header types.Whole depth)
 unfolding after_close
-headed item depth = within item places.Header depth (header_end item) (header_end item)
+header_goes_on item depth = within item places.Header depth (header_end item) (header_end item)
 
-targeted : (item : Item) (depth : ℕ) → GoesOn (in_type item places.Target types.Whole depth)
+target_goes_on : (item : Item) (depth : ℕ) → GoesOn (in_type item places.Target types.Whole depth)
 unfolding after_close
-targeted item depth = within item places.Target depth (target_end item) (target_end item)
+target_goes_on item depth = within item places.Target depth (target_end item) (target_end item)
 
-after_generics : (item : Item) (rule : Rule) (depth : ℕ) → GoesOn (at item rule spots.AfterGenerics depth)
+after_generics : (item : Item) (rule : Continuation) (depth : ℕ) → GoesOn (at item rule spots.AfterGenerics depth)
 after_generics items.Alone rule depth = here _ refl
 after_generics items.Variants rule depth = here _ refl
 after_generics items.Group rule depth = here _ refl
@@ -204,15 +205,15 @@ after_generics items.Function rule depth =
     to_end items.Returning depth _ (Parentheses ∷ Braces ∷ []) (λ more. refl)
 after_generics items.Constant rule depth =
     led _ (in_type items.Constant places.Header types.Whole depth) (Colon ∷ a_word ∷ []) (λ more. refl)
-    (headed items.Constant depth)
+    (header_goes_on items.Constant depth)
 after_generics items.Static rule depth =
     led _ (in_type items.Static places.Header types.Whole depth) (Colon ∷ a_word ∷ []) (λ more. refl)
-    (headed items.Static depth)
+    (header_goes_on items.Static depth)
 after_generics items.Impl rule depth =
     led _ (in_type items.Impl places.Target types.Whole depth) (a_word ∷ []) (λ more. refl)
-    (targeted items.Impl depth)
+    (target_goes_on items.Impl depth)
 
-outside : (item : Item) (rule : Rule) → GoesOn (in_type item rule types.Whole 0)
+outside : (item : Item) (rule : Continuation) → GoesOn (in_type item rule types.Whole 0)
 outside item places.Alone = here (in_type item places.Alone types.Whole 0) refl
 outside item places.Fields = here (in_type item places.Fields types.Whole 0) refl
 outside item places.TupleFields = here (in_type item places.TupleFields types.Whole 0) refl
@@ -235,45 +236,45 @@ outside item places.Angle = here (in_type item places.Angle types.Whole 0) refl
 outside item places.CastAngle = here (in_type item places.CastAngle types.Whole 0) refl
 outside item places.ClosureAngle = here (in_type item places.ClosureAngle types.Whole 0) refl
 
-closure : (item : Item) (rule : Rule) (depth : ℕ) → GoesOn (at item rule spots.Closure depth)
+closure : (item : Item) (rule : Continuation) (depth : ℕ) → GoesOn (at item rule spots.Closure depth)
 closure item rule depth =
     led (at item rule spots.Closure depth) (at item places.Alone spots.ExpressionWhole depth) (Bar ∷ a_word ∷ [])
     (λ more. refl) (here (at item places.Alone spots.ExpressionWhole depth) refl)
 
 -- after the last open angle bracket
-closed : (item : Item) (within : Rule) → GoesOn (after_close item within 0)
+close_goes_on : (item : Item) (within : Continuation) → GoesOn (after_close item within 0)
 unfolding after_close
-closed item places.Angle = here (at item places.Angle spots.ExpressionWhole 0) refl
-closed item places.CastAngle = here (at item places.CastAngle spots.CastWhole 0) refl
-closed item places.ClosureAngle = closure item places.ClosureAngle 0
-closed item places.Alone = outside item places.Alone
-closed item places.Fields = outside item places.Fields
-closed item places.TupleFields = outside item places.TupleFields
-closed item places.Parameter = outside item places.Parameter
-closed item places.TypeParameter = outside item places.TypeParameter
-closed item places.ConstParameter = outside item places.ConstParameter
-closed item places.Bounded = outside item places.Bounded
-closed item places.Predicate = outside item places.Predicate
-closed item places.Header = outside item places.Header
-closed item places.Target = outside item places.Target
+close_goes_on item places.Angle = here (at item places.Angle spots.ExpressionWhole 0) refl
+close_goes_on item places.CastAngle = here (at item places.CastAngle spots.CastWhole 0) refl
+close_goes_on item places.ClosureAngle = closure item places.ClosureAngle 0
+close_goes_on item places.Alone = outside item places.Alone
+close_goes_on item places.Fields = outside item places.Fields
+close_goes_on item places.TupleFields = outside item places.TupleFields
+close_goes_on item places.Parameter = outside item places.Parameter
+close_goes_on item places.TypeParameter = outside item places.TypeParameter
+close_goes_on item places.ConstParameter = outside item places.ConstParameter
+close_goes_on item places.Bounded = outside item places.Bounded
+close_goes_on item places.Predicate = outside item places.Predicate
+close_goes_on item places.Header = outside item places.Header
+close_goes_on item places.Target = outside item places.Target
 
-whole : (item : Item) (rule : Rule) (depth : ℕ) → GoesOn (in_type item rule types.Whole depth)
-whole item rule depth = within item rule depth (outside item rule) (closed item rule)
+whole : (item : Item) (rule : Continuation) (depth : ℕ) → GoesOn (in_type item rule types.Whole depth)
+whole item rule depth = within item rule depth (outside item rule) (close_goes_on item rule)
 
-to_whole : (item : Item) (rule : Rule) (depth : ℕ) (place : Place) (front : List Class)
-    → ((more : List Class) → walk step place (front ++ more) ≡ walk step (in_type item rule types.Whole depth) more)
+to_whole : (item : Item) (rule : Continuation) (depth : ℕ) (place : WalkState) (front : List SignClass)
+    → ((more : List SignClass) → walk step place (front ++ more) ≡ walk step (in_type item rule types.Whole depth) more)
     → GoesOn place
 to_whole item rule depth place front leads =
     led place (in_type item rule types.Whole depth) front leads (whole item rule depth)
 
-to_close : (item : Item) (depth : ℕ) (place : Place) (front : List Class)
-    → ((more : List Class) → walk step place (front ++ more)
+to_close : (item : Item) (depth : ℕ) (place : WalkState) (front : List SignClass)
+    → ((more : List SignClass) → walk step place (front ++ more)
     ≡ walk step (at item places.Alone spots.AfterGenerics depth) more)
     → GoesOn place
 to_close item depth place front leads =
     led place (at item places.Alone spots.AfterGenerics depth) front leads (after_generics item places.Alone depth)
 
-from_type : (item : Item) (rule : Rule) (state : TypeState) (depth : ℕ) → GoesOn (in_type item rule state depth)
+from_type : (item : Item) (rule : Continuation) (state : TypeState) (depth : ℕ) → GoesOn (in_type item rule state depth)
 from_type item rule types.Wanted depth =
     to_whole item rule depth (in_type item rule types.Wanted depth) (a_word ∷ []) (λ more. refl)
 from_type item rule types.Bound depth =
@@ -300,7 +301,7 @@ from_type item rule types.Binder depth =
 from_type item rule types.Whole depth = whole item rule depth
 
 -- before the name of an item
-from_front : (item : Item) (rule : Rule) (front : Front) (depth : ℕ)
+from_front : (item : Item) (rule : Continuation) (front : Front) (depth : ℕ)
     → GoesOn (at item rule (spots.Front front) depth)
 from_front item rule fronts.Auto depth =
     to_end items.Trait depth _ (Keyword keywords.Trait ∷ a_word ∷ Braces ∷ []) (λ more. refl)
@@ -333,11 +334,11 @@ from_front item rule fronts.MacroName depth = to_end items.Macro depth _ (a_word
 from_front item rule fronts.MacroParameters depth = to_end items.Macro depth _ (Braces ∷ []) (λ more. refl)
 from_front item rule fronts.MacroBody depth = to_end items.Macro depth _ (Braces ∷ []) (λ more. refl)
 from_front item rule fronts.Impl depth =
-    led _ (in_type item places.Target types.Whole depth) (a_word ∷ []) (λ more. refl) (targeted item depth)
+    led _ (in_type item places.Target types.Whole depth) (a_word ∷ []) (λ more. refl) (target_goes_on item depth)
 from_front item rule fronts.ImplConst depth =
-    led _ (in_type item places.Target types.Whole depth) (a_word ∷ []) (λ more. refl) (targeted item depth)
+    led _ (in_type item places.Target types.Whole depth) (a_word ∷ []) (λ more. refl) (target_goes_on item depth)
 from_front item rule fronts.ImplNot depth =
-    led _ (in_type item places.Target types.Whole depth) (a_word ∷ []) (λ more. refl) (targeted item depth)
+    led _ (in_type item places.Target types.Whole depth) (a_word ∷ []) (λ more. refl) (target_goes_on item depth)
 from_front item rule fronts.ImplAngle depth =
     led _ (at items.Impl places.Alone spots.AfterGenerics (depth - 1)) (Greater ∷ []) (λ more. refl)
     (after_generics items.Impl places.Alone (depth - 1))
@@ -356,7 +357,8 @@ from_front item rule fronts.Until depth = to_end item depth _ (Semicolon ∷ [])
 from_front item rule fronts.Semicolon depth = to_end item depth _ (Semicolon ∷ []) (λ more. refl)
 
 -- after a visibility
-visible : (part : Part) (item : Item) (rule : Rule) (depth : ℕ) → GoesOn (at item rule (spots.Visible part) depth)
+visible : (part : Part) (item : Item) (rule : Continuation) (depth : ℕ)
+    → GoesOn (at item rule (spots.Visible part) depth)
 visible parts.Attributes item rule depth = here (at item rule (spots.Visible parts.Attributes) depth) refl
 visible parts.Visibility item rule depth = here (at item rule (spots.Visible parts.Visibility) depth) refl
 visible parts.Field item rule depth =
@@ -375,51 +377,51 @@ visible parts.TypeItem item rule depth =
 visible parts.AnyItem item rule depth =
     to_end items.Returning depth (at item rule (spots.Visible parts.AnyItem) depth) a_function (λ more. refl)
 
-public : (part : Part) (item : Item) (rule : Rule) (depth : ℕ) → GoesOn (at item rule (spots.Public part) depth)
+public : (part : Part) (item : Item) (rule : Continuation) (depth : ℕ) → GoesOn (at item rule (spots.Public part) depth)
 public part item rule depth =
     led (at item rule (spots.Public part) depth) (at item rule (spots.Visible part) depth) (Restriction ∷ [])
     (λ more. refl) (visible part item rule depth)
 
-to_public : (part : Part) (item : Item) (rule : Rule) (depth : ℕ) (place : Place)
-    → ((more : List Class) → walk step place (Keyword keywords.Pub ∷ more)
+to_public : (part : Part) (item : Item) (rule : Continuation) (depth : ℕ) (place : WalkState)
+    → ((more : List SignClass) → walk step place (Keyword keywords.Pub ∷ more)
     ≡ walk step (at item rule (spots.Public part) depth) more)
     → GoesOn place
 to_public part item rule depth place leads =
     led place (at item rule (spots.Public part) depth) (Keyword keywords.Pub ∷ []) leads (public part item rule depth)
 
-attributed : (part : Part) (item : Item) (rule : Rule) (depth : ℕ)
+attributes_go_on : (part : Part) (item : Item) (rule : Continuation) (depth : ℕ)
     → GoesOn (at item rule (spots.Attributed part) depth)
-attributed parts.Attributes item rule depth = here (at item rule (spots.Attributed parts.Attributes) depth) refl
-attributed parts.Parameter item rule depth =
+attributes_go_on parts.Attributes item rule depth = here (at item rule (spots.Attributed parts.Attributes) depth) refl
+attributes_go_on parts.Parameter item rule depth =
     to_close item depth (at item rule (spots.Attributed parts.Parameter) depth) (Lifetime ∷ Greater ∷ [])
     (λ more. refl)
-attributed parts.Visibility item rule depth =
+attributes_go_on parts.Visibility item rule depth =
     to_public parts.Visibility item rule depth (at item rule (spots.Attributed parts.Visibility) depth) (λ more. refl)
-attributed parts.Field item rule depth =
+attributes_go_on parts.Field item rule depth =
     to_public parts.Field item rule depth (at item rule (spots.Attributed parts.Field) depth) (λ more. refl)
-attributed parts.TupleField item rule depth =
+attributes_go_on parts.TupleField item rule depth =
     to_public parts.TupleField item rule depth (at item rule (spots.Attributed parts.TupleField) depth) (λ more. refl)
-attributed parts.Variant item rule depth =
+attributes_go_on parts.Variant item rule depth =
     to_public parts.Variant item rule depth (at item rule (spots.Attributed parts.Variant) depth) (λ more. refl)
-attributed parts.TypeItem item rule depth =
+attributes_go_on parts.TypeItem item rule depth =
     to_public parts.TypeItem item rule depth (at item rule (spots.Attributed parts.TypeItem) depth) (λ more. refl)
-attributed parts.AnyItem item rule depth =
+attributes_go_on parts.AnyItem item rule depth =
     to_public parts.AnyItem item rule depth (at item rule (spots.Attributed parts.AnyItem) depth) (λ more. refl)
 
-hash : (part : Part) (item : Item) (rule : Rule) (depth : ℕ) → GoesOn (at item rule (spots.Hash part) depth)
+hash : (part : Part) (item : Item) (rule : Continuation) (depth : ℕ) → GoesOn (at item rule (spots.Hash part) depth)
 hash part item rule depth =
     led (at item rule (spots.Hash part) depth) (at item rule (spots.Attributed part) depth) (Brackets ∷ [])
-    (λ more. refl) (attributed part item rule depth)
+    (λ more. refl) (attributes_go_on part item rule depth)
 
-to_hash : (part : Part) (item : Item) (rule : Rule) (depth : ℕ)
-    → ((more : List Class) → walk step (at item rule (spots.Before part) depth) (Hash ∷ more)
+to_hash : (part : Part) (item : Item) (rule : Continuation) (depth : ℕ)
+    → ((more : List SignClass) → walk step (at item rule (spots.Before part) depth) (Hash ∷ more)
     ≡ walk step (at item rule (spots.Hash part) depth) more)
     → GoesOn (at item rule (spots.Before part) depth)
 to_hash part item rule depth leads =
     led (at item rule (spots.Before part) depth) (at item rule (spots.Hash part) depth) (Hash ∷ []) leads
     (hash part item rule depth)
 
-before : (part : Part) (item : Item) (rule : Rule) (depth : ℕ) → GoesOn (at item rule (spots.Before part) depth)
+before : (part : Part) (item : Item) (rule : Continuation) (depth : ℕ) → GoesOn (at item rule (spots.Before part) depth)
 before parts.Attributes item rule depth = to_hash parts.Attributes item rule depth (λ more. refl)
 before parts.Visibility item rule depth =
     to_public parts.Visibility item rule depth (at item rule (spots.Before parts.Visibility) depth) (λ more. refl)
@@ -430,10 +432,10 @@ before parts.Parameter item rule depth = to_hash parts.Parameter item rule depth
 before parts.TypeItem item rule depth = to_hash parts.TypeItem item rule depth (λ more. refl)
 before parts.AnyItem item rule depth = to_hash parts.AnyItem item rule depth (λ more. refl)
 
-from_spot : (item : Item) (rule : Rule) (spot : Spot) (depth : ℕ) → GoesOn (at item rule spot depth)
+from_spot : (item : Item) (rule : Continuation) (spot : Spot) (depth : ℕ) → GoesOn (at item rule spot depth)
 from_spot item rule (spots.Before part) depth = before part item rule depth
 from_spot item rule (spots.Hash part) depth = hash part item rule depth
-from_spot item rule (spots.Attributed part) depth = attributed part item rule depth
+from_spot item rule (spots.Attributed part) depth = attributes_go_on part item rule depth
 from_spot item rule (spots.Public part) depth = public part item rule depth
 from_spot item rule (spots.Visible part) depth = visible part item rule depth
 from_spot item rule (spots.Front front) depth = from_front item rule front depth
@@ -498,10 +500,10 @@ from_spot item rule spots.Closure depth = closure item rule depth
 from_spot item rule spots.VariantName depth = here (at item rule spots.VariantName depth) refl
 from_spot item rule spots.VariantEnd depth = here (at item rule spots.VariantEnd depth) refl
 
-from_state : (item : Item) (rule : Rule) (state : State) (depth : ℕ)
+from_state : (item : Item) (rule : Continuation) (state : State) (depth : ℕ)
     → GoesOn (record { item = item; rule = rule; state = state; depth = depth })
 from_state item rule (states.Range state) depth = from_type item rule state depth
 from_state item rule (states.At spot) depth = from_spot item rule spot depth
 
-pub goes_on : (place : Place) → GoesOn place
+pub goes_on : (place : WalkState) → GoesOn place
 goes_on place = from_state place.item place.rule place.state place.depth

@@ -5,29 +5,29 @@ use Rattle.std.proofs.lemmas.Bool.{both_ways, false_from_ne_true}
 use Rattle.grammars.specs.Grammar.{To}
 use Rattle.grammars.specs.Machine.{is_nullable, only, or_else}
 use Rattle.grammars.proofs.FlatLemmas.{and_more, enter, flat, move}
-use Rattle.declarations.specs.Grammar.{after_angle, else_follow, follow, range_state, ranged, shifted, step}
+use Rattle.declarations.specs.Grammar.{after_angle, else_follow, follow, range_state, after_range, shift_state, step}
 use Rattle.declarations.specs.TypeStep.{may_end, step_of}
 use Rattle.declarations.specs.rules.Classes.{is}
 use Rattle.declarations.specs.rules.Names.{G, Inside, Name, Outside, Range}
 use Rattle.declarations.specs.rules.Rules.{rules}
 use Rattle.declarations.specs.rules.Types.{range}
-use Rattle.declarations.specs.declared.class.Class.{Class}
-use Rattle.declarations.specs.declared.class.Class.TheVariants as signs
+use Rattle.declarations.specs.declared.class.SignClass.{SignClass}
+use Rattle.declarations.specs.declared.class.SignClass.TheVariants as signs
 use Rattle.declarations.specs.declared.class.Keyword.TheVariants as keywords
 use Rattle.declarations.specs.declared.class.Word.TheVariants as words
-use Rattle.declarations.specs.declared.place.Item.{Item}
-use Rattle.declarations.specs.declared.place.Item.TheVariants as items
-use Rattle.declarations.specs.declared.place.Place.{Place}
-use Rattle.declarations.specs.declared.place.Rule.{Rule}
-use Rattle.declarations.specs.declared.place.Rule.TheVariants as places
-use Rattle.declarations.specs.declared.place.State.TheVariants as states
+use Rattle.declarations.specs.declared.walk_state.Item.{Item}
+use Rattle.declarations.specs.declared.walk_state.Item.TheVariants as items
+use Rattle.declarations.specs.declared.walk_state.WalkState.{WalkState}
+use Rattle.declarations.specs.declared.walk_state.Continuation.{Continuation}
+use Rattle.declarations.specs.declared.walk_state.Continuation.TheVariants as places
+use Rattle.declarations.specs.declared.walk_state.State.TheVariants as states
 use Rattle.declarations.specs.declared.types.Turn.{Turn}
 use Rattle.declarations.specs.declared.types.Turn.TheVariants as turns
 use Rattle.declarations.specs.declared.types.TypeState.{TypeState}
 use Rattle.declarations.specs.declared.types.TypeState.TheVariants as types
 use Rattle.declarations.specs.declared.types.TypeStep.{TypeStep}
-use Rattle.declarations.proofs.StackLemmas.{after_brackets, brackets_left, comes_inside, lifted}
-use Rattle.declarations.proofs.StackLemmas.{range_left, reached, rule_left, state_left}
+use Rattle.declarations.proofs.StackLemmas.{after_brackets, brackets_left, comes_inside, left_after}
+use Rattle.declarations.proofs.StackLemmas.{range_left, stack_after, rule_left, state_left}
 use Rattle.declarations.proofs.AgreeLemmas.{Agrees}
 
 -- ---- what the grammar has left to read after a step within a type
@@ -41,7 +41,7 @@ outside_left (Some taken) = elim taken.turn [
   | turns.Close ↦ Some (range taken.state Outside ∷ [])
 ]
 
-outside_same : (state : TypeState) (c : Class)
+outside_same : (state : TypeState) (c : SignClass)
     → enter rules (range state Outside) c ≡ outside_left (step_of state c true)
 outside_same types.Wanted (signs.Word words.Auto) = refl
 outside_same _ (signs.Word words.Auto) = refl
@@ -60,7 +60,7 @@ inside_left n k (Some taken) = elim taken.turn [
   | turns.Close ↦ Some (flat (rules n) ++ k)
 ]
 
-inside_same : (state : TypeState) (n : Name) (k : List G) (c : Class)
+inside_same : (state : TypeState) (n : Name) (k : List G) (c : SignClass)
     → move rules (range state Inside ∷ To (is signs.Greater) n ∷ k) c ≡ inside_left n k (step_of state c false)
 inside_same types.Wanted n k (signs.Word words.Auto) = refl
 inside_same _ n k (signs.Word words.Auto) = refl
@@ -83,7 +83,7 @@ closes_whole (Some taken) = elim taken.turn [
   | turns.Close ↦ is_whole taken.state
 ]
 
-closing_whole : (state : TypeState) (c : Class) → closes_whole (step_of state c false) ≡ true
+closing_whole : (state : TypeState) (c : SignClass) → closes_whole (step_of state c false) ≡ true
 closing_whole types.Wanted (signs.Word words.Auto) = refl
 closing_whole _ (signs.Word words.Auto) = refl
 closing_whole _ (signs.Word _) = refl
@@ -97,72 +97,75 @@ same_end _ = refl
 
 -- ---- steps
 
-abbrev pub at_range : TypeState → ℕ → Item → Rule → Place
+abbrev pub at_range : TypeState → ℕ → Item → Continuation → WalkState
 at_range state depth item rule = record { item = item; rule = rule; state = states.Range state; depth = depth }
 
-outside_agrees : (item : Item) (rule : Rule)
+outside_agrees : (item : Item) (rule : Continuation)
     → ((s : TypeState) → range_left s 0 item rule ≡ Some (range s Outside ∷ rule_left item rule))
     → ((s : TypeState) → range_left s 1 item rule
     ≡ Some (range s Inside ∷ To (is signs.Greater) (Range types.Whole Outside) ∷ rule_left item rule))
     → ((s : TypeState) → after_angle rule s ≡ states.Range s)
-    → ((c : Class) → lifted (shifted 0 (follow item rule c)) ≡ reached (move rules (rule_left item rule) c))
-    → (state : TypeState) (c : Class)
-    → lifted (step (at_range state 0 item rule) c) ≡ reached (move rules (range state Outside ∷ rule_left item rule) c)
+    → ((c : SignClass) → left_after (shift_state 0 (follow item rule c))
+    ≡ stack_after (move rules (rule_left item rule) c))
+    → (state : TypeState) (c : SignClass)
+    → left_after (step (at_range state 0 item rule) c)
+    ≡ stack_after (move rules (range state Outside ∷ rule_left item rule) c)
 outside_agrees item rule stay opened close follows state c =
     rw (outside_same state c, same_end state) (go (step_of state c true))
   where
-    ended : (b : Bool) → lifted (if b then shifted 0 (follow item rule c) else None)
-        ≡ reached (only b (move rules (rule_left item rule) c))
+    ended : (b : Bool) → left_after (if b then shift_state 0 (follow item rule c) else None)
+        ≡ stack_after (only b (move rules (rule_left item rule) c))
     ended true = follows c
     ended false = refl
 
     one : (s : TypeState) (turn : Turn)
-        → lifted (ranged (at_range state 0 item rule) (Some (record { state = s; turn = turn })))
-        ≡ reached (or_else (and_more (outside_left (Some (record { state = s; turn = turn }))) (rule_left item rule))
+        → left_after (after_range (at_range state 0 item rule) (Some (record { state = s; turn = turn })))
+        ≡ stack_after (or_else (and_more (outside_left (Some (record { state = s; turn = turn })))
+        (rule_left item rule))
         (only (may_end state) (move rules (rule_left item rule) c)))
     one s turns.Stay = ap Some (stay s)
     one s turns.Open = ap Some (opened s)
     one s turns.Close = rw (close s) (ap Some (stay s))
 
     go : (o : Option TypeStep)
-        → lifted (else_follow (ranged (at_range state 0 item rule) o) (at_range state 0 item rule) state c)
-        ≡ reached (or_else (and_more (outside_left o) (rule_left item rule))
+        → left_after (else_follow (after_range (at_range state 0 item rule) o) (at_range state 0 item rule) state c)
+        ≡ stack_after (or_else (and_more (outside_left o) (rule_left item rule))
         (only (may_end state) (move rules (rule_left item rule) c)))
     go None = ended (may_end state)
     go (Some taken) = one taken.state taken.turn
 
-inside_agrees : (item : Item) (rule : Rule) (depth : ℕ) (n : Name) (k : List G)
+inside_agrees : (item : Item) (rule : Continuation) (depth : ℕ) (n : Name) (k : List G)
     → ((s : TypeState) → range_left s (suc depth) item rule ≡ Some (range s Inside ∷ To (is signs.Greater) n ∷ k))
     → ((s : TypeState) → range_left s (suc depth + 1) item rule
     ≡ Some (range s Inside ∷ To (is signs.Greater) (Range types.Whole Inside) ∷ To (is signs.Greater) n ∷ k))
     → (state_left (range_state rule types.Whole turns.Close (suc depth - 1)) (suc depth - 1) item rule
     ≡ Some (flat (rules n) ++ k))
     → (suc depth == 0) ≡ false
-    → (state : TypeState) (c : Class)
-    → lifted (step (at_range state (suc depth) item rule) c)
-    ≡ reached (move rules (range state Inside ∷ To (is signs.Greater) n ∷ k) c)
+    → (state : TypeState) (c : SignClass)
+    → left_after (step (at_range state (suc depth) item rule) c)
+    ≡ stack_after (move rules (range state Inside ∷ To (is signs.Greater) n ∷ k) c)
 inside_agrees item rule depth n k stay opened close deep state c =
     rw (deep, inside_same state n k c) (go (step_of state c false) (closing_whole state c))
   where
     one : (s : TypeState) (turn : Turn) → closes_whole (Some (record { state = s; turn = turn })) ≡ true
-        → lifted (ranged (at_range state (suc depth) item rule) (Some (record { state = s; turn = turn })))
-        ≡ reached (inside_left n k (Some (record { state = s; turn = turn })))
+        → left_after (after_range (at_range state (suc depth) item rule) (Some (record { state = s; turn = turn })))
+        ≡ stack_after (inside_left n k (Some (record { state = s; turn = turn })))
     one s turns.Stay h = ap Some (stay s)
     one s turns.Open h = ap Some (opened s)
     one types.Whole turns.Close h = ap Some close
     one _ turns.Close h = absurd (both_ways false refl h)
 
     go : (o : Option TypeStep) → closes_whole o ≡ true
-        → lifted (else_follow (ranged (at_range state (suc depth) item rule) o) (at_range state
+        → left_after (else_follow (after_range (at_range state (suc depth) item rule) o) (at_range state
         (suc depth) item rule) state c)
-        ≡ reached (inside_left n k o)
+        ≡ stack_after (inside_left n k o)
     go None h = rw deep refl
     go (Some taken) h = one taken.state taken.turn h
 
 -- ---- after a type
 
 -- whether a type with this rule ends where a type on its own does
-abbrev is_plain : Rule → Bool
+abbrev is_plain : Continuation → Bool
 is_plain places.Target = false
 is_plain places.Angle = false
 is_plain places.CastAngle = false
@@ -170,13 +173,13 @@ is_plain places.ClosureAngle = false
 is_plain _ = true
 
 -- after a type, the tables go on as the grammar does
-abbrev FollowAgrees : Item → Rule → Class → Type 0
+abbrev FollowAgrees : Item → Continuation → SignClass → Type 0
 FollowAgrees item rule c = elim (is_plain rule) [
-  | true ↦ lifted (shifted 0 (follow item rule c)) ≡ reached (move rules (rule_left item rule) c)
+  | true ↦ left_after (shift_state 0 (follow item rule c)) ≡ stack_after (move rules (rule_left item rule) c)
   | false ↦ true ≡ true
 ]
 
-follow_agrees : (rule : Rule) (item : Item) (c : Class) → FollowAgrees item rule c
+follow_agrees : (rule : Continuation) (item : Item) (c : SignClass) → FollowAgrees item rule c
 follow_agrees places.Alone item (signs.Word words.Auto) = refl
 follow_agrees places.Predicate items.Alone (signs.Word words.Auto) = refl
 follow_agrees places.Header items.Alone (signs.Word words.Auto) = refl
@@ -191,7 +194,7 @@ follow_agrees _ item (signs.Keyword _) = refl
 follow_agrees _ item _ = refl
 
 -- within the type after `impl`, which `for` may follow
-target_agrees : (state : TypeState) (c : Class)
+target_agrees : (state : TypeState) (c : SignClass)
     → Agrees (range_left state 0 items.Impl places.Target) (step (at_range state 0 items.Impl places.Target) c) c
 target_agrees types.Wanted (signs.Word words.Auto) = refl
 target_agrees _ (signs.Word words.Auto) = refl
@@ -203,7 +206,7 @@ target_agrees _ _ = refl
 -- ---- any number of open angle brackets
 
 -- after the outermost angle brackets
-close_agrees : (item : Item) (rule : Rule) → comes_inside item rule ≡ true
+close_agrees : (item : Item) (rule : Continuation) → comes_inside item rule ≡ true
     → state_left (after_angle rule types.Whole) 0 item rule
     ≡ Some (flat (rules (after_brackets rule)) ++ rule_left item rule)
 close_agrees items.Impl places.Target h = refl
@@ -228,14 +231,14 @@ one_more n = omega arith
 one_less : (n : ℕ) → suc (suc n) - 1 ≡ suc n
 one_less n = omega arith
 
-deep_left : (s : TypeState) (depth : ℕ) (item : Item) (rule : Rule) → comes_inside item rule ≡ true
+deep_left : (s : TypeState) (depth : ℕ) (item : Item) (rule : Continuation) → comes_inside item rule ≡ true
     → range_left s (suc depth) item rule ≡ Some (range s Inside ∷ (brackets_left rule depth ++ rule_left item rule))
 deep_left s depth item rule h = rw h refl
 
-deep_agrees : (depth : ℕ) (item : Item) (rule : Rule) → comes_inside item rule ≡ true
-    → (state : TypeState) (c : Class)
-    → lifted (step (at_range state (suc depth) item rule) c)
-    ≡ reached (move rules (range state Inside ∷ (brackets_left rule depth ++ rule_left item rule)) c)
+deep_agrees : (depth : ℕ) (item : Item) (rule : Continuation) → comes_inside item rule ≡ true
+    → (state : TypeState) (c : SignClass)
+    → left_after (step (at_range state (suc depth) item rule) c)
+    ≡ stack_after (move rules (range state Inside ∷ (brackets_left rule depth ++ rule_left item rule)) c)
 deep_agrees zero item rule h state c =
     inside_agrees item rule
     0 (after_brackets rule) (rule_left item rule) (λ s. deep_left s 0 item rule h)
@@ -249,7 +252,7 @@ deep_agrees (suc depth) item rule h state c =
         ≡ Some (flat (rules (Range types.Whole Inside)) ++ (brackets_left rule depth ++ rule_left item rule))
     close = rw (one_less depth, not_zero depth) (deep_left types.Whole depth item rule h)
 
-pub range_agrees : (depth : ℕ) (state : TypeState) (item : Item) (rule : Rule) (c : Class)
+pub range_agrees : (depth : ℕ) (state : TypeState) (item : Item) (rule : Continuation) (c : SignClass)
     → Agrees (range_left state depth item rule) (step (at_range state depth item rule) c) c
 range_agrees (suc depth) state item rule c = go (comes_inside item rule) refl
   where

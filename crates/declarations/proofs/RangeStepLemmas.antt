@@ -2,18 +2,19 @@
 use Rattle.std.proofs.Common.{◌≡◌, refl, sym, ◌∙◌, ap, ℕ, ◌+◌, ◌≤◌, ◌==◌, Bool, true, false, ◌&&◌, List, [], ◌∷◌}
 use Rattle.std.proofs.Common.{Option, Some, None, length, arith, if◌then◌else◌}
 use Rattle.pm_stream.specs.declared.stream.TokenTree.{TokenTree}
-use Rattle.declarations.specs.Grammar.{after_angle, else_follow, ends, follow, range_state, ranged, shifted, step}
-use Rattle.declarations.specs.Grammar.{turned}
+use Rattle.declarations.specs.Grammar.{after_angle, else_follow, ends, follow, range_state, after_range, shift_state}
+use Rattle.declarations.specs.Grammar.{step}
+use Rattle.declarations.specs.Grammar.{depth_after}
 use Rattle.declarations.specs.Range.{in_range}
 use Rattle.declarations.specs.Reading.{StopsAt, Walked}
 use Rattle.declarations.specs.Signs.{BeginsWith, classes_of, signs}
 use Rattle.declarations.specs.TypeStep.{may_end, step_of}
 use Rattle.declarations.specs.Walk.{Stops}
-use Rattle.declarations.specs.declared.class.Class.{Class}
-use Rattle.declarations.specs.declared.place.Item.TheVariants as items
-use Rattle.declarations.specs.declared.place.Place.{Place}
-use Rattle.declarations.specs.declared.place.Rule.TheVariants as rules
-use Rattle.declarations.specs.declared.place.State.TheVariants as states
+use Rattle.declarations.specs.declared.class.SignClass.{SignClass}
+use Rattle.declarations.specs.declared.walk_state.Item.TheVariants as items
+use Rattle.declarations.specs.declared.walk_state.WalkState.{WalkState}
+use Rattle.declarations.specs.declared.walk_state.Continuation.TheVariants as rules
+use Rattle.declarations.specs.declared.walk_state.State.TheVariants as states
 use Rattle.declarations.specs.declared.types.Turn.{Turn}
 use Rattle.declarations.specs.declared.types.Turn.TheVariants as turns
 use Rattle.declarations.specs.declared.types.TypeState.{TypeState}
@@ -34,35 +35,36 @@ range_alone state turns.Open depth = refl
 range_alone state turns.Close depth = same_range (depth == 0) state
 
 ranged_alone : (state : TypeState) (depth : ℕ) (taken : TypeStep)
-    → ranged (in_range state depth) (Some taken) ≡ Some (in_range taken.state (turned taken.turn depth))
+    → after_range (in_range state depth) (Some taken) ≡ Some (in_range taken.state (depth_after taken.turn depth))
 ranged_alone state depth taken =
-    ap (λ s. Some (record { item = items.Alone; rule = rules.Alone; state = s; depth = turned taken.turn depth }))
-    (range_alone taken.state taken.turn (turned taken.turn depth))
+    ap (λ s. Some (record { item = items.Alone; rule = rules.Alone; state = s; depth = depth_after taken.turn depth }))
+    (range_alone taken.state taken.turn (depth_after taken.turn depth))
 
-no_follow : (b : Bool) (depth : ℕ) (class : Class)
-    → (if b then shifted depth (follow items.Alone rules.Alone class) else None) ≡ None
+no_follow : (b : Bool) (depth : ℕ) (class : SignClass)
+    → (if b then shift_state depth (follow items.Alone rules.Alone class) else None) ≡ None
 no_follow true depth class = refl
 no_follow false depth class = refl
 
-step_alone : (state : TypeState) (depth : ℕ) (class : Class) (o : Option TypeStep)
+step_alone : (state : TypeState) (depth : ℕ) (class : SignClass) (o : Option TypeStep)
     → step_of state class (depth == 0) ≡ o
-    → step (in_range state depth) class ≡ ranged (in_range state depth) o
+    → step (in_range state depth) class ≡ after_range (in_range state depth) o
 step_alone state depth class None e =
-    ap (λ x. else_follow (ranged (in_range state depth) x) (in_range state depth) state class) e
+    ap (λ x. else_follow (after_range (in_range state depth) x) (in_range state depth) state class) e
     ∙ no_follow ((depth == 0) && may_end state) depth class
 step_alone state depth class (Some taken) e =
-    ap (λ x. else_follow (ranged (in_range state depth) x) (in_range state depth) state class) e
+    ap (λ x. else_follow (after_range (in_range state depth) x) (in_range state depth) state class) e
 
 -- a sign is a step
-pub step_taken : (state : TypeState) (depth : ℕ) (class : Class) (o : Option TypeStep) (taken : TypeStep) (inner : ℕ)
-    → o ≡ step_of state class (depth == 0) → o ≡ Some taken → inner ≡ turned taken.turn depth
+pub step_taken : (state : TypeState) (depth : ℕ) (class : SignClass) (o : Option TypeStep) (taken : TypeStep)
+    (inner : ℕ)
+    → o ≡ step_of state class (depth == 0) → o ≡ Some taken → inner ≡ depth_after taken.turn depth
     → step (in_range state depth) class ≡ Some (in_range taken.state inner)
 step_taken state depth class o taken inner is some turn =
     step_alone state depth class (Some taken) (sym is ∙ some)
     ∙ (ranged_alone state depth taken ∙ ap (λ n. Some (in_range taken.state n)) (sym turn))
 
 -- a sign is no step
-pub step_none : (state : TypeState) (depth : ℕ) (class : Class) (o : Option TypeStep)
+pub step_none : (state : TypeState) (depth : ℕ) (class : SignClass) (o : Option TypeStep)
     → o ≡ step_of state class (depth == 0) → o ≡ None
     → step (in_range state depth) class ≡ None
 step_none state depth class o is none = step_alone state depth class None (sym is ∙ none)
@@ -81,7 +83,7 @@ range_start start trees =
     record { walked = walked-none (in_range start 0) trees; room = omega arith }
 
 pub range_more : (start : TypeState) (trees left after : List TokenTree) (state next : TypeState) (depth inner : ℕ)
-    (class : Class) → InRange start trees left state depth → BeginsWith left class after
+    (class : SignClass) → InRange start trees left state depth → BeginsWith left class after
     → step (in_range state depth) class ≡ Some (in_range next inner)
     → inner + length after ≤ depth + length left
     → InRange start trees after next inner

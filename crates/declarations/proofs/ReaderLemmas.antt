@@ -7,7 +7,7 @@ use Rattle.std.proofs.Math.Seq.{drop-append_seam}
 use Rattle.std.specs.Prelude.{Result, Ok, Err}
 use Rattle.std.specs.Borrow.{Bor}
 use Rattle.grammars.specs.Grammar.{Nothing, Sign, Mark, Then, Either, One, Marked, perhaps}
-use Rattle.grammars.specs.Machine.{is_nullable, skipped}
+use Rattle.grammars.specs.Machine.{is_nullable, marks_of_nothing}
 use Rattle.grammars.specs.First.{heads, may_begin}
 use Rattle.grammars.specs.Find.{front}
 use Rattle.grammars.proofs.WordLemmas.{find_first, find_lacks, find_mark, find_other, find_sign, find_skips, find_then}
@@ -16,7 +16,7 @@ use Rattle.pm_stream.specs.declared.stream.TokenTree.{TokenTree}
 use Rattle.declarations.specs.Fault.{extent_at, first_extent}
 use Rattle.declarations.specs.Signs.{BeginsWith, classes_of, signs, trees_of}
 use Rattle.declarations.specs.Reader.{Finds, Remains, ReadsRule, Sticks, classes_in}
-use Rattle.declarations.specs.declared.class.Class.{Class}
+use Rattle.declarations.specs.declared.class.SignClass.{SignClass}
 use Rattle.declarations.specs.rules.Names.{G, Label, Name}
 use Rattle.declarations.specs.rules.Rules.{rules}
 use Rattle.declarations.proofs.ReadingLemmas.{trees-append}
@@ -53,14 +53,14 @@ remains_span trees left at span b counted first =
     first ∙ ap first_extent (sym (drop-append_seam (trees_of b.front) left)
     ∙ ap (λ n. drop n (trees_of b.front ++ left)) count ∙ ap (drop at) (sym b.whole))
 
-pub remains_sign : (trees rest : List TokenTree) (class : Class) → BeginsWith trees class rest → Remains rest trees
+pub remains_sign : (trees rest : List TokenTree) (class : SignClass) → BeginsWith trees class rest → Remains rest trees
 remains_sign trees rest class b = record {
   front = record { class = class; trees = b.front } ∷ [];
   read = b.read;
   whole = b.whole ∙ ap (λ ts. ts ++ rest) (sym (append-nil b.front));
 }
 
-pub classes_sign : (trees rest : List TokenTree) (class : Class) → BeginsWith trees class rest
+pub classes_sign : (trees rest : List TokenTree) (class : SignClass) → BeginsWith trees class rest
     → classes_in trees ≡ class ∷ classes_in rest
 unfolding classes_in
 classes_sign trees rest class b = ap classes_of b.read
@@ -71,11 +71,11 @@ classes_none trees e = rw e refl
 
 -- ---- what can begin
 
-pub heads_sign : (g : G) (trees rest : List TokenTree) (class : Class) → BeginsWith trees class rest
+pub heads_sign : (g : G) (trees rest : List TokenTree) (class : SignClass) → BeginsWith trees class rest
     → heads g (classes_in trees) ≡ may_begin g class
 heads_sign g trees rest class b = rw (classes_sign trees rest class b) refl
 
-pub test_heads : (g : G) (trees rest : List TokenTree) (class : Class) (test : Bool) → BeginsWith trees class rest
+pub test_heads : (g : G) (trees rest : List TokenTree) (class : SignClass) (test : Bool) → BeginsWith trees class rest
     → test ≡ may_begin g class
     → test ≡ heads g (classes_in trees)
 test_heads g trees rest class test b h = h ∙ sym (heads_sign g trees rest class b)
@@ -83,19 +83,19 @@ test_heads g trees rest class test b h = h ∙ sym (heads_sign g trees rest clas
 pub heads_none : (g : G) (trees : List TokenTree) → trees ≡ [] → heads g (classes_in trees) ≡ false
 heads_none g trees e = rw (classes_none trees e) refl
 
-pub heads_nothing : (cs : List Class) → heads {N = Name} {L = Label} Nothing cs ≡ false
+pub heads_nothing : (cs : List SignClass) → heads {N = Name} {L = Label} Nothing cs ≡ false
 heads_nothing [] = refl
 heads_nothing (c ∷ cs) = refl
 
-pub heads_mark : (l : Label) (cs : List Class) → heads {N = Name} (Mark l) cs ≡ false
+pub heads_mark : (l : Label) (cs : List SignClass) → heads {N = Name} (Mark l) cs ≡ false
 heads_mark l [] = refl
 heads_mark l (c ∷ cs) = refl
 
-pub heads_either : (a b : G) (cs : List Class) → heads (Either a b) cs ≡ (heads a cs || heads b cs)
+pub heads_either : (a b : G) (cs : List SignClass) → heads (Either a b) cs ≡ (heads a cs || heads b cs)
 heads_either a b [] = refl
 heads_either a b (c ∷ cs) = refl
 
-pub heads_then : (a b : G) (cs : List Class) → heads (Then a b) cs ≡ (heads a cs || is_nullable a && heads b cs)
+pub heads_then : (a b : G) (cs : List SignClass) → heads (Then a b) cs ≡ (heads a cs || is_nullable a && heads b cs)
 heads_then a b [] = go (is_nullable a)
   where
     go : (e : Bool) → false ≡ (e && false)
@@ -105,7 +105,8 @@ heads_then a b (c ∷ cs) = refl
 
 -- ---- one sign
 
-pub sign_finds : (passes : Class → Bool) (trees rest : List TokenTree) (class : Class) → BeginsWith trees class rest
+pub sign_finds : (passes : SignClass → Bool) (trees rest : List TokenTree) (class : SignClass)
+    → BeginsWith trees class rest
     → passes class ≡ true
     → Finds (Sign passes) trees rest
 sign_finds passes trees rest class b h = record {
@@ -118,13 +119,14 @@ pub lacks : (g : G) (trees : List TokenTree) → heads g (classes_in trees) ≡ 
     → Sticks g trees trees
 lacks g trees h e = record { stuck = find_lacks rules g (classes_in trees) h e; remains = remains_self trees }
 
-pub sign_sticks : (passes : Class → Bool) (trees rest : List TokenTree) (class : Class) → BeginsWith trees class rest
+pub sign_sticks : (passes : SignClass → Bool) (trees rest : List TokenTree) (class : SignClass)
+    → BeginsWith trees class rest
     → passes class ≡ false
     → Sticks (Sign passes) trees trees
 sign_sticks passes trees rest class b h =
     lacks (Sign passes) trees (heads_sign (Sign passes) trees rest class b ∙ h) refl
 
-pub sign_ends : (passes : Class → Bool) (trees : List TokenTree) → trees ≡ [] → Sticks (Sign passes) trees trees
+pub sign_ends : (passes : SignClass → Bool) (trees : List TokenTree) → trees ≡ [] → Sticks (Sign passes) trees trees
 sign_ends passes trees e = lacks (Sign passes) trees (heads_none (Sign passes) trees e) refl
 
 -- ---- sequences
@@ -226,7 +228,7 @@ other_reads a b trees (Err left) d e h = other_sticks a b trees left.now d e h
 pub stays : (g : G) (trees : List TokenTree) → heads g (classes_in trees) ≡ false → is_nullable g ≡ true
     → Finds g trees trees
 stays g trees h e = record {
-  events = skipped g;
+  events = marks_of_nothing g;
   found = find_skips rules g (classes_in trees) h e;
   remains = remains_self trees;
 }

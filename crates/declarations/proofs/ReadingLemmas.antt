@@ -10,13 +10,13 @@ use Rattle.pm_stream.specs.declared.stream.TokenTree.TheVariants.{Group, Ident, 
 use Rattle.declarations.proofs.WalkLemmas.{after, walk-append, walk-cons, one_walk, not_found, not_found-end}
 use Rattle.declarations.proofs.WalkLemmas.{none_stands, is_front, no_front}
 use Rattle.declarations.proofs.PlaceLemmas.{goes_on}
-use Rattle.declarations.specs.Reading.{Reads, FaultAt, IsOnly, StopsBefore, Walked, first_name, name_of, named}
+use Rattle.declarations.specs.Reading.{Reads, FaultAt, IsOnly, StopsBefore, Walked, first_name, name_of, name_so_far}
 use Rattle.declarations.specs.Signs.{Sign, signs, classes_of, trees_of, BeginsWith}
 use Rattle.declarations.specs.Forms.{IsFrom}
 use Rattle.declarations.specs.Grammar.{step, ends, names}
 use Rattle.declarations.specs.Walk.{walk, Stops}
-use Rattle.declarations.specs.declared.class.Class.{Class}
-use Rattle.declarations.specs.declared.place.Place.{Place}
+use Rattle.declarations.specs.declared.class.SignClass.{SignClass}
+use Rattle.declarations.specs.declared.walk_state.WalkState.{WalkState}
 
 pub classes-append : (front back : List Sign) → classes_of (front ++ back) ≡ classes_of front ++ classes_of back
 classes-append [] back = refl
@@ -57,43 +57,44 @@ first_of true trees before = refl
 first_of false trees before = refl
 
 -- the name after one more sign
-name-snoc : (start place next : Place) (name : Option Name) (front : List Sign) (sign : Sign)
+name-snoc : (start place next : WalkState) (name : Option Name) (front : List Sign) (sign : Sign)
     → walk step start (classes_of front) ≡ Some place → step place sign.class ≡ Some next
     → name_of start name (front ++ sign ∷ [])
-    ≡ named place sign.class sign.trees (name_of start name front)
+    ≡ name_so_far place sign.class sign.trees (name_of start name front)
 name-snoc start place next name [] sign walks steps =
     let same : start ≡ place = cc in
     let here : step start sign.class ≡ Some next = subst (λ p. step p sign.class ≡ Some next) (sym same) steps in
     subst (λ o. (elim o as (λ x. Option Name) [
       | None ↦ name
-      | Some n ↦ named start sign.class sign.trees name
-    ]) ≡ named place sign.class sign.trees name) (sym here) (ap (λ p. named p sign.class sign.trees name) same)
+      | Some n ↦ name_so_far start sign.class sign.trees name
+    ]) ≡ name_so_far place sign.class sign.trees name) (sym here)
+    (ap (λ p. name_so_far p sign.class sign.trees name) same)
 name-snoc start place next name (first ∷ front) sign walks steps =
     elim (step start first.class) as (λ o.
-    (elim o as (λ x. Option Place) [ None ↦ None | Some n ↦ walk step n (classes_of front) ]) ≡ Some place
+    (elim o as (λ x. Option WalkState) [ None ↦ None | Some n ↦ walk step n (classes_of front) ]) ≡ Some place
     → (elim o as (λ x. Option Name) [
       | None ↦ name
-      | Some n ↦ name_of n (named start first.class first.trees name) (front ++ sign ∷ [])
-    ]) ≡ named place sign.class sign.trees (elim o as (λ x. Option Name) [
+      | Some n ↦ name_of n (name_so_far start first.class first.trees name) (front ++ sign ∷ [])
+    ]) ≡ name_so_far place sign.class sign.trees (elim o as (λ x. Option Name) [
       | None ↦ name
-      | Some n ↦ name_of n (named start first.class first.trees name) front
+      | Some n ↦ name_of n (name_so_far start first.class first.trees name) front
     ])) [
       | None ↦ λ h. cc
-      | Some n ↦ λ h. name-snoc n place next (named start first.class first.trees name) front sign h steps
+      | Some n ↦ λ h. name-snoc n place next (name_so_far start first.class first.trees name) front sign h steps
     ] walks
 
 -- a walk up to the left trees, with room for the number of open brackets to grow
-pub record Walking (start : Place) (trees left named : List TokenTree) (place : Place) : Type 0 where
-  pub walked : Walked start trees left place (first_name named)
+pub record Walking (start : WalkState) (trees left name_so_far : List TokenTree) (place : WalkState) : Type 0 where
+  pub walked : Walked start trees left place (first_name name_so_far)
   pub room : place.depth + length left ≤ length trees
 
-pub walked-none : (start : Place) (trees : List TokenTree) → Walked start trees trees start None
+pub walked-none : (start : WalkState) (trees : List TokenTree) → Walked start trees trees start None
 walked-none start trees = record { front = []; read = refl; whole = refl; walks = refl; takes = refl }
 
 -- the walk after one more sign
-pub walked-more : (start : Place) (trees left : List TokenTree) (place next : Place) (name : Option Name)
-    (class : Class) (rest : List TokenTree) → Walked start trees left place name → BeginsWith left class rest
-    → step place class ≡ Some next → Walked start trees rest next (named place class left name)
+pub walked-more : (start : WalkState) (trees left : List TokenTree) (place next : WalkState) (name : Option Name)
+    (class : SignClass) (rest : List TokenTree) → Walked start trees left place name → BeginsWith left class rest
+    → step place class ≡ Some next → Walked start trees rest next (name_so_far place class left name)
 walked-more start trees left place next name class rest walked begins steps =
     let sign : Sign = record { class = class; trees = begins.front } in
     let front : List Sign = walked.front ++ sign ∷ [] in
@@ -111,8 +112,8 @@ walked-more start trees left place next name class rest walked begins steps =
     ∙ walk-append step start (classes_of walked.front) (class ∷ [])
     ∙ ap (λ o. after step o (class ∷ [])) walked.walks
     ∙ walk-cons step place class [] ∙ ap (λ o. after step o []) steps in
-    let takes : named place class left name ≡ name_of start None front =
-    ap (named place class left) walked.takes
+    let takes : name_so_far place class left name ≡ name_of start None front =
+    ap (name_so_far place class left) walked.takes
     ∙ ap (λ n. cond (names place class) n (name_of start None walked.front))
     (sym (front_name left begins.front rest begins.whole begins.fewer))
     ∙ sym (name-snoc start place next None walked.front sign walked.walks steps) in
@@ -127,7 +128,7 @@ same_back a b x y whole same =
     sym (drop-append_seam a x) ∙ ap (λ n. drop n (a ++ x)) count ∙ ap (drop (length b)) whole ∙ drop-append_seam b y
 
 -- a part is read if the walk stops in a state where it may end
-pub split_read : {name : Option Name} → (start : Place) (trees left part rest : List TokenTree) (place : Place)
+pub split_read : {name : Option Name} → (start : WalkState) (trees left part rest : List TokenTree) (place : WalkState)
     → Walked start trees left place name → ends place ≡ true → Stops step place (classes_of (signs left))
     → trees ≡ part ++ rest → length rest ≡ length left → Reads (IsFrom start) trees part rest
 split_read start trees left part rest place walked ended stops whole counted =
@@ -148,15 +149,16 @@ split_read start trees left part rest place walked ended stops whole counted =
     }
 
 -- what the walk found before the left trees it also found before the rest
-pub split_told : (start : Place) (trees left part rest : List TokenTree) (place : Place) (name : Option Name)
+pub split_kind_and_name : (start : WalkState) (trees left part rest : List TokenTree) (place : WalkState)
+    (name : Option Name)
     → Walked start trees left place name → trees ≡ part ++ rest → length rest ≡ length left
     → Walked start trees rest place name
-split_told start trees left part rest place name walked whole counted =
+split_kind_and_name start trees left part rest place name walked whole counted =
     let same : left ≡ rest =
     same_back (trees_of walked.front) part left rest (sym walked.whole ∙ whole) (sym counted) in
     subst (λ ts. Walked start trees ts place name) same walked
 
-pub split_only : (start : Place) (trees part rest : List TokenTree) → Reads (IsFrom start) trees part rest
+pub split_only : (start : WalkState) (trees part rest : List TokenTree) → Reads (IsFrom start) trees part rest
     → IsOnly (IsFrom start) trees part rest
 split_only start trees part rest here part2 rest2 there =
     let same : here.piece ++ signs rest ≡ there.piece ++ signs rest2 = sym here.read ∙ there.read in
@@ -172,7 +174,8 @@ split_only start trees part rest here part2 rest2 there =
     (parts, rests)
 
 -- nothing is read if the walk stops in a state where it may not end
-nothing_read : (start : Place) (trees left : List TokenTree) (place : Place) (name : Option Name) (after : List Class)
+nothing_read : (start : WalkState) (trees left : List TokenTree) (place : WalkState) (name : Option Name)
+    (after : List SignClass)
     → (walked : Walked start trees left place name) → ends place ≡ false → Stops step place after
     → classes_of (signs left) ≡ after
     → (part rest : List TokenTree) → Reads (IsFrom start) trees part rest → ⊥
@@ -190,14 +193,14 @@ nothing_read start trees left place name (class ∷ more) walked wrong stops is 
     ∙ sym (classes-append walked.front (signs left)) ∙ ap classes_of (sym walked.read ∙ reads.read)
     ∙ classes-append reads.piece (signs rest)) reads.stands
 
-no_longer : (start : Place) (place : Place) (front after : List Class)
+no_longer : (start : WalkState) (place : WalkState) (front after : List SignClass)
     → walk step start front ≡ Some place → ends place ≡ false → Stops step place after
     → StopsBefore (IsFrom start) front after
 no_longer start place front [] walks wrong stops = tt
 no_longer start place front (class ∷ after) walks wrong stops =
     no_front step ends start place front class walks wrong stops
 
-pub split_fault : {name : Option Name} → (start : Place) (trees left : List TokenTree) (place : Place) (at : ℕ)
+pub split_fault : {name : Option Name} → (start : WalkState) (trees left : List TokenTree) (place : WalkState) (at : ℕ)
     → Walked start trees left place name → ends place ≡ false → Stops step place (classes_of (signs left))
     → at + length left ≡ length trees → FaultAt (IsFrom start) trees at
 split_fault start trees left place at walked wrong stops counted =

@@ -15,7 +15,7 @@ use Rattle.declarations.specs.Reader.{Finds, Sticks, classes_in}
 use Rattle.declarations.specs.Reading.{FaultAt, IsOnly, Reads, StopsBefore}
 use Rattle.declarations.specs.Signs.{Sign, classes_of, signs, trees_of}
 use Rattle.declarations.specs.Walk.{IsFront, IsWalk, Stops, walk}
-use Rattle.declarations.specs.declared.class.Class.{Class}
+use Rattle.declarations.specs.declared.class.SignClass.{SignClass}
 use Rattle.declarations.specs.rules.Names.{G, Label, Name}
 use Rattle.declarations.specs.rules.Pieces.{ByRule}
 use Rattle.declarations.specs.rules.Rules.{follows, rules}
@@ -27,34 +27,35 @@ use Rattle.declarations.proofs.WalkLemmas.{no_front, none_stands, not_found, not
 -- ---- the machine as a walk
 
 -- the stack after a step
-abbrev stack_of : machine.Step Class Name Label → Option (List G)
+abbrev stack_of : machine.Transition SignClass Name Label → Option (List G)
 stack_of None = None
 stack_of (Some taken) = Some taken.1
 
 -- the steps of the machine, without events
-abbrev step : List G → Class → Option (List G)
+abbrev step : List G → SignClass → Option (List G)
 step k c = stack_of (machine.step rules k c)
 
-stack_before : (events : List (Event Class Label)) (s : machine.Step Class Name Label)
-    → stack_of (machine.behind events s) ≡ stack_of s
+stack_before : (events : List (Event SignClass Label)) (s : machine.Transition SignClass Name Label)
+    → stack_of (machine.prepend_events events s) ≡ stack_of s
 stack_before events None = refl
 stack_before events (Some taken) = refl
 
-walk_same : (k : List G) (cs : List Class) → walk step k cs ≡ stack_of (machine.walk rules k cs)
+walk_same : (k : List G) (cs : List SignClass) → walk step k cs ≡ stack_of (machine.walk rules k cs)
 walk_same k [] = refl
 walk_same k (c ∷ cs) = go (machine.step rules k c) (λ j. walk_same j cs)
   where
-    go : (s : machine.Step Class Name Label) → ((j : List G) → walk step j cs ≡ stack_of (machine.walk rules j cs))
+    go : (s : machine.Transition SignClass Name Label)
+        → ((j : List G) → walk step j cs ≡ stack_of (machine.walk rules j cs))
         → (elim (stack_of s) as (λ x. Option (List G)) [ None ↦ None | Some next ↦ walk step next cs ])
-        ≡ stack_of (elim s as (λ x. machine.Step Class Name Label) [
+        ≡ stack_of (elim s as (λ x. machine.Transition SignClass Name Label) [
           | None ↦ None
-          | Some taken ↦ machine.behind taken.0 (machine.walk rules taken.1 cs)
+          | Some taken ↦ machine.prepend_events taken.0 (machine.walk rules taken.1 cs)
         ])
     go None f = refl
     go (Some taken) f = f taken.1 ∙ sym (stack_before taken.0 (machine.walk rules taken.1 cs))
 
-stop_here : (k : List G) (rest : List Class)
-    → ((c : Class) (more : List Class) → rest ≡ c ∷ more → machine.step rules k c ≡ None)
+stop_here : (k : List G) (rest : List SignClass)
+    → ((c : SignClass) (more : List SignClass) → rest ≡ c ∷ more → machine.step rules k c ≡ None)
     → Stops step k rest
 stop_here k [] f = tt
 stop_here k (c ∷ rest) f = ap stack_of (f c rest refl)
@@ -62,10 +63,10 @@ stop_here k (c ∷ rest) f = ap stack_of (f c rest refl)
 -- ---- pieces of a rule that a reading can begin with
 
 module _ (g : G) (start : IsStart rules follows (g ∷ [])) where
-  abbrev Form : List Class → List Class → Type 0
+  abbrev Form : List SignClass → List SignClass → Type 0
   Form = IsWalk step machine.ends (g ∷ [])
 
-  piece_form : (piece rest : List Class) → ByRule g piece rest → Form piece rest
+  piece_form : (piece rest : List SignClass) → ByRule g piece rest → Form piece rest
   piece_form piece rest p =
       let w = piece_walk rules follows well_formed (g ∷ []) start piece rest p in
       record {
@@ -76,7 +77,8 @@ module _ (g : G) (start : IsStart rules follows (g ∷ [])) where
       }
 
   -- what is found is a piece of the rule
-  found_piece : (cs piece rest : List Class) (events : List (Event Class Label)) → find rules g cs ≡ Past events rest
+  found_piece : (cs piece rest : List SignClass) (events : List (Event SignClass Label))
+      → find rules g cs ≡ Past events rest
       → cs ≡ piece ++ rest
       → ByRule g piece rest
   unfolding find
@@ -124,7 +126,7 @@ module _ (g : G) (start : IsStart rules follows (g ∷ [])) where
   -- ---- when nothing can be read
 
   -- other signs can complete the prefix that a walk took
-  front_goes : (front : List Class) (taken : List (Event Class Label) × List G)
+  front_goes : (front : List SignClass) (taken : List (Event SignClass Label) × List G)
       → machine.walk rules (g ∷ []) front ≡ Some taken
       → IsFront (ByRule g) front
   front_goes front taken walks =
@@ -144,7 +146,7 @@ module _ (g : G) (start : IsStart rules follows (g ∷ [])) where
         };
       }
 
-  no_longer : (front left : List Class) (last : List G) → walk step (g ∷ []) front ≡ Some last
+  no_longer : (front left : List SignClass) (last : List G) → walk step (g ∷ []) front ≡ Some last
       → machine.ends last ≡ false → Stops step last left
       → StopsBefore (ByRule g) front left
   no_longer front [] last walks wrong stops = tt
@@ -158,9 +160,9 @@ module _ (g : G) (start : IsStart rules follows (g ∷ [])) where
         stands = piece_form goes.piece goes.rest goes.stands;
       })
 
-  nothing_read : (front left : List Class) (last : List G) → walk step (g ∷ []) front ≡ Some last
+  nothing_read : (front left : List SignClass) (last : List G) → walk step (g ∷ []) front ≡ Some last
       → machine.ends last ≡ false → Stops step last left
-      → (piece rest : List Class) → front ++ left ≡ piece ++ rest → ByRule g piece rest → ⊥
+      → (piece rest : List SignClass) → front ++ left ≡ piece ++ rest → ByRule g piece rest → ⊥
   nothing_read front [] last walks wrong stops piece rest whole stands =
       none_stands step machine.ends (g ∷ []) front piece rest
       (not_found-end step machine.ends (g ∷ []) last front walks wrong) (sym (append-nil front) ∙ whole)

@@ -15,8 +15,8 @@ use Rattle.declarations.specs.rules.Names.{Trait}
 use Rattle.declarations.specs.rules.Names.{Impl, Module, Path, Use, UsePath, Call}
 use Rattle.declarations.specs.rules.Names.{AfterArguments, AfterName, AfterSeparator}
 use Rattle.declarations.specs.rules.Rules.{follows, rules}
-use Rattle.declarations.specs.declared.class.Class.{Class}
-use Rattle.declarations.specs.declared.class.Class.TheVariants as signs
+use Rattle.declarations.specs.declared.class.SignClass.{SignClass}
+use Rattle.declarations.specs.declared.class.SignClass.TheVariants as signs
 use Rattle.declarations.specs.declared.class.Keyword.TheVariants as keywords
 use Rattle.declarations.specs.declared.class.Word.TheVariants as words
 use Rattle.declarations.specs.declared.types.TypeState.TheVariants as types
@@ -55,10 +55,10 @@ productive _ = refl
 -- ---- some signs that each rule reads
 
 -- the sign of a name
-abbrev plain : Class
+abbrev plain : SignClass
 plain = signs.Word words.Plain
 
-abbrev sample : Name → List Class
+abbrev sample : Name → List SignClass
 sample (Range types.Wanted _) = plain ∷ []
 sample (Range types.Bound _) = plain ∷ []
 sample (Range types.Lifetime _) = plain ∷ []
@@ -99,36 +99,36 @@ sample (Path AfterSeparator) = plain ∷ []
 sample (Path AfterArguments) = []
 
 -- whether there are events
-abbrev is_read : Option (List (Event Class Label)) → Bool
+abbrev is_read : Option (List (Event SignClass Label)) → Bool
 is_read None = false
 is_read (Some events) = true
 
-sampled : (n : Name) → is_read (run rules (rules n ∷ []) (sample n)) ≡ true
-sampled (Range types.Wanted Inside) = refl
-sampled (Range types.Wanted _) = refl
-sampled (Range types.Bound Inside) = refl
-sampled (Range _ Inside) = refl
-sampled (Range types.Bound Outside) = refl
-sampled (Range _ Outside) = refl
-sampled (Range types.Bound Target) = refl
-sampled (Range _ Target) = refl
-sampled Expression = refl
-sampled (Path AfterName) = refl
-sampled (Path AfterSeparator) = refl
-sampled (Path AfterArguments) = refl
-sampled _ = refl
+sample_is_read : (n : Name) → is_read (run rules (rules n ∷ []) (sample n)) ≡ true
+sample_is_read (Range types.Wanted Inside) = refl
+sample_is_read (Range types.Wanted _) = refl
+sample_is_read (Range types.Bound Inside) = refl
+sample_is_read (Range _ Inside) = refl
+sample_is_read (Range types.Bound Outside) = refl
+sample_is_read (Range _ Outside) = refl
+sample_is_read (Range types.Bound Target) = refl
+sample_is_read (Range _ Target) = refl
+sample_is_read Expression = refl
+sample_is_read (Path AfterName) = refl
+sample_is_read (Path AfterSeparator) = refl
+sample_is_read (Path AfterArguments) = refl
+sample_is_read _ = refl
 
-derived : (n : Name) (o : Option (List (Event Class Label))) → is_read o ≡ true
+sample_derives : (n : Name) (o : Option (List (Event SignClass Label))) → is_read o ≡ true
     → IfSome o (ReadsOf rules (rules n ∷ []) (sample n))
-    → (events : List (Event Class Label)) × Derives rules (rules n) events
-derived n None h r = absurd (both_ways _ refl h)
-derived n (Some events) h r = (r.0.0, r.0.3)
+    → (events : List (Event SignClass Label)) × Derives rules (rules n) events
+sample_derives n None h r = absurd (both_ways _ refl h)
+sample_derives n (Some events) h r = (r.0.0, r.0.3)
 
 pub well_formed : IsWellFormed rules follows
 well_formed = record {
   deterministic = λ n. clear_holds every every_holds follows (rules n) (follows n) (deterministic n);
   productive = λ n. alive_holds any any_passes (rules n) (productive n);
-  samples = λ n. derived n (run rules (rules n ∷ []) (sample n)) (sampled n)
+  samples = λ n. sample_derives n (run rules (rules n ∷ []) (sample n)) (sample_is_read n)
       (run_sound rules (rules n ∷ []) (sample n));
 }
 

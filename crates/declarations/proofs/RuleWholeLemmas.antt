@@ -13,7 +13,7 @@ use Rattle.declarations.specs.Reading.{FaultAt, StopsBefore}
 use Rattle.declarations.specs.Signs.{classes_of, signs, trees_of}
 use Rattle.declarations.specs.Walk.{IsFront}
 use Rattle.declarations.specs.Whole.{IsWhole, ReadsAll}
-use Rattle.declarations.specs.declared.class.Class.{Class}
+use Rattle.declarations.specs.declared.class.SignClass.{SignClass}
 use Rattle.declarations.specs.rules.Names.{G}
 use Rattle.declarations.specs.rules.Pieces.{ByRule}
 use Rattle.declarations.specs.rules.Rules.{follows, rules}
@@ -38,7 +38,7 @@ module _ (g : G) (start : IsStart rules follows (g ∷ [])) where
   -- ---- faults
 
   -- signs that can go on can go on to a whole piece
-  goes_whole : (front : List Class) → GoesOn rules (g ∷ []) front → IsFront (IsWhole (ByRule g)) front
+  goes_whole : (front : List SignClass) → GoesOn rules (g ∷ []) front → IsFront (IsWhole (ByRule g)) front
   goes_whole front goes = record {
     more = goes.1;
     piece = front ++ goes.1;
@@ -58,7 +58,7 @@ module _ (g : G) (start : IsStart rules follows (g ∷ [])) where
   }
 
   -- and what is the front of a whole piece can go on
-  whole_goes : (front : List Class) → IsFront (IsWhole (ByRule g)) front → GoesOn rules (g ∷ []) front
+  whole_goes : (front : List SignClass) → IsFront (IsWhole (ByRule g)) front → GoesOn rules (g ∷ []) front
   whole_goes front goes =
       let p = goes.stands.0 in (
         p.events,
@@ -69,14 +69,14 @@ module _ (g : G) (start : IsStart rules follows (g ∷ [])) where
             ∙ (ap (λ r. goes.piece ++ r) (sym goes.stands.1) ∙ sym goes.whole)),
       )
 
-  no_longer : (front left : List Class)
-      → ((c : Class) (more : List Class) → left ≡ c ∷ more → GoesOn rules (g ∷ []) (front ++ c ∷ []) → ⊥)
+  no_longer : (front left : List SignClass)
+      → ((c : SignClass) (more : List SignClass) → left ≡ c ∷ more → GoesOn rules (g ∷ []) (front ++ c ∷ []) → ⊥)
       → StopsBefore (IsWhole (ByRule g)) front left
   no_longer front [] f = tt
   no_longer front (c ∷ left) f = λ goes. f c left refl (whole_goes (front ++ c ∷ []) goes)
 
   -- the fault of the signs is the fault of the trees
-  fault_of : (trees left : List TokenTree) (at : ℕ) → Remains left trees → (before : List Class)
+  fault_of : (trees left : List TokenTree) (at : ℕ) → Remains left trees → (before : List SignClass)
       → machine.FaultAt rules (g ∷ []) (classes_in trees) before (classes_in left)
       → at + length left ≡ length trees
       → FaultAt (IsWhole (ByRule g)) trees at

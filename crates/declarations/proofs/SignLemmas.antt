@@ -16,24 +16,24 @@ use Rattle.declarations.specs.Signs.{classes_of, trees_of}
 use Rattle.declarations.specs.Bare.{innermost, innermost_trees}
 use Rattle.declarations.specs.Signs.{held_class, is_pub, is_visibility, may_restrict, restricts, restricts_in}
 use Rattle.declarations.specs.Signs.{unseen_class}
-use Rattle.declarations.specs.declared.class.Class.{Class}
-use Rattle.declarations.specs.declared.class.Class.TheVariants as classes
+use Rattle.declarations.specs.declared.class.SignClass.{SignClass}
+use Rattle.declarations.specs.declared.class.SignClass.TheVariants as classes
 
 -- the signs of trees, if it is known whether the first two trees are one sign
-abbrev pub paired : Option Class → TokenTree → TokenTree → List TokenTree → List Sign
-paired None first second after = record { class = tree_class first; trees = first ∷ [] } ∷ signs (second ∷ after)
-paired (Some class) first second after = record { class = class; trees = first ∷ second ∷ [] } ∷ signs after
+abbrev pub pair_signs : Option SignClass → TokenTree → TokenTree → List TokenTree → List Sign
+pair_signs None first second after = record { class = tree_class first; trees = first ∷ [] } ∷ signs (second ∷ after)
+pair_signs (Some class) first second after = record { class = class; trees = first ∷ second ∷ [] } ∷ signs after
 
 pub signs-cons : (first second : TokenTree) (after : List TokenTree)
-    → signs (first ∷ second ∷ after) ≡ paired (pair_class first second) first second after
+    → signs (first ∷ second ∷ after) ≡ pair_signs (pair_class first second) first second after
 signs-cons first second after =
     elim (pair_class first second) as (λ o. (elim o as (λ x. List Sign) [
       | None ↦ record { class = tree_class first; trees = first ∷ [] } ∷ signs_after (Some second) after
       | Some class ↦ record { class = class; trees = first ∷ second ∷ [] } ∷ signs_after None after
-    ]) ≡ paired o first second after) [ None ↦ refl | Some class ↦ refl ]
+    ]) ≡ pair_signs o first second after) [ None ↦ refl | Some class ↦ refl ]
 
 -- the first two trees are read as one sign
-pub begins_two : (trees : List TokenTree) (class : Class) (after : List TokenTree) (first second : TokenTree)
+pub begins_two : (trees : List TokenTree) (class : SignClass) (after : List TokenTree) (first second : TokenTree)
     (rest : List TokenTree) → trees ≡ first ∷ rest → rest ≡ second ∷ after → pair_class first second ≡ Some class
     → BeginsWith trees class after
 begins_two trees class after first second rest whole next pair =
@@ -42,7 +42,7 @@ begins_two trees class after first second rest whole next pair =
       front = first ∷ second ∷ [];
       whole = all;
       fewer = rw all (omega arith);
-      read = ap signs all ∙ signs-cons first second after ∙ ap (λ o. paired o first second after) pair;
+      read = ap signs all ∙ signs-cons first second after ∙ ap (λ o. pair_signs o first second after) pair;
     }
 
 -- the first tree is a sign of its own, and others follow
@@ -56,7 +56,7 @@ begins_one trees rest first second after whole next pair =
       whole = whole;
       fewer = rw whole (omega arith);
       read =
-          ap signs all ∙ signs-cons first second after ∙ ap (λ o. paired o first second after) pair
+          ap signs all ∙ signs-cons first second after ∙ ap (λ o. pair_signs o first second after) pair
           ∙ ap (λ ts. record { class = tree_class first; trees = first ∷ [] } ∷ signs ts) (sym next);
     }
 
@@ -124,22 +124,22 @@ no_signs trees none =
     sym (trees_of-signs trees) ∙ ap trees_of (none_of (signs trees) none)
 
 -- the trees after the first sign
-pub record Behind (trees : List TokenTree) (sign : Sign) (after : List Sign) : Type 0 where
+pub record AfterFirstSign (trees : List TokenTree) (sign : Sign) (after : List Sign) : Type 0 where
   pub rest : List TokenTree
   pub whole : trees ≡ sign.trees ++ rest
   pub read : signs rest ≡ after
 
-pub behind_first : (trees : List TokenTree) (sign : Sign) (after : List Sign) → signs trees ≡ sign ∷ after
-    → Behind trees sign after
-behind_first [] sign after read = cc
-behind_first (first ∷ []) sign after read =
+pub after_first_sign : (trees : List TokenTree) (sign : Sign) (after : List Sign) → signs trees ≡ sign ∷ after
+    → AfterFirstSign trees sign after
+after_first_sign [] sign after read = cc
+after_first_sign (first ∷ []) sign after read =
     let one : Sign = record { class = tree_class first; trees = first ∷ [] } in
     let is : one ≡ sign = cc in
     let none : [] ≡ after = cc in
     record { rest = []; whole = ap (λ s. s.trees ++ []) is; read = none }
-behind_first (first ∷ second ∷ rest) sign after read =
-    elim (pair_class first second) as (λ o. paired o first second rest ≡ sign ∷ after
-    → Behind (first ∷ second ∷ rest) sign after) [
+after_first_sign (first ∷ second ∷ rest) sign after read =
+    elim (pair_class first second) as (λ o. pair_signs o first second rest ≡ sign ∷ after
+    → AfterFirstSign (first ∷ second ∷ rest) sign after) [
       | None ↦ λ h.
           let one : Sign = record { class = tree_class first; trees = first ∷ [] } in
           let is : one ≡ sign = cc in
@@ -163,7 +163,7 @@ unseen_visible inside held b same is shown =
 
 -- the class of a group without delimiters that holds no visibility
 pub unseen_other : (inside held : Forest) (trees : List TokenTree) (b : Bool) → held ≡ innermost inside
-    → forest trees ≡ held → b ≡ is_visibility held → b ≡ false → (class : Class) → class ≡ held_class trees
+    → forest trees ≡ held → b ≡ is_visibility held → b ≡ false → (class : SignClass) → class ≡ held_class trees
     → class ≡ unseen_class inside
 unseen_other inside held trees b same whole is unlike class found =
     let all : trees ≡ innermost_trees inside = sym (trees_of-forest trees) ∙ ap list_of (whole ∙ same) in

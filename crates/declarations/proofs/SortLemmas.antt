@@ -9,15 +9,15 @@ use Rattle.pm_stream.specs.Forest.{Forest}
 use Rattle.pm_stream.specs.declared.stream.Group.{Group as Grouped}
 use Rattle.pm_stream.specs.declared.stream.TokenTree.{TokenTree}
 use Rattle.pm_stream.specs.declared.stream.TokenTree.TheVariants.{Group, Ident, Punct, Literal}
-use Rattle.declarations.proofs.SignLemmas.{signs-cons, paired}
+use Rattle.declarations.proofs.SignLemmas.{signs-cons, pair_signs}
 use Rattle.declarations.specs.Bare.{innermost, innermost_trees}
 use Rattle.declarations.specs.Signs.{Sign, signs, class_or_name, group_class, held_class, is_restriction, is_truth}
 use Rattle.declarations.specs.Signs.{is_visibility, is_written, keyword_of, keyword_or_word, mark_class, marks_class}
 use Rattle.declarations.specs.Signs.{name_class, operand_class, operator_class, or_else, pair_class, path_class}
 use Rattle.declarations.specs.Signs.{joint_class, loose_class, parentheses_class, tree_class, unseen_class}
-use Rattle.declarations.specs.declared.class.Class.{Class}
+use Rattle.declarations.specs.declared.class.SignClass.{SignClass}
 use Rattle.declarations.specs.declared.class.Keyword.{Keyword}
-use Rattle.declarations.specs.declared.class.Class.TheVariants as signs
+use Rattle.declarations.specs.declared.class.SignClass.TheVariants as signs
 
 -- the kind of trees that a sign has
 pub data Sort : Type 0 where
@@ -27,7 +27,7 @@ pub data Sort : Type 0 where
   literals : Sort
   pairs : Sort
 
-abbrev pub sort_of : Class → Sort
+abbrev pub sort_of : SignClass → Sort
 sort_of signs.Restriction = groups
 sort_of signs.Parentheses = groups
 sort_of signs.Brackets = groups
@@ -81,49 +81,49 @@ either : {A : Type 0} (P : A → Type 0) (b : Bool) (x y : A) → P x → P y �
 either P true x y left right = left
 either P false x y left right = right
 
-chosen : {A : Type 0} (P : A → Type 0) (rows : List (Bool × A)) (default : A) → AllRows P rows → P default
+choice_holds : {A : Type 0} (P : A → Type 0) (rows : List (Bool × A)) (default : A) → AllRows P rows → P default
     → P (choice rows default)
-chosen P [] default all last = last
-chosen P (row ∷ rows) default all last =
-    either P row.0 row.1 (choice rows default) all.0 (chosen P rows default all.1 last)
+choice_holds P [] default all last = last
+choice_holds P (row ∷ rows) default all last =
+    either P row.0 row.1 (choice rows default) all.0 (choice_holds P rows default all.1 last)
 
-abbrev IsSort : Sort → Class → Type 0
+abbrev IsSort : Sort → SignClass → Type 0
 IsSort sort class = sort_of class ≡ sort
 
-abbrev MayBe : Sort → Option Class → Type 0
+abbrev MayBe : Sort → Option SignClass → Type 0
 MayBe sort None = Unit {0}
 MayBe sort (Some class) = sort_of class ≡ sort
 
-abbrev operator_rows : ℕ → List (Bool × Class)
+abbrev operator_rows : ℕ → List (Bool × SignClass)
 operator_rows c =
     (c == 124, signs.Bar) ∷ (c == 46, signs.Dot) ∷
     ((c == 47) || ((c == 37) || ((c == 94) || (c == 64))), signs.Infix) ∷ []
 
 operator_sort : (c : ℕ) → IsSort marks (operator_class c)
-operator_sort c = chosen (IsSort marks) (operator_rows c) signs.Mark (refl, (refl, (refl, tt))) refl
+operator_sort c = choice_holds (IsSort marks) (operator_rows c) signs.Mark (refl, (refl, (refl, tt))) refl
 
-abbrev late_mark_rows : ℕ → List (Bool × Class)
+abbrev late_mark_rows : ℕ → List (Bool × SignClass)
 late_mark_rows c =
     (c == 43, signs.Plus) ∷ (c == 45, signs.Minus) ∷ (c == 42, signs.Star) ∷ (c == 38, signs.And) ∷
     (c == 63, signs.Question) ∷ (c == 33, signs.Exclamation) ∷ (c == 35, signs.Hash) ∷ (c == 126, signs.Tilde) ∷ []
 
-abbrev mark_rows : ℕ → Bool → List (Bool × Class)
+abbrev mark_rows : ℕ → Bool → List (Bool × SignClass)
 mark_rows c joint =
     ((c == 60) && joint, signs.LessJoint) ∷ (c == 60, signs.Less) ∷ (c == 62, signs.Greater) ∷
     (c == 44, signs.Comma) ∷ (c == 58, signs.Colon) ∷ (c == 59, signs.Semicolon) ∷ (c == 61, signs.Equals) ∷ []
 
 mark_sort : (c : ℕ) (joint : Bool) → IsSort marks (mark_class c joint)
 mark_sort c joint =
-    chosen (IsSort marks) (mark_rows c joint) (choice (late_mark_rows c) (operator_class c))
+    choice_holds (IsSort marks) (mark_rows c joint) (choice (late_mark_rows c) (operator_class c))
     (refl, (refl, (refl, (refl, (refl, (refl, (refl, tt)))))))
-    (chosen (IsSort marks) (late_mark_rows c) (operator_class c)
+    (choice_holds (IsSort marks) (late_mark_rows c) (operator_class c)
     (refl, (refl, (refl, (refl, (refl, (refl, (refl, (refl, tt)))))))) (operator_sort c))
 
-or_else_sort : (o other : Option Class) → MayBe names o → MayBe names other → MayBe names (or_else o other)
+or_else_sort : (o other : Option SignClass) → MayBe names o → MayBe names other → MayBe names (or_else o other)
 or_else_sort None other first second = second
 or_else_sort (Some class) other first second = first
 
-abbrev path_rows : Name → List (Bool × Option Class)
+abbrev path_rows : Name → List (Bool × Option SignClass)
 path_rows i =
     (is_written i (codes "self"), Some signs.SelfValue) ∷ (is_written i (codes "Self"), Some signs.SelfType) ∷
     (is_written i (codes "super"), Some signs.Super) ∷ (is_written i (codes "crate"), Some signs.Crate) ∷
@@ -131,11 +131,11 @@ path_rows i =
 
 path_sort : (i : Name) → MayBe names (path_class i)
 path_sort i =
-    chosen (MayBe names) (path_rows i) None
+    choice_holds (MayBe names) (path_rows i) None
     (refl, (refl, (refl, (refl, (refl, tt)))))
     tt
 
-abbrev operand_rows : Name → List (Bool × Option Class)
+abbrev operand_rows : Name → List (Bool × Option SignClass)
 operand_rows i =
     (is_truth i, Some signs.Truth) ∷ (is_written i (codes "as"), Some signs.As) ∷
     (is_written i (codes "await"), Some signs.Await) ∷ (is_written i (codes "continue"), Some signs.Await) ∷
@@ -144,7 +144,7 @@ operand_rows i =
 
 operand_sort : (i : Name) → MayBe names (operand_class i)
 operand_sort i =
-    chosen (MayBe names) (operand_rows i) None
+    choice_holds (MayBe names) (operand_rows i) None
     (refl, (refl, (refl, (refl, (refl, (refl, (refl, tt)))))))
     tt
 
@@ -152,7 +152,7 @@ keyword_sort : (o : Option Keyword) (i : Name) → IsSort names (keyword_or_word
 keyword_sort None i = refl
 keyword_sort (Some keyword) i = refl
 
-class_sort : (o : Option Class) (i : Name) → MayBe names o → IsSort names (class_or_name o i)
+class_sort : (o : Option SignClass) (i : Name) → MayBe names o → IsSort names (class_or_name o i)
 class_sort None i may = keyword_sort (keyword_of i) i
 class_sort (Some class) i may = may
 
@@ -161,7 +161,7 @@ name_sort i =
     class_sort (or_else (path_class i) (operand_class i)) i
     (or_else_sort (path_class i) (operand_class i) (path_sort i) (operand_sort i))
 
-abbrev marks_rows : ℕ → ℕ → List (Bool × Option Class)
+abbrev marks_rows : ℕ → ℕ → List (Bool × Option SignClass)
 marks_rows first second =
     ((first == 58) && (second == 58), Some signs.PathSeparator) ∷
     ((first == 45) && (second == 62), Some signs.Arrow) ∷
@@ -170,7 +170,7 @@ marks_rows first second =
 
 marks_sort : (first second : ℕ) → MayBe pairs (marks_class first second)
 marks_sort first second =
-    chosen (MayBe pairs) (marks_rows first second) None
+    choice_holds (MayBe pairs) (marks_rows first second) None
     (refl, (refl, (refl, (refl, tt))))
     tt
 
@@ -178,7 +178,7 @@ loose_sort : (first second : ℕ) → MayBe pairs (loose_class first second)
 loose_sort first second =
     either (MayBe pairs) ((first == 35) && (second == 33)) (Some signs.HashBang) None refl tt
 
-or_pair : (o other : Option Class) → MayBe pairs o → MayBe pairs other → MayBe pairs (or_else o other)
+or_pair : (o other : Option SignClass) → MayBe pairs o → MayBe pairs other → MayBe pairs (or_else o other)
 or_pair None other first second = second
 or_pair (Some class) other first second = first
 
@@ -197,28 +197,29 @@ pair_sort (Group g) second = tt
 pair_sort (Ident i) second = tt
 pair_sort (Literal l) second = tt
 
-held : (P : Class → Type 0) (trees : List TokenTree) → P signs.Lifetime → P signs.Literal → P signs.Invisible
+held_class_holds : (P : SignClass → Type 0) (trees : List TokenTree) → P signs.Lifetime → P signs.Literal
+    → P signs.Invisible
     → P (held_class trees)
-held P [] lifetime literal other = other
-held P (Group g ∷ rest) lifetime literal other = other
-held P (Ident i ∷ rest) lifetime literal other = other
-held P (Literal l ∷ []) lifetime literal other = literal
-held P (Literal l ∷ tree ∷ rest) lifetime literal other = other
-held P (Punct p ∷ []) lifetime literal other = other
-held P (Punct p ∷ Group g ∷ rest) lifetime literal other = other
-held P (Punct p ∷ Punct q ∷ rest) lifetime literal other = other
-held P (Punct p ∷ Literal l ∷ rest) lifetime literal other = other
-held P (Punct p ∷ Ident i ∷ []) lifetime literal other =
+held_class_holds P [] lifetime literal other = other
+held_class_holds P (Group g ∷ rest) lifetime literal other = other
+held_class_holds P (Ident i ∷ rest) lifetime literal other = other
+held_class_holds P (Literal l ∷ []) lifetime literal other = literal
+held_class_holds P (Literal l ∷ tree ∷ rest) lifetime literal other = other
+held_class_holds P (Punct p ∷ []) lifetime literal other = other
+held_class_holds P (Punct p ∷ Group g ∷ rest) lifetime literal other = other
+held_class_holds P (Punct p ∷ Punct q ∷ rest) lifetime literal other = other
+held_class_holds P (Punct p ∷ Literal l ∷ rest) lifetime literal other = other
+held_class_holds P (Punct p ∷ Ident i ∷ []) lifetime literal other =
     either P (p.mark == 39) signs.Lifetime signs.Invisible lifetime other
-held P (Punct p ∷ Ident i ∷ tree ∷ rest) lifetime literal other = other
+held_class_holds P (Punct p ∷ Ident i ∷ tree ∷ rest) lifetime literal other = other
 
 -- what holds of all classes of groups without delimiters holds of each such group
-pub unseen : (P : Class → Type 0) (inside : Forest) → P signs.Visibility → P signs.Lifetime → P signs.Literal
+pub unseen : (P : SignClass → Type 0) (inside : Forest) → P signs.Visibility → P signs.Lifetime → P signs.Literal
     → P signs.Invisible
     → P (unseen_class inside)
 unseen P inside visibility lifetime literal other =
     either P (is_visibility (innermost inside)) signs.Visibility (held_class (innermost_trees inside)) visibility
-    (held P (innermost_trees inside) lifetime literal other)
+    (held_class_holds P (innermost_trees inside) lifetime literal other)
 
 -- the kinds of signs that a group can be
 abbrev pub MayBeGroup : Sort → Type 0
@@ -253,7 +254,7 @@ first_tree (tree ∷ []) sign after read =
     let is : alone ≡ sign = cc in
     one tree (record { more = []; whole = refl; is = sym is })
 first_tree (tree ∷ second ∷ rest) sign after read =
-    elim (pair_class tree second) as (λ o. MayBe pairs o → paired o tree second rest ≡ sign ∷ after
+    elim (pair_class tree second) as (λ o. MayBe pairs o → pair_signs o tree second rest ≡ sign ∷ after
     → FirstTree (tree ∷ second ∷ rest) sign) [
       | None ↦ λ sort h.
           let alone : Sign = record { class = tree_class tree; trees = tree ∷ [] } in
@@ -304,11 +305,11 @@ group_tree trees sign (one (Literal l) is) sort =
     cc
 
 -- a sign that is a keyword or a word is an identifier
-pub named : (trees : List TokenTree) (sign : Sign) (after : List Sign) → signs trees ≡ sign ∷ after
+pub is_identifier_sign : (trees : List TokenTree) (sign : Sign) (after : List Sign) → signs trees ≡ sign ∷ after
     → sort_of sign.class ≡ names → (ident : Name) × IsTree trees sign (Ident ident)
-named trees sign after read sort = name_tree trees sign (first_tree trees sign after read) sort
+is_identifier_sign trees sign after read sort = name_tree trees sign (first_tree trees sign after read) sort
 
 -- a sign with the class of a group is a group
-pub grouped : (trees : List TokenTree) (sign : Sign) (after : List Sign) → signs trees ≡ sign ∷ after
+pub is_group_sign : (trees : List TokenTree) (sign : Sign) (after : List Sign) → signs trees ≡ sign ∷ after
     → sort_of sign.class ≡ groups → (g : Grouped) × IsTree trees sign (Group g)
-grouped trees sign after read sort = group_tree trees sign (first_tree trees sign after read) sort
+is_group_sign trees sign after read sort = group_tree trees sign (first_tree trees sign after read) sort

@@ -1,16 +1,16 @@
 -- In each state that the tables reach outside of types, they take the steps of the grammar.
 use Rattle.std.proofs.Common.{refl, true, false}
 use Rattle.declarations.specs.Grammar.{step}
-use Rattle.declarations.specs.declared.class.Class.{Class}
-use Rattle.declarations.specs.declared.class.Class.TheVariants as signs
+use Rattle.declarations.specs.declared.class.SignClass.{SignClass}
+use Rattle.declarations.specs.declared.class.SignClass.TheVariants as signs
 use Rattle.declarations.specs.declared.class.Keyword.TheVariants as keywords
 use Rattle.declarations.specs.declared.class.Word.TheVariants as words
-use Rattle.declarations.specs.declared.place.Item.{Item}
-use Rattle.declarations.specs.declared.place.Item.TheVariants as items
-use Rattle.declarations.specs.declared.place.Rule.{Rule}
-use Rattle.declarations.specs.declared.place.Rule.TheVariants as places
-use Rattle.declarations.specs.declared.place.Spot.{Spot}
-use Rattle.declarations.specs.declared.place.Spot.TheVariants as spots
+use Rattle.declarations.specs.declared.walk_state.Item.{Item}
+use Rattle.declarations.specs.declared.walk_state.Item.TheVariants as items
+use Rattle.declarations.specs.declared.walk_state.Continuation.{Continuation}
+use Rattle.declarations.specs.declared.walk_state.Continuation.TheVariants as places
+use Rattle.declarations.specs.declared.walk_state.Spot.{Spot}
+use Rattle.declarations.specs.declared.walk_state.Spot.TheVariants as spots
 use Rattle.declarations.proofs.StackLemmas.{left_at}
 use Rattle.declarations.proofs.AgreeLemmas.{Agrees, at_spot}
 use Rattle.declarations.proofs.StackLemmas as stacks
@@ -19,7 +19,7 @@ use Rattle.declarations.proofs.ItemSpotLemmas as within
 use Rattle.declarations.proofs.ItemSpotLemmas.{closing_agrees, discriminant_agrees, front_agrees, generics_agrees}
 use Rattle.declarations.proofs.ItemSpotLemmas.{name_agrees, predicate_agrees, where_agrees}
 
-name_end : (item : Item) (class : Class) → Agrees (left_at (at_spot spots.FieldName item places.Alone))
+name_end : (item : Item) (class : SignClass) → Agrees (left_at (at_spot spots.FieldName item places.Alone))
     (step (at_spot spots.FieldName item places.Alone) class) class
 name_end item (signs.Word words.Auto) = refl
 name_end item (signs.Word _) = refl
@@ -27,7 +27,7 @@ name_end item (signs.Keyword keywords.Async) = refl
 name_end item (signs.Keyword _) = refl
 name_end item _ = refl
 
-names_end : (item : Item) (class : Class) → Agrees (left_at (at_spot spots.FieldName item places.Fields))
+names_end : (item : Item) (class : SignClass) → Agrees (left_at (at_spot spots.FieldName item places.Fields))
     (step (at_spot spots.FieldName item places.Fields) class) class
 names_end item (signs.Word words.Auto) = refl
 names_end item (signs.Word _) = refl
@@ -35,7 +35,7 @@ names_end item (signs.Keyword keywords.Async) = refl
 names_end item (signs.Keyword _) = refl
 names_end item _ = refl
 
-pub spot_agrees : (spot : Spot) (item : Item) (rule : Rule) (class : Class)
+pub spot_agrees : (spot : Spot) (item : Item) (rule : Continuation) (class : SignClass)
     → Agrees (left_at (at_spot spot item rule)) (step (at_spot spot item rule) class) class
 spot_agrees (spots.Before part) item rule class = part_agrees stacks.Before part rule item class
 spot_agrees (spots.Hash part) item rule class = part_agrees stacks.Hash part rule item class

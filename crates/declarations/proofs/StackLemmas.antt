@@ -7,7 +7,7 @@ use Rattle.declarations.specs.Header.{has_where}
 use Rattle.declarations.specs.rules.Classes.{is}
 use Rattle.declarations.specs.rules.Names.{Context, Inside, Outside, Target, Name, Range, ExpressionOpen, Expression}
 use Rattle.declarations.specs.rules.Names.{ExpressionWhole, CastWhole, Closure, Call, Static, Use, G, one, seq, word}
-use Rattle.declarations.specs.rules.Names.{comma, listed}
+use Rattle.declarations.specs.rules.Names.{comma, comma_list}
 use Rattle.declarations.specs.rules.Types.{bounds, range, type}
 use Rattle.declarations.specs.rules.Expressions as expressions
 use Rattle.declarations.specs.rules.Parts as parts_of
@@ -16,22 +16,22 @@ use Rattle.declarations.specs.rules.Fronts as fronts_of
 use Rattle.declarations.specs.rules.Items as items_of
 use Rattle.declarations.specs.rules.Impls as impls
 use Rattle.declarations.specs.rules.Rules.{rules}
-use Rattle.declarations.specs.declared.class.Class.TheVariants as signs
+use Rattle.declarations.specs.declared.class.SignClass.TheVariants as signs
 use Rattle.declarations.specs.declared.class.Word.{Word}
 use Rattle.declarations.specs.declared.class.Word.TheVariants as words
-use Rattle.declarations.specs.declared.place.Front.{Front}
-use Rattle.declarations.specs.declared.place.Front.TheVariants as fronts
-use Rattle.declarations.specs.declared.place.Item.{Item}
-use Rattle.declarations.specs.declared.place.Item.TheVariants as items
-use Rattle.declarations.specs.declared.place.Part.{Part}
-use Rattle.declarations.specs.declared.place.Part.TheVariants as parts
-use Rattle.declarations.specs.declared.place.Place.{Place}
-use Rattle.declarations.specs.declared.place.Rule.{Rule}
-use Rattle.declarations.specs.declared.place.Rule.TheVariants as places
-use Rattle.declarations.specs.declared.place.Spot.{Spot}
-use Rattle.declarations.specs.declared.place.Spot.TheVariants as spots
-use Rattle.declarations.specs.declared.place.State.{State}
-use Rattle.declarations.specs.declared.place.State.TheVariants as states
+use Rattle.declarations.specs.declared.walk_state.Front.{Front}
+use Rattle.declarations.specs.declared.walk_state.Front.TheVariants as fronts
+use Rattle.declarations.specs.declared.walk_state.Item.{Item}
+use Rattle.declarations.specs.declared.walk_state.Item.TheVariants as items
+use Rattle.declarations.specs.declared.walk_state.Part.{Part}
+use Rattle.declarations.specs.declared.walk_state.Part.TheVariants as parts
+use Rattle.declarations.specs.declared.walk_state.WalkState.{WalkState}
+use Rattle.declarations.specs.declared.walk_state.Continuation.{Continuation}
+use Rattle.declarations.specs.declared.walk_state.Continuation.TheVariants as places
+use Rattle.declarations.specs.declared.walk_state.Spot.{Spot}
+use Rattle.declarations.specs.declared.walk_state.Spot.TheVariants as spots
+use Rattle.declarations.specs.declared.walk_state.State.{State}
+use Rattle.declarations.specs.declared.walk_state.State.TheVariants as states
 use Rattle.declarations.specs.declared.types.TypeState.{TypeState}
 use Rattle.declarations.specs.declared.types.TypeState.TheVariants as types
 
@@ -64,8 +64,8 @@ abbrev pub generics_left : Item → List G
 generics_left items.Struct = flat bodies.struct_rest
 generics_left items.Function = flat bodies.function_rest
 generics_left items.Returning = flat bodies.returning
-generics_left items.Constant = flat bodies.typed
-generics_left items.Static = flat bodies.typed
+generics_left items.Constant = flat bodies.type_and_value
+generics_left items.Static = flat bodies.type_and_value
 generics_left items.Alias = flat bodies.alias_rest
 generics_left items.Trait = flat bodies.trait_rest
 generics_left items.Impl = flat (impls.target true)
@@ -87,7 +87,7 @@ variant_left _ = []
 -- ---- types
 
 -- what is left to read after a type or bounds
-abbrev pub rule_left : Item → Rule → List G
+abbrev pub rule_left : Item → Continuation → List G
 rule_left item places.Alone = []
 rule_left item places.Fields = further parts_of.field comma ∷ []
 rule_left item places.TupleFields = further parts_of.tuple_field comma ∷ []
@@ -103,19 +103,19 @@ rule_left item places.CastAngle = variant_left item
 rule_left item places.ClosureAngle = variant_left item
 
 -- the context of the type
-abbrev pub context_of : Rule → Context
+abbrev pub context_of : Continuation → Context
 context_of places.Target = Target
 context_of _ = Outside
 
 -- the rule that goes on after the outermost angle brackets
-abbrev pub after_brackets : Rule → Name
+abbrev pub after_brackets : Continuation → Name
 after_brackets places.Angle = ExpressionWhole
 after_brackets places.CastAngle = CastWhole
 after_brackets places.ClosureAngle = Closure
 after_brackets rule = Range types.Whole (context_of rule)
 
 -- what is left to read within so many angle brackets and one more
-abbrev pub brackets_left : Rule → ℕ → List G
+abbrev pub brackets_left : Continuation → ℕ → List G
 brackets_left rule zero = To (is signs.Greater) (after_brackets rule) ∷ []
 brackets_left rule (suc depth) = To (is signs.Greater) (Range types.Whole Inside) ∷ brackets_left rule depth
 
@@ -131,7 +131,7 @@ has_discriminant items.Variants = true
 has_discriminant _ = false
 
 -- whether the tables reach such a type within angle brackets
-abbrev pub comes_inside : Item → Rule → Bool
+abbrev pub comes_inside : Item → Continuation → Bool
 comes_inside item places.Target = is_impl item
 comes_inside item places.Angle = has_discriminant item
 comes_inside item places.CastAngle = has_discriminant item
@@ -139,13 +139,13 @@ comes_inside item places.ClosureAngle = has_discriminant item
 comes_inside item _ = true
 
 -- whether the tables reach such a type outside of angle brackets
-abbrev pub comes_outside : Item → Rule → Bool
+abbrev pub comes_outside : Item → Continuation → Bool
 comes_outside item places.Angle = false
 comes_outside item places.CastAngle = false
 comes_outside item places.ClosureAngle = false
 comes_outside item rule = comes_inside item rule
 
-abbrev pub range_left : TypeState → ℕ → Item → Rule → Option (List G)
+abbrev pub range_left : TypeState → ℕ → Item → Continuation → Option (List G)
 range_left state zero item rule =
     if comes_outside item rule then Some (range state (context_of rule) ∷ rule_left item rule) else None
 range_left state (suc depth) item rule =
@@ -160,7 +160,7 @@ ahead_of g None = None
 ahead_of g (Some k) = Some (g ∷ k)
 
 -- what is left to read after a visibility
-abbrev pub visible_left : Part → Item → Rule → Option (List G)
+abbrev pub visible_left : Part → Item → Continuation → Option (List G)
 visible_left parts.Visibility item rule = Some []
 visible_left parts.Field item places.Alone = Some (word ∷ one signs.Colon ∷ type ∷ [])
 visible_left parts.Field item places.Fields = Some (word ∷ one signs.Colon ∷ type ∷ rule_left item places.Fields)
@@ -174,14 +174,14 @@ visible_left parts.AnyItem item rule = Some (items_of.declaration ∷ [])
 visible_left _ item rule = None
 
 -- what is left to read after `pub`
-abbrev pub public_left : Part → Item → Rule → Option (List G)
+abbrev pub public_left : Part → Item → Continuation → Option (List G)
 public_left parts.TupleField item places.Alone = Some (parts_of.public_type ∷ [])
 public_left parts.TupleField item places.TupleFields = Some (parts_of.public_type ∷ rule_left item places.TupleFields)
 public_left parts.TupleField item rule = None
 public_left part item rule = ahead_of parts_of.restriction (visible_left part item rule)
 
 -- what is left to read after the last attribute
-abbrev pub attributed_left : Part → Item → Rule → Option (List G)
+abbrev pub attributed_left : Part → Item → Continuation → Option (List G)
 attributed_left parts.Attributes item rule = Some []
 attributed_left parts.TupleField item places.Alone = Some (parts_of.tuple_field_rest ∷ [])
 attributed_left parts.TupleField item places.TupleFields =
@@ -193,7 +193,7 @@ attributed_left parts.TupleField item rule = None
 attributed_left part item rule = ahead_of parts_of.visibility (visible_left part item rule)
 
 -- what is left to read before a part, or before a list of such parts
-abbrev pub before_left : Part → Item → Rule → Option (List G)
+abbrev pub before_left : Part → Item → Continuation → Option (List G)
 before_left parts.Visibility item rule = Some (parts_of.visibility ∷ [])
 before_left parts.Field item places.Fields = Some (parts_of.fields ∷ [])
 before_left parts.TupleField item places.TupleFields = Some (parts_of.tuple_fields ∷ [])
@@ -210,7 +210,7 @@ pub data Around : Type 0 where
   Visible : Around
 
 -- whether the tables reach such a part with this rule
-abbrev pub fits : Part → Rule → Item → Bool
+abbrev pub fits : Part → Continuation → Item → Bool
 fits parts.Variant places.Alone item = has_discriminant item
 fits part places.Alone item = true
 fits parts.Field places.Fields item = true
@@ -218,7 +218,7 @@ fits parts.TupleField places.TupleFields item = true
 fits part rule item = false
 
 -- what is left to read in a state around a part
-abbrev pub around_in : Around → Part → Item → Rule → Option (List G)
+abbrev pub around_in : Around → Part → Item → Continuation → Option (List G)
 around_in Before part item rule = before_left part item rule
 around_in Hash part item rule =
     ahead_of (one signs.Brackets) (ahead_of parts_of.attributes (attributed_left part item rule))
@@ -226,7 +226,7 @@ around_in Attributed part item rule = ahead_of parts_of.attributes (attributed_l
 around_in Public part item rule = public_left part item rule
 around_in Visible part item rule = visible_left part item rule
 
-abbrev pub around_left : Around → Part → Item → Rule → Option (List G)
+abbrev pub around_left : Around → Part → Item → Continuation → Option (List G)
 around_left spot part item rule = if fits part rule item then around_in spot part item rule else None
 
 -- ---- before the names of items
@@ -236,7 +236,7 @@ abbrev pub word_left : Word → List G
 word_left words.Auto = Either items_of.call fronts_of.auto_front ∷ []
 word_left words.Default = Either items_of.call fronts_of.default_front ∷ []
 word_left words.Safe = Either items_of.call fronts_of.safe_front ∷ []
-word_left words.Union = Either items_of.call (seq (bodies.name ∷ parts_of.generics ∷ bodies.braced ∷ [])) ∷ []
+word_left words.Union = Either items_of.call (seq (bodies.name ∷ parts_of.generics ∷ bodies.where_and_body ∷ [])) ∷ []
 word_left words.Plain = items_of.call ∷ []
 
 -- what is left to read before the name of an item
@@ -246,9 +246,9 @@ front_left fronts.Default item = Some (flat fronts_of.default_front)
 front_left fronts.DefaultUnsafe item = Some (flat fronts_of.default_unsafe)
 front_left fronts.Safe item = Some (flat fronts_of.safe_front)
 front_left fronts.Async item = Some (flat fronts_of.async_front)
-front_left fronts.Qualified item = Some (flat fronts_of.qualified)
+front_left fronts.Qualified item = Some (flat fronts_of.function_front)
 front_left fronts.Const item = Some (flat fronts_of.const_front)
-front_left fronts.ConstSafe item = Some (Either fronts_of.qualified bodies.constant_rest ∷ [])
+front_left fronts.ConstSafe item = Some (Either fronts_of.function_front bodies.constant_rest ∷ [])
 front_left fronts.Extern item = Some (flat fronts_of.extern_front)
 front_left fronts.UnsafeExtern item = Some (flat fronts_of.unsafe_extern)
 front_left fronts.ExternAbi item = Some (flat fronts_of.extern_rest)
@@ -270,8 +270,8 @@ front_left fronts.ImplNot items.Impl = Some (flat impls.negative)
 front_left fronts.Use item = Some (rules Use ∷ [])
 front_left fronts.UsePath item = Some (items_of.use_path ∷ [])
 front_left fronts.UseSegment item = Some (items_of.use_segment ∷ [])
-front_left fronts.CrateName item = Some (fronts_of.crate_name ∷ fronts_of.renamed ∷ flat bodies.semicolon)
-front_left fronts.CrateNamed item = Some (fronts_of.renamed ∷ flat bodies.semicolon)
+front_left fronts.CrateName item = Some (fronts_of.crate_name ∷ fronts_of.as_name ∷ flat bodies.semicolon)
+front_left fronts.CrateNamed item = Some (fronts_of.as_name ∷ flat bodies.semicolon)
 front_left fronts.Rename item = Some (fronts_of.new_name ∷ flat bodies.semicolon)
 front_left fronts.UntilFirst item = Some (flat_all (bodies.until ∷ bodies.semicolon ∷ []))
 front_left fronts.Until item = Some (Many bodies.not_semicolon ∷ flat bodies.semicolon)
@@ -299,7 +299,7 @@ before_generics items.Trait = Some (parts_of.generics ∷ generics_left items.Tr
 before_generics _ = None
 
 -- what is left to read in a state outside of types and bounds, with no angle bracket open
-abbrev pub spot_left : Spot → Item → Rule → Option (List G)
+abbrev pub spot_left : Spot → Item → Continuation → Option (List G)
 spot_left (spots.Before part) item rule = around_left Before part item rule
 spot_left (spots.Hash part) item rule = around_left Hash part item rule
 spot_left (spots.Attributed part) item rule = around_left Attributed part item rule
@@ -331,7 +331,7 @@ spot_left spots.ConstEnd item rule = Some (parameter_left item)
 spot_left spots.AfterGenerics item rule = Some (generics_left item)
 spot_left spots.Where items.Alone rule = Some (parts_of.where_clause ∷ [])
 spot_left spots.Where item rule = None
-spot_left spots.Predicate item rule = Some (listed parts_of.predicate ∷ body_left item)
+spot_left spots.Predicate item rule = Some (comma_list parts_of.predicate ∷ body_left item)
 spot_left spots.Name item rule = ahead_of word (before_generics item)
 spot_left (spots.Front front) item rule = front_left front item
 spot_left spots.ItemEnd item rule = Some []
@@ -341,7 +341,7 @@ spot_left spots.InnerHash item rule = Some (one signs.Brackets ∷ parts_of.inne
 -- ---- all states
 
 -- what is left to read in a state, with so many angle brackets open
-abbrev pub state_left : State → ℕ → Item → Rule → Option (List G)
+abbrev pub state_left : State → ℕ → Item → Continuation → Option (List G)
 state_left (states.Range state) depth item rule = range_left state depth item rule
 state_left (states.At spot) zero item rule = spot_left spot item rule
 state_left (states.At (spots.Front fronts.ImplAngle)) (suc zero) items.Impl rule = Some (impls.impl_angle ∷ [])
@@ -349,15 +349,15 @@ state_left (states.At (spots.Front fronts.ImplWord)) (suc zero) items.Impl rule 
 state_left _ _ _ _ = None
 
 -- what is left to read in a state, if the tables reach it
-abbrev pub left_at : Place → Option (List G)
+abbrev pub left_at : WalkState → Option (List G)
 left_at place = state_left place.state place.depth place.item place.rule
 
 -- what is left to read after a step of the tables, if there is one, and if the tables reach the state
-abbrev pub lifted : Option Place → Option (Option (List G))
-lifted None = None
-lifted (Some place) = Some (left_at place)
+abbrev pub left_after : Option WalkState → Option (Option (List G))
+left_after None = None
+left_after (Some place) = Some (left_at place)
 
 -- a stack after a step of the grammar, as one that the tables reach
-abbrev pub reached : Option (List G) → Option (Option (List G))
-reached None = None
-reached (Some k) = Some (Some k)
+abbrev pub stack_after : Option (List G) → Option (Option (List G))
+stack_after None = None
+stack_after (Some k) = Some (Some k)

@@ -6,7 +6,7 @@ use Rattle.grammars.specs.Grammar.{Event}
 use Rattle.grammars.specs.Machine as machine
 use Rattle.grammars.specs.Deterministic.{IsStart, IsWellFormed}
 use Rattle.grammars.specs.Reading.{IsPiece}
-use Rattle.grammars.proofs.FlatLemmas.{ends_flat, flat_all, flattened, move, moves, step_flat, walk_flat}
+use Rattle.grammars.proofs.FlatLemmas.{ends_flat, flat_all, flat_stack_after, move, moves, step_flat, walk_flat}
 use Rattle.grammars.proofs.PieceLemmas.{piece_stops, piece_walk, walk_piece}
 use Rattle.declarations.specs.Forms.{IsFrom}
 use Rattle.declarations.specs.Grammar.{ends, step}
@@ -14,27 +14,27 @@ use Rattle.declarations.specs.Walk.{Stops, walk}
 use Rattle.declarations.specs.rules.Names.{G, Label, Name}
 use Rattle.declarations.specs.rules.Pieces.{ReadsBy}
 use Rattle.declarations.specs.rules.Rules.{follows, rules}
-use Rattle.declarations.specs.declared.class.Class.{Class}
-use Rattle.declarations.specs.declared.class.Class.TheVariants as signs
+use Rattle.declarations.specs.declared.class.SignClass.{SignClass}
+use Rattle.declarations.specs.declared.class.SignClass.TheVariants as signs
 use Rattle.declarations.specs.declared.class.Keyword.TheVariants as keywords
 use Rattle.declarations.specs.declared.class.Word.TheVariants as words
-use Rattle.declarations.specs.declared.place.Front.TheVariants as fronts
-use Rattle.declarations.specs.declared.place.Item.{Item}
-use Rattle.declarations.specs.declared.place.Item.TheVariants as items
-use Rattle.declarations.specs.declared.place.Place.{Place}
-use Rattle.declarations.specs.declared.place.Rule.{Rule}
-use Rattle.declarations.specs.declared.place.Spot.TheVariants as spots
-use Rattle.declarations.specs.declared.place.State.{State}
-use Rattle.declarations.specs.declared.place.State.TheVariants as states
+use Rattle.declarations.specs.declared.walk_state.Front.TheVariants as fronts
+use Rattle.declarations.specs.declared.walk_state.Item.{Item}
+use Rattle.declarations.specs.declared.walk_state.Item.TheVariants as items
+use Rattle.declarations.specs.declared.walk_state.WalkState.{WalkState}
+use Rattle.declarations.specs.declared.walk_state.Continuation.{Continuation}
+use Rattle.declarations.specs.declared.walk_state.Spot.TheVariants as spots
+use Rattle.declarations.specs.declared.walk_state.State.{State}
+use Rattle.declarations.specs.declared.walk_state.State.TheVariants as states
 use Rattle.declarations.proofs.AgreeLemmas.{Agrees, EndsAgree}
 use Rattle.declarations.proofs.EndLemmas.{ends_agree}
 use Rattle.declarations.proofs.RangeLemmas.{range_agrees}
 use Rattle.declarations.proofs.SpotLemmas.{spot_agrees}
-use Rattle.declarations.proofs.StackLemmas.{left_at, lifted, reached, state_left}
+use Rattle.declarations.proofs.StackLemmas.{left_at, left_after, stack_after, state_left}
 
 -- ---- steps
 
-angle_agrees : (rule : Rule) (c : Class)
+angle_agrees : (rule : Continuation) (c : SignClass)
     → Agrees (state_left (states.At (spots.Front fronts.ImplAngle)) 1 items.Impl rule)
     (step (record { item = items.Impl; rule = rule; state = states.At (spots.Front fronts.ImplAngle); depth = 1 }) c) c
 angle_agrees rule (signs.Word words.Auto) = refl
@@ -43,7 +43,7 @@ angle_agrees rule (signs.Keyword keywords.Async) = refl
 angle_agrees rule (signs.Keyword _) = refl
 angle_agrees rule _ = refl
 
-word_agrees : (rule : Rule) (c : Class)
+word_agrees : (rule : Continuation) (c : SignClass)
     → Agrees (state_left (states.At (spots.Front fronts.ImplWord)) 1 items.Impl rule)
     (step (record { item = items.Impl; rule = rule; state = states.At (spots.Front fronts.ImplWord); depth = 1 }) c) c
 word_agrees rule (signs.Word words.Auto) = refl
@@ -52,7 +52,7 @@ word_agrees rule (signs.Keyword keywords.Async) = refl
 word_agrees rule (signs.Keyword _) = refl
 word_agrees rule _ = refl
 
-state_agrees : (state : State) (depth : ℕ) (item : Item) (rule : Rule) (c : Class)
+state_agrees : (state : State) (depth : ℕ) (item : Item) (rule : Continuation) (c : SignClass)
     → Agrees (state_left state depth item rule)
     (step (record { item = item; rule = rule; state = state; depth = depth }) c) c
 state_agrees (states.Range state) depth item rule c = range_agrees depth state item rule c
@@ -61,29 +61,29 @@ state_agrees (states.At (spots.Front fronts.ImplAngle)) (suc zero) items.Impl ru
 state_agrees (states.At (spots.Front fronts.ImplWord)) (suc zero) items.Impl rule c = word_agrees rule c
 state_agrees _ _ _ _ c = refl
 
-place_agrees : (place : Place) (c : Class) → Agrees (left_at place) (step place c) c
+place_agrees : (place : WalkState) (c : SignClass) → Agrees (left_at place) (step place c) c
 place_agrees place c = state_agrees place.state place.depth place.item place.rule c
 
 -- ---- walks
 
-step_lifted : (place : Place) (k : List G) → left_at place ≡ Some k → (c : Class)
-    → lifted (step place c) ≡ reached (move rules k c)
+step_lifted : (place : WalkState) (k : List G) → left_at place ≡ Some k → (c : SignClass)
+    → left_after (step place c) ≡ stack_after (move rules k c)
 step_lifted place k e c = subst (λ o. Agrees o (step place c) c) e (place_agrees place c)
 
-ends_same : (place : Place) (k : List G) → left_at place ≡ Some k → ends place ≡ machine.ends k
+ends_same : (place : WalkState) (k : List G) → left_at place ≡ Some k → ends place ≡ machine.ends k
 ends_same place k e = subst (λ o. EndsAgree o place) e (ends_agree place)
 
-walk_lifted : (place : Place) (k : List G) → left_at place ≡ Some k → (signs : List Class)
-    → lifted (walk step place signs) ≡ reached (moves rules k signs)
+walk_lifted : (place : WalkState) (k : List G) → left_at place ≡ Some k → (signs : List SignClass)
+    → left_after (walk step place signs) ≡ stack_after (moves rules k signs)
 walk_lifted place k e [] = ap Some e
 walk_lifted place k e (c ∷ signs) =
     go (step place c) (move rules k c) (step_lifted place k e c) (λ q j h. walk_lifted q j h signs)
   where
-    go : (o : Option Place) (m : Option (List G)) → lifted o ≡ reached m
-        → ((q : Place) (j : List G) → left_at q ≡ Some j
-        → lifted (walk step q signs) ≡ reached (moves rules j signs))
-        → lifted (elim o as (λ x. Option Place) [ None ↦ None | Some next ↦ walk step next signs ])
-        ≡ reached (elim m as (λ x. Option (List G)) [ None ↦ None | Some j ↦ moves rules j signs ])
+    go : (o : Option WalkState) (m : Option (List G)) → left_after o ≡ stack_after m
+        → ((q : WalkState) (j : List G) → left_at q ≡ Some j
+        → left_after (walk step q signs) ≡ stack_after (moves rules j signs))
+        → left_after (elim o as (λ x. Option WalkState) [ None ↦ None | Some next ↦ walk step next signs ])
+        ≡ stack_after (elim m as (λ x. Option (List G)) [ None ↦ None | Some j ↦ moves rules j signs ])
     go None None h f = refl
     go None (Some j) h f = absurd cc
     go (Some q) None h f = absurd cc
@@ -92,102 +92,103 @@ walk_lifted place k e (c ∷ signs) =
 -- ---- pieces
 
 -- the tables in a state, and the machine with what is left to read in it
-pub record Meets (place : Place) (k : List G) : Type 0 where
+pub record Meets (place : WalkState) (k : List G) : Type 0 where
   pub left : left_at place ≡ Some (flat_all k)
 
-pub meet_ends : (place : Place) (k : List G) → Meets place k → ends place ≡ machine.ends k
+pub meet_ends : (place : WalkState) (k : List G) → Meets place k → ends place ≡ machine.ends k
 meet_ends place k m = ends_same place (flat_all k) m.left ∙ ends_flat rules k
 
 -- the machine takes each walk that the tables take
-pub table_walk : (start : Place) (g : G) → Meets start (g ∷ []) → (signs : List Class) (last : Place)
+pub table_walk : (start : WalkState) (g : G) → Meets start (g ∷ []) → (signs : List SignClass) (last : WalkState)
     → walk step start signs ≡ Some last
-    → (taken : List (Event Class Label) × List G) ×
+    → (taken : List (Event SignClass Label) × List G) ×
     (machine.walk rules (g ∷ []) signs ≡ Some taken) × Meets last taken.1
 table_walk start g m signs last e = go (machine.walk rules (g ∷ []) signs) refl
   where
-    both : Some (left_at last) ≡ reached (flattened (machine.walk rules (g ∷ []) signs))
+    both : Some (left_at last) ≡ stack_after (flat_stack_after (machine.walk rules (g ∷ []) signs))
     both =
-        ap lifted (sym e)
-        ∙ (walk_lifted start (flat_all (g ∷ [])) m.left signs ∙ ap reached (sym (walk_flat rules (g ∷ []) signs)))
+        ap left_after (sym e)
+        ∙ (walk_lifted start (flat_all (g ∷ [])) m.left signs ∙ ap stack_after (sym (walk_flat rules (g ∷ []) signs)))
 
-    go : (o : Option (List (Event Class Label) × List G)) → machine.walk rules (g ∷ []) signs ≡ o
-        → (taken : List (Event Class Label) × List G) × (machine.walk rules (g ∷ []) signs ≡ Some taken)
+    go : (o : Option (List (Event SignClass Label) × List G)) → machine.walk rules (g ∷ []) signs ≡ o
+        → (taken : List (Event SignClass Label) × List G) × (machine.walk rules (g ∷ []) signs ≡ Some taken)
         × Meets last taken.1
     go None h =
-        let no : Some (left_at last) ≡ None = both ∙ ap (λ x. reached (flattened x)) h in absurd cc
+        let no : Some (left_at last) ≡ None = both ∙ ap (λ x. stack_after (flat_stack_after x)) h in absurd cc
     go (Some taken) h =
-        let yes : Some (left_at last) ≡ Some (Some (flat_all taken.1)) = both ∙ ap (λ x. reached (flattened x)) h in
+        let yes : Some (left_at last) ≡ Some (Some (flat_all taken.1)) =
+        both ∙ ap (λ x. stack_after (flat_stack_after x)) h in
         let same : left_at last ≡ Some (flat_all taken.1) = cc in
         (taken, h, record { left = same })
 
 -- the tables take each walk that the machine takes
-machine_walk : (start : Place) (g : G) → Meets start (g ∷ []) → (signs : List Class)
-    (taken : List (Event Class Label) × List G) → machine.walk rules (g ∷ []) signs ≡ Some taken
-    → (last : Place) × (walk step start signs ≡ Some last) × Meets last taken.1
+machine_walk : (start : WalkState) (g : G) → Meets start (g ∷ []) → (signs : List SignClass)
+    (taken : List (Event SignClass Label) × List G) → machine.walk rules (g ∷ []) signs ≡ Some taken
+    → (last : WalkState) × (walk step start signs ≡ Some last) × Meets last taken.1
 machine_walk start g m signs taken e = go (walk step start signs) refl
   where
-    both : lifted (walk step start signs) ≡ Some (Some (flat_all taken.1))
+    both : left_after (walk step start signs) ≡ Some (Some (flat_all taken.1))
     both =
         walk_lifted start (flat_all (g ∷ [])) m.left signs
-        ∙ (ap reached (sym (walk_flat rules (g ∷ []) signs)) ∙ ap (λ x. reached (flattened x)) e)
+        ∙ (ap stack_after (sym (walk_flat rules (g ∷ []) signs)) ∙ ap (λ x. stack_after (flat_stack_after x)) e)
 
-    go : (o : Option Place) → walk step start signs ≡ o
-        → (last : Place) × (walk step start signs ≡ Some last) × Meets last taken.1
-    go None h = let no : None ≡ Some (Some (flat_all taken.1)) = ap lifted (sym h) ∙ both in absurd cc
+    go : (o : Option WalkState) → walk step start signs ≡ o
+        → (last : WalkState) × (walk step start signs ≡ Some last) × Meets last taken.1
+    go None h = let no : None ≡ Some (Some (flat_all taken.1)) = ap left_after (sym h) ∙ both in absurd cc
     go (Some last) h =
-        let yes : Some (left_at last) ≡ Some (Some (flat_all taken.1)) = ap lifted (sym h) ∙ both in
+        let yes : Some (left_at last) ≡ Some (Some (flat_all taken.1)) = ap left_after (sym h) ∙ both in
         let same : left_at last ≡ Some (flat_all taken.1) = cc in
         (last, h, record { left = same })
 
 -- if the tables have no step, then the machine has none
-pub no_step : (place : Place) (k : List G) → Meets place k → (c : Class) → step place c ≡ None
+pub no_step : (place : WalkState) (k : List G) → Meets place k → (c : SignClass) → step place c ≡ None
     → machine.step rules k c ≡ None
 no_step place k m c e = go (machine.step rules k c) refl
   where
-    both : lifted (step place c) ≡ reached (flattened (machine.step rules k c))
-    both = step_lifted place (flat_all k) m.left c ∙ ap reached (sym (step_flat rules k c))
+    both : left_after (step place c) ≡ stack_after (flat_stack_after (machine.step rules k c))
+    both = step_lifted place (flat_all k) m.left c ∙ ap stack_after (sym (step_flat rules k c))
 
-    go : (o : machine.Step Class Name Label) → machine.step rules k c ≡ o → machine.step rules k c ≡ None
+    go : (o : machine.Transition SignClass Name Label) → machine.step rules k c ≡ o → machine.step rules k c ≡ None
     go None h = h
     go (Some taken) h =
         let no : None ≡ Some (Some (flat_all taken.1)) =
-        ap lifted (sym e) ∙ (both ∙ ap (λ x. reached (flattened x)) h) in
+        ap left_after (sym e) ∙ (both ∙ ap (λ x. stack_after (flat_stack_after x)) h) in
         absurd cc
 
-no_table_step : (place : Place) (k : List G) → Meets place k → (c : Class) → machine.step rules k c ≡ None
+no_table_step : (place : WalkState) (k : List G) → Meets place k → (c : SignClass) → machine.step rules k c ≡ None
     → step place c ≡ None
 no_table_step place k m c e = go (step place c) refl
   where
-    both : lifted (step place c) ≡ None
+    both : left_after (step place c) ≡ None
     both =
         step_lifted place (flat_all k) m.left c
-        ∙ (ap reached (sym (step_flat rules k c)) ∙ ap (λ x. reached (flattened x)) e)
+        ∙ (ap stack_after (sym (step_flat rules k c)) ∙ ap (λ x. stack_after (flat_stack_after x)) e)
 
-    go : (o : Option Place) → step place c ≡ o → step place c ≡ None
+    go : (o : Option WalkState) → step place c ≡ o → step place c ≡ None
     go None h = h
-    go (Some q) h = let no : Some (left_at q) ≡ None = ap lifted (sym h) ∙ both in absurd cc
+    go (Some q) h = let no : Some (left_at q) ≡ None = ap left_after (sym h) ∙ both in absurd cc
 
-module _ (good : IsWellFormed rules follows) (place : Place) (g : G) (start : IsStart rules follows (g ∷ []))
+module _ (good : IsWellFormed rules follows) (place : WalkState) (g : G) (start : IsStart rules follows (g ∷ []))
     (left : left_at place ≡ Some (flat_all (g ∷ []))) where
   meets : Meets place (g ∷ [])
   meets = record { left = left }
 
   -- a walk of the tables is a piece of the rule
-  form_piece : (piece rest : List Class) → IsFrom place piece rest → IsPiece rules (g ∷ []) piece rest
+  form_piece : (piece rest : List SignClass) → IsFrom place piece rest → IsPiece rules (g ∷ []) piece rest
   form_piece piece rest f =
       let at = table_walk place g meets piece f.last f.walks in
       walk_piece rules follows good (g ∷ []) start piece rest
       (record { taken = at.0; walks = at.1; ended = sym (meet_ends f.last at.0.1 at.2) ∙ f.ended })
       (λ c more e. no_step f.last at.0.1 at.2 c (stop f.last rest f.stops c more e))
     where
-      stop : (last : Place) (rest : List Class) → Stops step last rest → (c : Class) (more : List Class)
+      stop : (last : WalkState) (rest : List SignClass) → Stops step last rest → (c : SignClass) (more : List SignClass)
           → rest ≡ c ∷ more
           → step last c ≡ None
       stop last [] s c more e = absurd cc
       stop last (d ∷ rest) s c more e = let same : d ≡ c = cc in ap (step last) (sym same) ∙ s
 
   -- a piece of the rule is a walk of the tables
-  piece_form : (piece rest : List Class) → IsPiece rules (g ∷ []) piece rest → IsFrom place piece rest
+  piece_form : (piece rest : List SignClass) → IsPiece rules (g ∷ []) piece rest → IsFrom place piece rest
   piece_form piece rest p =
       let w = piece_walk rules follows good (g ∷ []) start piece rest p in
       let at = machine_walk place g meets piece w.taken w.walks in
@@ -200,8 +201,8 @@ module _ (good : IsWellFormed rules follows) (place : Place) (g : G) (start : Is
             (piece_stops rules follows good (g ∷ []) start piece rest p w c more e));
       }
     where
-      stop : (last : Place) (rest : List Class)
-          → ((c : Class) (more : List Class) → rest ≡ c ∷ more → step last c ≡ None)
+      stop : (last : WalkState) (rest : List SignClass)
+          → ((c : SignClass) (more : List SignClass) → rest ≡ c ∷ more → step last c ≡ None)
           → Stops step last rest
       stop last [] f = tt
       stop last (c ∷ rest) f = f c rest refl

@@ -14,8 +14,8 @@ use Rattle.declarations.specs.Reader.{Remains, ReadsRule, classes_in}
 use Rattle.declarations.specs.Reading.{StopsAt}
 use Rattle.declarations.specs.Signs.{classes_of, signs}
 use Rattle.declarations.specs.Walk.{Stops}
-use Rattle.declarations.specs.declared.class.Class.{Class}
-use Rattle.declarations.specs.declared.place.Place.{Place}
+use Rattle.declarations.specs.declared.class.SignClass.{SignClass}
+use Rattle.declarations.specs.declared.walk_state.WalkState.{WalkState}
 use Rattle.declarations.specs.rules.Names.{G, Label, Name}
 use Rattle.declarations.specs.rules.Rules.{rules}
 use Rattle.declarations.proofs.ReadingLemmas.{classes-append}
@@ -24,11 +24,11 @@ use Rattle.declarations.proofs.TableLemmas.{Meets, meet_ends, no_step, table_wal
 
 -- ---- the machine after a walk
 
-front_none : (f : Found Class Label) → f ≡ front [] f
+front_none : (f : Found SignClass Label) → f ≡ front [] f
 front_none (Past e r) = refl
 front_none (Stuck l) = refl
 
-scan_walk : (k : List G) (cs left : List Class) (taken : List (Event Class Label) × List G)
+scan_walk : (k : List G) (cs left : List SignClass) (taken : List (Event SignClass Label) × List G)
     → machine.walk rules k cs ≡ Some taken
     → scan rules k (cs ++ left) ≡ front taken.0 (scan rules taken.1 left)
 scan_walk k [] left taken e =
@@ -38,9 +38,10 @@ scan_walk k [] left taken e =
     ∙ (ap (λ x. front x (scan rules k left)) events ∙ ap (λ j. front taken.0 (scan rules j left)) stack)
 scan_walk k (c ∷ cs) left taken e = go (machine.step rules k c) refl e (λ j t h. scan_walk j cs left t h)
   where
-    later : (t : List (Event Class Label) × List G) → machine.step rules k c ≡ Some t
-        → (o : machine.Step Class Name Label) → machine.walk rules t.1 cs ≡ o → machine.behind t.0 o ≡ Some taken
-        → ((u : List (Event Class Label) × List G) → machine.walk rules t.1 cs ≡ Some u
+    later : (t : List (Event SignClass Label) × List G) → machine.step rules k c ≡ Some t
+        → (o : machine.Transition SignClass Name Label) → machine.walk rules t.1 cs ≡ o
+        → machine.prepend_events t.0 o ≡ Some taken
+        → ((u : List (Event SignClass Label) × List G) → machine.walk rules t.1 cs ≡ Some u
         → scan rules t.1 (cs ++ left) ≡ front u.0 (scan rules u.1 left))
         → scan rules k (c ∷ (cs ++ left)) ≡ front taken.0 (scan rules taken.1 left)
     later t s None w e f = absurd cc
@@ -52,20 +53,20 @@ scan_walk k (c ∷ cs) left taken e = go (machine.step rules k c) refl e (λ j t
         ∙ (front_front t.0 u.0 (scan rules u.1 left)
         ∙ (ap (λ x. front x (scan rules u.1 left)) events ∙ ap (λ j. front taken.0 (scan rules j left)) stack)))
 
-    go : (s : machine.Step Class Name Label) → machine.step rules k c ≡ s
-        → (elim s as (λ y. machine.Step Class Name Label) [
+    go : (s : machine.Transition SignClass Name Label) → machine.step rules k c ≡ s
+        → (elim s as (λ y. machine.Transition SignClass Name Label) [
           | None ↦ None
-          | Some t ↦ machine.behind t.0 (machine.walk rules t.1 cs)
+          | Some t ↦ machine.prepend_events t.0 (machine.walk rules t.1 cs)
         ]) ≡ Some taken
-        → ((j : List G) (u : List (Event Class Label) × List G) → machine.walk rules j cs ≡ Some u
+        → ((j : List G) (u : List (Event SignClass Label) × List G) → machine.walk rules j cs ≡ Some u
         → scan rules j (cs ++ left) ≡ front u.0 (scan rules u.1 left))
         → scan rules k (c ∷ (cs ++ left)) ≡ front taken.0 (scan rules taken.1 left)
     go None s e f = absurd cc
     go (Some t) s e f = later t s (machine.walk rules t.1 cs) refl e (f t.1)
 
 -- what the machine finds where the walk stops
-scan_stops : (k : List G) (left : List Class) (ended : Bool) → machine.ends k ≡ ended
-    → ((c : Class) (more : List Class) → left ≡ c ∷ more → machine.step rules k c ≡ None)
+scan_stops : (k : List G) (left : List SignClass) (ended : Bool) → machine.ends k ≡ ended
+    → ((c : SignClass) (more : List SignClass) → left ≡ c ∷ more → machine.step rules k c ≡ None)
     → scan rules k left ≡ (if ended then Past (machine.closing k) left else Stuck left)
 scan_stops k [] ended e f = ap (λ b. if b then Past (machine.closing k) [] else Stuck []) e
 scan_stops k (c ∷ left) ended e f =
@@ -74,22 +75,22 @@ scan_stops k (c ∷ left) ended e f =
 
 -- ---- results
 
-no_steps : (start : Place) (ended : Bool) (trees left : List TokenTree) (s : StopsAt start ended trees left)
-    (k : List G) → Meets s.place k → (c : Class) (more : List Class) → classes_of (signs left) ≡ c ∷ more
+no_steps : (start : WalkState) (ended : Bool) (trees left : List TokenTree) (s : StopsAt start ended trees left)
+    (k : List G) → Meets s.place k → (c : SignClass) (more : List SignClass) → classes_of (signs left) ≡ c ∷ more
     → machine.step rules k c ≡ None
 no_steps start ended trees left s k m c more e =
     no_step s.place k m c (stop s.place (classes_of (signs left)) s.stops c more e)
   where
-    stop : (last : Place) (rest : List Class) → Stops step last rest → (c : Class) (more : List Class)
+    stop : (last : WalkState) (rest : List SignClass) → Stops step last rest → (c : SignClass) (more : List SignClass)
         → rest ≡ c ∷ more
         → step last c ≡ None
     stop last [] s c more e = absurd cc
     stop last (d ∷ rest) s c more e = let same : d ≡ c = cc in ap (step last) (sym same) ∙ s
 
-module _ (place : Place) (g : G) (left_there : left_at place ≡ Some (flat_all (g ∷ []))) where
+module _ (place : WalkState) (g : G) (left_there : left_at place ≡ Some (flat_all (g ∷ []))) where
   -- what the machine finds in the trees up to where the walk stops
   table_scan : (ended : Bool) (trees left : List TokenTree) (s : StopsAt place ended trees left)
-      → (taken : List (Event Class Label) × List G) × (find rules g (classes_in trees)
+      → (taken : List (Event SignClass Label) × List G) × (find rules g (classes_in trees)
       ≡ front taken.0 (if ended then Past (machine.closing taken.1) (classes_in left) else Stuck (classes_in left)))
   unfolding find classes_in
   table_scan ended trees left s =

@@ -5,12 +5,13 @@ use Rattle.pm_stream.specs.declared.stream.TokenTree.{TokenTree}
 use Rattle.declarations.specs.Reading.{FaultAt, IsOnly, Reads, StopsBefore}
 use Rattle.declarations.specs.Signs.{classes_of, signs}
 use Rattle.declarations.specs.Walk.{IsFront}
-use Rattle.declarations.specs.declared.class.Class.{Class}
+use Rattle.declarations.specs.declared.class.SignClass.{SignClass}
 
 -- ---- forms with the same pieces
 
-module _ (A B : List Class → List Class → Type 0) (by : (piece rest : List Class) → B piece rest ↔ A piece rest) where
-  front_to : (front : List Class) → IsFront A front → IsFront B front
+module _ (A B : List SignClass → List SignClass → Type 0)
+    (by : (piece rest : List SignClass) → B piece rest ↔ A piece rest) where
+  front_to : (front : List SignClass) → IsFront A front → IsFront B front
   front_to front f = record {
     more = f.more;
     piece = f.piece;
@@ -19,7 +20,7 @@ module _ (A B : List Class → List Class → Type 0) (by : (piece rest : List C
     stands = (by f.piece f.rest).1 f.stands;
   }
 
-  front_back : (front : List Class) → IsFront B front → IsFront A front
+  front_back : (front : List SignClass) → IsFront B front → IsFront A front
   front_back front f = record {
     more = f.more;
     piece = f.piece;
@@ -28,7 +29,7 @@ module _ (A B : List Class → List Class → Type 0) (by : (piece rest : List C
     stands = (by f.piece f.rest).0 f.stands;
   }
 
-  stops_to : (front left : List Class) → StopsBefore A front left → StopsBefore B front left
+  stops_to : (front left : List SignClass) → StopsBefore A front left → StopsBefore B front left
   stops_to front [] s = tt
   stops_to front (c ∷ left) s = λ f. s (front_back (front ++ c ∷ []) f)
 

@@ -8,7 +8,7 @@ use Rattle.declarations.specs.Parts.{is_mark}
 use Rattle.declarations.specs.Reader.{classes_in}
 use Rattle.declarations.specs.Signs as signs_in
 use Rattle.declarations.specs.Signs.{Sign, signs}
-use Rattle.declarations.specs.declared.class.Class.{Class}
+use Rattle.declarations.specs.declared.class.SignClass.{SignClass}
 use Rattle.declarations.specs.rules.Names.{Label, Name as RuleName}
 use Rattle.declarations.proofs.SortLemmas.{FirstTree, IsTree, MayBeGroup, clash, first_tree, group_sort, literals}
 use Rattle.declarations.proofs.SortLemmas.{marks, name_sort, names, one as one_tree, pairs, sort_of, two as two_trees}
@@ -32,9 +32,9 @@ mark_tree trees sign (one_tree (Literal l) is) sort =
     cc
 
 -- a sign with the class of one mark is this mark
-pub marked : (trees : List TokenTree) (sign : Sign) (after : List Sign) → signs trees ≡ sign ∷ after
+pub is_mark_sign : (trees : List TokenTree) (sign : Sign) (after : List Sign) → signs trees ≡ sign ∷ after
     → sort_of sign.class ≡ marks → (tree : TokenTree) × (is_mark tree ≡ true) × IsTree trees sign tree
-marked trees sign after read sort = mark_tree trees sign (first_tree trees sign after read) sort
+is_mark_sign trees sign after read sort = mark_tree trees sign (first_tree trees sign after read) sort
 
 -- ---- one sign
 
@@ -43,7 +43,7 @@ or_nothing true y = refl
 or_nothing false y = refl
 
 -- the first sign passes no test that only other trees pass
-pub no_sign : (passes : Class → Bool) (trees : List TokenTree)
+pub no_sign : (passes : SignClass → Bool) (trees : List TokenTree)
     → ((sign : Sign) (after : List Sign) → signs trees ≡ sign ∷ after
     → passes sign.class ≡ true → ⊥)
     → heads {N = RuleName} {L = Label} (SignRule passes) (classes_in trees) ≡ false

@@ -8,7 +8,7 @@ use Rattle.grammars.specs.Deterministic.{IsStart}
 use Rattle.grammars.specs.Find.{Found, Past, Stuck, find, front}
 use Rattle.grammars.specs.First.{heads, may_begin}
 use Rattle.grammars.specs.Grammar.{Either, Mark, Nothing, One, Sign, Then, To, perhaps}
-use Rattle.grammars.specs.Machine.{is_nullable, skipped, step}
+use Rattle.grammars.specs.Machine.{is_nullable, marks_of_nothing, step}
 use Rattle.grammars.proofs.FindLemmas.{scan_step}
 use Rattle.grammars.proofs.WordLemmas.{find_first, find_other, find_skips}
 use Rattle.pm_span.specs.Extent.{Extent}
@@ -17,7 +17,7 @@ use Rattle.pm_token.specs.declared.delimiters.Delimiter.TheVariants as delimiter
 use Rattle.pm_stream.specs.declared.stream.Group.{Group as Grouped}
 use Rattle.pm_stream.specs.declared.stream.TokenTree.{TokenTree}
 use Rattle.pm_stream.specs.declared.stream.TokenTree.TheVariants.{Group, Ident}
-use Rattle.declarations.specs.Bare.{bared}
+use Rattle.declarations.specs.Bare.{bare_trees}
 use Rattle.declarations.specs.Fault.{extent_at, first_extent}
 use Rattle.declarations.specs.Function.{AreParentheses, HasReturn}
 use Rattle.declarations.specs.Parameter.{LeadsTo}
@@ -28,18 +28,18 @@ use Rattle.declarations.specs.TypePath.{Goes, HasAngle, HasArguments, HasGroup, 
 use Rattle.declarations.specs.TypePath.{HasPathParts, HasRound, HasSegment, IsLast, IsSegmentAt, IsStep}
 use Rattle.declarations.specs.TypePath.{IsTypePath, MaySeparate, ReadsStep, Segments, at_first, onward}
 use Rattle.declarations.specs.Whole.{IsWhole}
-use Rattle.declarations.specs.declared.class.Class.{Class}
-use Rattle.declarations.specs.declared.class.Class.TheVariants as signs
+use Rattle.declarations.specs.declared.class.SignClass.{SignClass}
+use Rattle.declarations.specs.declared.class.SignClass.TheVariants as signs
 use Rattle.declarations.specs.declared.class.Keyword.TheVariants as keywords
 use Rattle.declarations.specs.declared.class.Word.TheVariants as words
 use Rattle.declarations.specs.declared.type_path.Last.{Last}
 use Rattle.declarations.specs.declared.type_path.PathArguments.{PathArguments}
 use Rattle.declarations.specs.declared.type_path.PathArguments.TheVariants as kinds
 use Rattle.declarations.specs.declared.type_path.Segment.{Segment}
-use Rattle.declarations.specs.declared.type_path.Step.{Step}
+use Rattle.declarations.specs.declared.type_path.Transition.{Transition}
 use Rattle.declarations.specs.declared.type_path.TypePath.{TypePath}
 use Rattle.declarations.specs.rules.Classes.{is, is_round, opens}
-use Rattle.declarations.specs.rules.Functions.{returned, with_arrow}
+use Rattle.declarations.specs.rules.Functions.{return_type_rule, with_arrow}
 use Rattle.declarations.specs.rules.Names.{AfterArguments, AfterName, AfterSeparator, G, Label, Name as RuleName}
 use Rattle.declarations.specs.rules.Names.{Path, Returns, one}
 use Rattle.declarations.specs.rules.Paths as rule
@@ -56,7 +56,7 @@ use Rattle.declarations.proofs.ReaderLemmas.{then_sticks}
 use Rattle.declarations.proofs.RuleFormLemmas.{found_reads}
 use Rattle.declarations.proofs.RuleLemmas.{starts}
 use Rattle.declarations.proofs.RuleWholeLemmas.{left_whole, stuck_whole, whole_read}
-use Rattle.declarations.proofs.SortLemmas.{named, names, sort_of}
+use Rattle.declarations.proofs.SortLemmas.{is_identifier_sign, names, sort_of}
 
 -- ---- where a reading begins
 
@@ -76,9 +76,9 @@ after_separator = rule.path AfterSeparator
 
 -- perhaps `::` and a next segment
 abbrev may_go_on : G
-may_go_on = perhaps rule.separated
+may_go_on = perhaps rule.further_segment
 
-opens_name : (c : Class) → opens c ≡ true → step rules (after_name ∷ []) c ≡ Some (One c ∷ [], rule.angle_rest ∷ [])
+opens_name : (c : SignClass) → opens c ≡ true → step rules (after_name ∷ []) c ≡ Some (One c ∷ [], rule.angle_rest ∷ [])
 opens_name signs.Less h = refl
 opens_name signs.LessJoint h = refl
 opens_name (signs.Word words.Auto) h = absurd (both_ways _ refl h)
@@ -87,7 +87,7 @@ opens_name (signs.Keyword keywords.Async) h = absurd (both_ways _ refl h)
 opens_name (signs.Keyword _) h = absurd (both_ways _ refl h)
 opens_name _ h = absurd (both_ways _ refl h)
 
-opens_separator : (c : Class) → opens c ≡ true
+opens_separator : (c : SignClass) → opens c ≡ true
     → step rules (after_separator ∷ []) c ≡ Some (One c ∷ [], rule.angle_rest ∷ [])
 opens_separator signs.Less h = refl
 opens_separator signs.LessJoint h = refl
@@ -97,7 +97,8 @@ opens_separator (signs.Keyword keywords.Async) h = absurd (both_ways _ refl h)
 opens_separator (signs.Keyword _) h = absurd (both_ways _ refl h)
 opens_separator _ h = absurd (both_ways _ refl h)
 
-round_name : (c : Class) → is_round c ≡ true → step rules (after_name ∷ []) c ≡ Some (One c ∷ [], rule.round_rest ∷ [])
+round_name : (c : SignClass) → is_round c ≡ true
+    → step rules (after_name ∷ []) c ≡ Some (One c ∷ [], rule.round_rest ∷ [])
 round_name signs.Parentheses h = refl
 round_name signs.Restriction h = refl
 round_name (signs.Word words.Auto) h = absurd (both_ways _ refl h)
@@ -106,7 +107,7 @@ round_name (signs.Keyword keywords.Async) h = absurd (both_ways _ refl h)
 round_name (signs.Keyword _) h = absurd (both_ways _ refl h)
 round_name _ h = absurd (both_ways _ refl h)
 
-round_separator : (c : Class) → is_round c ≡ true
+round_separator : (c : SignClass) → is_round c ≡ true
     → step rules (after_separator ∷ []) c ≡ Some (One c ∷ [], rule.round_rest ∷ [])
 round_separator signs.Parentheses h = refl
 round_separator signs.Restriction h = refl
@@ -116,15 +117,15 @@ round_separator (signs.Keyword keywords.Async) h = absurd (both_ways _ refl h)
 round_separator (signs.Keyword _) h = absurd (both_ways _ refl h)
 round_separator _ h = absurd (both_ways _ refl h)
 
-round_own : (c : Class) → is_round c ≡ true
+round_own : (c : SignClass) → is_round c ≡ true
     → step rules (rule.round_arguments ∷ []) c ≡ Some (One c ∷ [], rule.round_rest ∷ [])
 round_own c h = rw h refl
 
-segment_own : (c : Class) → rule.is_segment c ≡ true
+segment_own : (c : SignClass) → rule.is_segment c ≡ true
     → step rules (rule.segment ∷ []) c ≡ Some (One c ∷ [], after_name ∷ [])
 segment_own c h = rw h refl
 
-segment_separator : (c : Class) → rule.is_segment c ≡ true
+segment_separator : (c : SignClass) → rule.is_segment c ≡ true
     → step rules (after_separator ∷ []) c ≡ Some (One c ∷ [], after_name ∷ [])
 segment_separator signs.SelfValue h = refl
 segment_separator signs.SelfType h = refl
@@ -138,7 +139,7 @@ segment_separator _ h = absurd (both_ways _ refl h)
 
 -- ---- rules that go on as other rules
 
-front_none : (f : Found Class Label) → f ≡ front [] f
+front_none : (f : Found SignClass Label) → f ≡ front [] f
 front_none (Past e r) = refl
 front_none (Stuck l) = refl
 
@@ -159,12 +160,12 @@ goes_on : (g h : G) (trees mid rest : List TokenTree) (next : Option Segment) �
 goes_on g h trees mid rest None l f = leads_finds g h trees mid rest l f
 goes_on g h trees mid rest (Some next) l f = leads_on g h after_name trees mid next.from_arguments.now l f
 
-begins_as : (trees rest : List TokenTree) (x class : Class) → BeginsWith trees class rest → is x class ≡ true
+begins_as : (trees rest : List TokenTree) (x class : SignClass) → BeginsWith trees class rest → is x class ≡ true
     → BeginsWith trees x rest
 begins_as trees rest x class b h = subst (λ c. BeginsWith trees c rest) (same_class x class h) b
 
 -- rules that go on alike after parentheses find the same
-round_find : (g : G) (c : Class) (cs : List Class)
+round_find : (g : G) (c : SignClass) (cs : List SignClass)
     → step rules (g ∷ []) c ≡ Some (One c ∷ [], rule.round_rest ∷ []) → is_round c ≡ true
     → find rules g (c ∷ cs) ≡ find rules rule.round_arguments (c ∷ cs)
 unfolding find
@@ -173,7 +174,7 @@ round_find g c cs e h =
     ∙ sym (scan_step rules (rule.round_arguments ∷ []) c cs (Some (One c ∷ [], rule.round_rest ∷ []))
     (round_own c h))
 
-round_leads : (g : G) (trees rest : List TokenTree) (class : Class) → BeginsWith trees class rest
+round_leads : (g : G) (trees rest : List TokenTree) (class : SignClass) → BeginsWith trees class rest
     → step rules (g ∷ []) class ≡ Some (One class ∷ [], rule.round_rest ∷ []) → is_round class ≡ true
     → LeadsTo g trees rule.round_arguments trees
 round_leads g trees rest class b e h =
@@ -184,7 +185,7 @@ round_leads g trees rest class b e h =
 
 -- ---- names of segments
 
-segment_sort : (c : Class) → rule.is_segment c ≡ true → sort_of c ≡ names
+segment_sort : (c : SignClass) → rule.is_segment c ≡ true → sort_of c ≡ names
 segment_sort signs.SelfValue h = refl
 segment_sort signs.SelfType h = refl
 segment_sort signs.Super h = refl
@@ -195,17 +196,18 @@ segment_sort (signs.Keyword keywords.Async) h = absurd (both_ways _ refl h)
 segment_sort (signs.Keyword _) h = absurd (both_ways _ refl h)
 segment_sort _ h = absurd (both_ways _ refl h)
 
-segment_heads : (cs : List Class) → heads rule.segment cs ≡ heads {N = RuleName} {L = Label} (Sign rule.is_segment) cs
+segment_heads : (cs : List SignClass)
+    → heads rule.segment cs ≡ heads {N = RuleName} {L = Label} (Sign rule.is_segment) cs
 segment_heads [] = refl
 segment_heads (c ∷ cs) = refl
 
-pub segment_at : (trees rest : List TokenTree) (n : Name) (class : Class) (b : Bool) → trees ≡ Ident n ∷ rest
+pub segment_at : (trees rest : List TokenTree) (n : Name) (class : SignClass) (b : Bool) → trees ≡ Ident n ∷ rest
     → class ≡ name_class n → b ≡ rule.is_segment class → b ≡ true
     → IsSegmentAt trees n rest
 segment_at trees rest n class b whole named is h =
     record { whole = whole; is_name = ap rule.is_segment (sym named) ∙ (sym is ∙ h) }
 
-pub no_segment : (trees rest : List TokenTree) (n : Name) (class : Class) (b : Bool) → trees ≡ Ident n ∷ rest
+pub no_segment : (trees rest : List TokenTree) (n : Name) (class : SignClass) (b : Bool) → trees ≡ Ident n ∷ rest
     → class ≡ name_class n → b ≡ rule.is_segment class → b ≡ false
     → heads rule.segment (classes_in trees) ≡ false
 no_segment trees rest n class b whole named is h =
@@ -218,7 +220,7 @@ no_ident trees none =
     segment_heads (classes_in trees)
     ∙ no_sign rule.is_segment trees
     (λ sign after e h.
-    let at = named trees sign after e (segment_sort sign.class h) in none at.0 at.1.more at.1.whole)
+    let at = is_identifier_sign trees sign after e (segment_sort sign.class h) in none at.0 at.1.more at.1.whole)
 
 pub ruleset segments = (segment_at, no_segment, no_ident)
 
@@ -238,7 +240,7 @@ or_nothing : (x y : Bool) → (x || false && y) ≡ x
 or_nothing true y = refl
 or_nothing false y = refl
 
-module _ (trees from_name : List TokenTree) (class : Class) (b : BeginsWith trees class from_name) where
+module _ (trees from_name : List TokenTree) (class : SignClass) (b : BeginsWith trees class from_name) where
   module _ (h : is signs.PathSeparator class ≡ true) where
     separator_here : BeginsWith trees signs.PathSeparator from_name
     separator_here = begins_as trees from_name signs.PathSeparator class b h
@@ -267,14 +269,14 @@ module _ (trees from_name : List TokenTree) (class : Class) (b : BeginsWith tree
 
   pub next_none : is signs.PathSeparator class ≡ false → Goes may_go_on trees trees None × HasNext trees None
   next_none h = (
-    perhaps_stays rule.separated trees
-        (heads_sign rule.separated trees from_name class b
+    perhaps_stays rule.further_segment trees
+        (heads_sign rule.further_segment trees from_name class b
         ∙ (or_nothing (is signs.PathSeparator class) (may_begin rule.segment class) ∙ h)),
     refl,
   )
 
 pub next_end : (trees : List TokenTree) → trees ≡ [] → Goes may_go_on trees trees None × HasNext trees None
-next_end trees e = (perhaps_stays rule.separated trees (heads_none rule.separated trees e), refl)
+next_end trees e = (perhaps_stays rule.further_segment trees (heads_none rule.further_segment trees e), refl)
 
 pub ruleset nexts = (next_some, next_sticks, next_none, next_end)
 
@@ -294,7 +296,7 @@ module _ (trees from_close : List TokenTree) (f : Finds rule.generic_arguments t
       then_fails rule.generic_arguments closing trees from_close from_close f
       (lacks closing from_close (heads_none closing from_close e) refl)
 
-  module _ (after : List TokenTree) (class : Class) (b : BeginsWith from_close class after) where
+  module _ (after : List TokenTree) (class : SignClass) (b : BeginsWith from_close class after) where
     pub unclosed : is signs.Greater class ≡ false → Sticks rule.angle_rest trees from_close
     unclosed h =
         then_fails rule.generic_arguments closing trees from_close from_close f
@@ -334,32 +336,35 @@ pub ruleset angles = (angle_sticks, unclosed_end, unclosed, closed_sticks, close
 
 -- ---- arguments in parentheses
 
-arrow_heads : (cs : List Class) → heads with_arrow cs ≡ heads (one signs.Arrow) cs
+arrow_heads : (cs : List SignClass) → heads with_arrow cs ≡ heads (one signs.Arrow) cs
 arrow_heads [] = refl
 arrow_heads (c ∷ cs) = or_nothing (is signs.Arrow c) (may_begin (Then (Mark Returns) type) c)
 
-arrow_find : (cs : List Class) → heads with_arrow cs ≡ true → find rules rule.round_rest cs ≡ find rules returned cs
+arrow_find : (cs : List SignClass) → heads with_arrow cs ≡ true
+    → find rules rule.round_rest cs ≡ find rules return_type_rule cs
 arrow_find cs h =
-    find_first rules (Either with_arrow rule.separated) Nothing cs
-    (heads_either with_arrow rule.separated cs ∙ or_left _ _ h)
-    ∙ (find_first rules with_arrow rule.separated cs h ∙ sym (find_first rules with_arrow Nothing cs h))
+    find_first rules (Either with_arrow rule.further_segment) Nothing cs
+    (heads_either with_arrow rule.further_segment cs ∙ or_left _ _ h)
+    ∙ (find_first rules with_arrow rule.further_segment cs h ∙ sym (find_first rules with_arrow Nothing cs h))
 
-no_arrow_find : (cs : List Class) → heads with_arrow cs ≡ false
+no_arrow_find : (cs : List SignClass) → heads with_arrow cs ≡ false
     → find rules rule.round_rest cs ≡ find rules may_go_on cs
-no_arrow_find cs h = go (heads rule.separated cs) refl
+no_arrow_find cs h = go (heads rule.further_segment cs) refl
   where
-    both : (b : Bool) → heads rule.separated cs ≡ b → heads (Either with_arrow rule.separated) cs ≡ b
-    both b e = heads_either with_arrow rule.separated cs ∙ rw (h, e) refl
+    both : (b : Bool) → heads rule.further_segment cs ≡ b → heads (Either with_arrow rule.further_segment) cs ≡ b
+    both b e = heads_either with_arrow rule.further_segment cs ∙ rw (h, e) refl
 
-    go : (b : Bool) → heads rule.separated cs ≡ b → find rules rule.round_rest cs ≡ find rules may_go_on cs
+    go : (b : Bool) → heads rule.further_segment cs ≡ b → find rules rule.round_rest cs ≡ find rules may_go_on cs
     go true e =
-        find_first rules (Either with_arrow rule.separated) Nothing cs (both true e)
-        ∙ (find_other rules with_arrow rule.separated cs h refl ∙ sym (find_first rules rule.separated Nothing cs e))
+        find_first rules (Either with_arrow rule.further_segment) Nothing cs (both true e)
+        ∙ (find_other rules with_arrow rule.further_segment cs h refl
+        ∙ sym (find_first rules rule.further_segment Nothing cs e))
     go false e =
         find_skips rules rule.round_rest cs
-        (heads_either (Either with_arrow rule.separated) Nothing cs ∙ rw (both false e, heads_nothing cs) refl) refl
+        (heads_either (Either with_arrow rule.further_segment) Nothing cs ∙ rw (both false e, heads_nothing cs) refl)
+        refl
         ∙ sym (find_skips rules may_go_on cs
-        (heads_either rule.separated Nothing cs ∙ rw (e, heads_nothing cs) refl) refl)
+        (heads_either rule.further_segment Nothing cs ∙ rw (e, heads_nothing cs) refl) refl)
 
 pub no_round : (trees : List TokenTree)
     → ((g : Grouped) (rest : List TokenTree) → trees ≡ Group g ∷ rest → g.delimiter ≡ delimiters.Parenthesis → ⊥)
@@ -380,22 +385,22 @@ module _ (trees from_output : List TokenTree) (g : Bor Grouped) (whole : trees �
   to_rest = finds_leads (Sign is_round) rule.round_rest trees from_output round_finds
 
   module _ (there : has ≡ true) where
-    to_returned : LeadsTo rule.round_arguments trees returned from_output
+    to_returned : LeadsTo rule.round_arguments trees return_type_rule from_output
     to_returned =
-        leads_on rule.round_arguments rule.round_rest returned trees from_output from_output to_rest
-        (leads_same rule.round_rest returned from_output
+        leads_on rule.round_arguments rule.round_rest return_type_rule trees from_output from_output to_rest
+        (leads_same rule.round_rest return_type_rule from_output
         (arrow_find (classes_in from_output) (arrow_heads (classes_in from_output) ∙ (sym h ∙ there))))
 
-    pub output_sticks : (left : List TokenTree) → Sticks returned from_output left
+    pub output_sticks : (left : List TokenTree) → Sticks return_type_rule from_output left
         → Sticks rule.round_arguments trees left
-    output_sticks left f = leads_sticks rule.round_arguments returned trees from_output left to_returned f
+    output_sticks left f = leads_sticks rule.round_arguments return_type_rule trees from_output left to_returned f
 
-    pub output_step : (output rest : Bor (List TokenTree)) → Finds returned from_output rest.now
+    pub output_step : (output rest : Bor (List TokenTree)) → Finds return_type_rule from_output rest.now
         → HasReturn from_output output.now rest.now
         → IsStep rule.round_arguments HasRound trees
         (record { arguments = kinds.Parenthesized g output; rest = rest; next = None })
     output_step output rest f read = record {
-      goes = leads_finds rule.round_arguments returned trees from_output rest.now to_returned f;
+      goes = leads_finds rule.round_arguments return_type_rule trees from_output rest.now to_returned f;
       arguments = record { from_output = from_output; round = at_round; returned = read };
       next = refl;
       remains = remains_on trees from_output rest.now round_finds.remains f.remains;
@@ -428,7 +433,7 @@ pub ruleset rounds = (no_round, output_sticks, output_step, group_sticks, group_
 
 -- ---- what comes after a name
 
-argued_angle : (trees from inside rest : List TokenTree) (class : Class) (arguments : PathArguments)
+argued_angle : (trees from inside rest : List TokenTree) (class : SignClass) (arguments : PathArguments)
     → MaySeparate trees from → BeginsWith from class inside → opens class ≡ true → HasAngle arguments inside rest
     → HasArguments arguments trees rest
 argued_angle trees from inside rest class (kinds.AngleBracketed given) may b h has = record {
@@ -453,7 +458,7 @@ argued_round trees from rest (kinds.AngleBracketed given) may has = absurd has
 
 -- a step from a later rule on is a step of the rule that leads to it
 lift : (h : G) (has : PathArguments → List TokenTree → List TokenTree → Type 0) (trees mid : List TokenTree)
-    (result : Result Step (Bor (List TokenTree))) → LeadsTo after_name trees h mid
+    (result : Result Transition (Bor (List TokenTree))) → LeadsTo after_name trees h mid
     → ((arguments : PathArguments) (rest : List TokenTree) → has arguments mid rest → HasArguments arguments trees rest)
     → ReadsStep h has mid result
     → ReadsStep after_name HasArguments trees result
@@ -478,9 +483,9 @@ module _ (trees from : List TokenTree) (s : BeginsWith trees signs.PathSeparator
   separator_ends e =
       separator_stuck from (lacks after_separator from (heads_none after_separator from e) refl)
 
-  module _ (inside : List TokenTree) (class : Class) (b : BeginsWith from class inside) (opened : Bool)
+  module _ (inside : List TokenTree) (class : SignClass) (b : BeginsWith from class inside) (opened : Bool)
       (o : opened ≡ opens class) where
-    pub separated_angle : (result : Result Step (Bor (List TokenTree))) → opened ≡ true
+    pub separated_angle : (result : Result Transition (Bor (List TokenTree))) → opened ≡ true
         → ReadsStep rule.angle_rest HasAngle inside result
         → ReadsStep after_name HasArguments trees result
     separated_angle result h r =
@@ -490,7 +495,7 @@ module _ (trees from : List TokenTree) (s : BeginsWith trees signs.PathSeparator
         (λ arguments rest has. argued_angle trees from inside rest class arguments (inl s) b (sym o ∙ h) has) r
 
     module _ (closed : opened ≡ false) (round : Bool) (i : round ≡ is_round class) where
-      pub separated_round : (result : Result Step (Bor (List TokenTree))) → round ≡ true
+      pub separated_round : (result : Result Transition (Bor (List TokenTree))) → round ≡ true
           → ReadsStep rule.round_arguments HasRound from result
           → ReadsStep after_name HasArguments trees result
       separated_round result h r =
@@ -561,9 +566,9 @@ pub name_ends : (trees : List TokenTree) (rest : Bor (List TokenTree)) → rest.
 name_ends trees rest whole e =
     alone_step trees rest whole (perhaps_stays goes_further trees (heads_none goes_further trees e))
 
-module _ (trees after : List TokenTree) (class : Class) (b : BeginsWith trees class after) (opened : Bool)
+module _ (trees after : List TokenTree) (class : SignClass) (b : BeginsWith trees class after) (opened : Bool)
     (o : opened ≡ opens class) where
-  pub name_angle : (result : Result Step (Bor (List TokenTree))) → opened ≡ true
+  pub name_angle : (result : Result Transition (Bor (List TokenTree))) → opened ≡ true
       → ReadsStep rule.angle_rest HasAngle after result
       → ReadsStep after_name HasArguments trees result
   name_angle result h r =
@@ -572,7 +577,7 @@ module _ (trees after : List TokenTree) (class : Class) (b : BeginsWith trees cl
       (λ arguments rest has. argued_angle trees trees after rest class arguments (inr refl) b (sym o ∙ h) has) r
 
   module _ (closed : opened ≡ false) (round : Bool) (i : round ≡ is_round class) where
-    pub name_round : (result : Result Step (Bor (List TokenTree))) → round ≡ true
+    pub name_round : (result : Result Transition (Bor (List TokenTree))) → round ≡ true
         → ReadsStep rule.round_arguments HasRound trees result
         → ReadsStep after_name HasArguments trees result
     name_round result h r =
@@ -592,7 +597,7 @@ module _ (trees after : List TokenTree) (class : Class) (b : BeginsWith trees cl
         apart : (x y z : Bool) → x ≡ false → y ≡ false → z ≡ false → ((x || false) || ((y || false) || z)) ≡ false
         apart x y z e f g = rw (e, f, g) refl
 
-pub name_separator : (trees from : List TokenTree) (class : Class) → BeginsWith trees class from
+pub name_separator : (trees from : List TokenTree) (class : SignClass) → BeginsWith trees class from
     → is signs.PathSeparator class ≡ true
     → BeginsWith trees signs.PathSeparator from
 name_separator trees from class b h = begins_as trees from signs.PathSeparator class b h
@@ -623,7 +628,7 @@ to_arguments segment at =
     remains_sign segment.from_name.now segment.from_arguments.now (name_class segment.name.now)
     (segment_begins segment.from_name.now segment.from_arguments.now segment.name.now at)
 
-step_goes : (s : Step) (trees : List TokenTree) (next : Segment) → s.next ≡ Some next
+step_goes : (s : Transition) (trees : List TokenTree) (next : Segment) → s.next ≡ Some next
     → IsStep after_name HasArguments trees s
     → LeadsTo after_name trees after_name next.from_arguments.now × HasNext s.rest.now (Some next)
 step_goes s trees next e r = (
@@ -631,7 +636,7 @@ step_goes s trees next e r = (
   subst (λ n. HasNext s.rest.now n) e r.next,
 )
 
-pub at_next : (first segment next : Segment) (s : Step) → s.next ≡ Some next → IsAt first segment
+pub at_next : (first segment next : Segment) (s : Transition) → s.next ≡ Some next → IsAt first segment
     → IsStep after_name HasArguments segment.from_arguments.now s
     → IsAt first next
 at_next first segment next s e at r =
@@ -658,7 +663,7 @@ at_next first segment next s e at r =
           (remains_sign s.rest.now next.from_name.now signs.PathSeparator has.0)));
     }
 
-pub next_fewer : (trees : List TokenTree) (next : Segment) (s : Step) → s.next ≡ Some next
+pub next_fewer : (trees : List TokenTree) (next : Segment) (s : Transition) → s.next ≡ Some next
     → IsStep after_name HasArguments trees s
     → length next.from_arguments.now < length trees
 next_fewer trees next s e r =
@@ -669,7 +674,7 @@ next_fewer trees next s e r =
     let name = (segment_begins next.from_name.now next.from_arguments.now next.name.now has.1).fewer in
     omega (arith, within, separator, name)
 
-pub at_last : (first segment : Segment) (last : Last) (s : Step) → last.segment ≡ segment
+pub at_last : (first segment : Segment) (last : Last) (s : Transition) → last.segment ≡ segment
     → last.arguments ≡ s.arguments → last.rest ≡ s.rest → s.next ≡ None → IsAt first segment
     → IsStep after_name HasArguments segment.from_arguments.now s
     → IsLast first last
@@ -699,7 +704,7 @@ pub ruleset lasts = (is_first, at_next, next_fewer, at_last, last_sticks)
 abbrev separator : G
 separator = perhaps (one signs.PathSeparator)
 
-module _ (trees after : List TokenTree) (class : Class) (b : BeginsWith trees class after) where
+module _ (trees after : List TokenTree) (class : SignClass) (b : BeginsWith trees class after) where
   pub separator_finds : is signs.PathSeparator class ≡ true → Finds separator trees after
   separator_finds h =
       first_finds (one signs.PathSeparator) Nothing trees after
@@ -782,37 +787,37 @@ path_all trees [] path f parts empty =
     record { all = whole_read rule.type_path starts_path trees [] f empty; parts = parts }
 path_all trees (tree ∷ rest) path f parts empty = absurd (omega arith)
 
-pub promise_path : (trees inner rest : List TokenTree) (path : TypePath) → inner ≡ bared trees
+pub promise_path : (trees inner rest : List TokenTree) (path : TypePath) → inner ≡ bare_trees trees
     → Finds rule.type_path inner rest → HasPathParts inner path rest → length rest ≡ 0
-    → IsTypePath (bared trees) path
+    → IsTypePath (bare_trees trees) path
 promise_path trees inner rest path same f parts empty =
     subst (λ t. IsTypePath t path) same (path_all inner rest path f parts empty)
 
-pub promise_left : (trees inner rest : List TokenTree) (at : ℕ) → inner ≡ bared trees
+pub promise_left : (trees inner rest : List TokenTree) (at : ℕ) → inner ≡ bare_trees trees
     → Finds rule.type_path inner rest → (length rest ≡ 0 → ⊥) → at ≡ length inner - length rest
-    → FaultAt (IsWhole (ByRule rule.type_path)) (bared trees) at
+    → FaultAt (IsWhole (ByRule rule.type_path)) (bare_trees trees) at
 promise_left trees inner rest at same f some counted =
     let within = remains_within inner rest f.remains in
     subst (λ t. FaultAt (IsWhole (ByRule rule.type_path)) t at) same
     (left_whole rule.type_path starts_path inner rest at f some (omega arith))
 
-pub promise_stuck : (trees inner left : List TokenTree) (at : ℕ) → inner ≡ bared trees
+pub promise_stuck : (trees inner left : List TokenTree) (at : ℕ) → inner ≡ bare_trees trees
     → Sticks rule.type_path inner left → at ≡ length inner - length left
-    → FaultAt (IsWhole (ByRule rule.type_path)) (bared trees) at
+    → FaultAt (IsWhole (ByRule rule.type_path)) (bare_trees trees) at
 promise_stuck trees inner left at same f counted =
     let within = remains_within inner left f.remains in
     subst (λ t. FaultAt (IsWhole (ByRule rule.type_path)) t at) same
     (stuck_whole rule.type_path starts_path inner left at f (omega arith))
 
-pub left_span : (trees inner rest : List TokenTree) (at : ℕ) (span : Option Extent) → inner ≡ bared trees
+pub left_span : (trees inner rest : List TokenTree) (at : ℕ) (span : Option Extent) → inner ≡ bare_trees trees
     → Finds rule.type_path inner rest → at ≡ length inner - length rest → span ≡ first_extent rest
-    → span ≡ extent_at (bared trees) at
+    → span ≡ extent_at (bare_trees trees) at
 left_span trees inner rest at span same f counted first =
     subst (λ t. span ≡ extent_at t at) same (remains_span inner rest at span f.remains counted first)
 
-pub stuck_span : (trees inner left : List TokenTree) (at : ℕ) (span : Option Extent) → inner ≡ bared trees
+pub stuck_span : (trees inner left : List TokenTree) (at : ℕ) (span : Option Extent) → inner ≡ bare_trees trees
     → Sticks rule.type_path inner left → at ≡ length inner - length left → span ≡ first_extent left
-    → span ≡ extent_at (bared trees) at
+    → span ≡ extent_at (bare_trees trees) at
 stuck_span trees inner left at span same f counted first =
     subst (λ t. span ≡ extent_at t at) same (remains_span inner left at span f.remains counted first)
 

@@ -13,7 +13,8 @@ use Rattle.declarations.proofs.FieldLemmas.{front_of, mark_tree}
 use Rattle.declarations.proofs.ItemLemmas.{reads_whole, signs_group}
 use Rattle.declarations.proofs.PartLemmas.{at, variant, after_visibility}
 use Rattle.declarations.proofs.SignLemmas.{no_signs}
-use Rattle.declarations.proofs.SortLemmas.{sort_of, first_tree, named, grouped, names, groups, unseen}
+use Rattle.declarations.proofs.SortLemmas.{sort_of, first_tree, is_identifier_sign, is_group_sign, names, groups}
+use Rattle.declarations.proofs.SortLemmas.{unseen}
 use Rattle.declarations.proofs.WalkLemmas.{after}
 use Rattle.declarations.specs.Forms.{AreAttributes, IsVisibility, IsExpression}
 use Rattle.declarations.specs.Reading.{Reads}
@@ -26,11 +27,11 @@ use Rattle.declarations.specs.Item.{IsNameClass}
 use Rattle.declarations.specs.Signs.{Sign, signs, classes_of, name_class, group_class, is_restriction}
 use Rattle.declarations.specs.Signs.{parentheses_class, tree_class}
 use Rattle.declarations.specs.Whole.{ReadsAll}
-use Rattle.declarations.specs.declared.class.Class.{Class}
-use Rattle.declarations.specs.declared.class.Class.TheVariants as signs
-use Rattle.declarations.specs.declared.place.Item.TheVariants as items
-use Rattle.declarations.specs.declared.place.Place.{Place}
-use Rattle.declarations.specs.declared.place.Spot.TheVariants as spots
+use Rattle.declarations.specs.declared.class.SignClass.{SignClass}
+use Rattle.declarations.specs.declared.class.SignClass.TheVariants as signs
+use Rattle.declarations.specs.declared.walk_state.Item.TheVariants as items
+use Rattle.declarations.specs.declared.walk_state.WalkState.{WalkState}
+use Rattle.declarations.specs.declared.walk_state.Spot.TheVariants as spots
 
 -- ---- the name of a variant
 
@@ -41,19 +42,20 @@ pub record NamedVariant (trees : List TokenTree) : Type 0 where
   pub is_name : IsNameClass (name_class ident)
   pub left : Goes (at items.Alone spots.VariantName) more
 
-record LedVariant (class : Class) (next : Place) : Type 0 where
+record LedVariant (class : SignClass) (next : WalkState) : Type 0 where
   sort : sort_of class ≡ names
   is_name : IsNameClass class
   is : next ≡ at items.Alone spots.VariantName
 
-led_variant : (class : Class) (next : Place) → after_visibility variant class ≡ Some next → LedVariant class next
+led_variant : (class : SignClass) (next : WalkState) → after_visibility variant class ≡ Some next
+    → LedVariant class next
 led_variant (signs.Word word) next steps = record { sort = refl; is_name = tt; is = (cc) }
 led_variant class next steps = cc
 
 pub named_variant : (trees : List TokenTree) → Begins (after_visibility variant) trees → NamedVariant trees
 named_variant trees begins =
     let led = led_variant begins.sign.class begins.next begins.steps in
-    let found = named trees begins.sign (signs begins.more) begins.begins led.sort in
+    let found = is_identifier_sign trees begins.sign (signs begins.more) begins.begins led.sort in
     let is : begins.sign.class ≡ name_class found.0 = ap (λ s. s.class) found.1.is in
     let name : begins.sign.trees ≡ Ident found.0 ∷ [] = ap (λ s. s.trees) found.1.is in
     record {
@@ -72,16 +74,16 @@ pub data Value (trees : List TokenTree) : Type 0 where
   equals : (mark : TokenTree) (more : List TokenTree) → trees ≡ mark ∷ more → tree_class mark ≡ signs.Equals
       → ReadsAll IsExpression more → Value trees
 
-abbrev IsEqualsStep : Place → Type 0
+abbrev IsEqualsStep : WalkState → Type 0
 IsEqualsStep place =
-    (class : Class) (next : Place) → step place class ≡ Some next → (class ≡ signs.Equals)
+    (class : SignClass) (next : WalkState) → step place class ≡ Some next → (class ≡ signs.Equals)
     × (next ≡ at items.Alone spots.Expression)
 
 end_step : IsEqualsStep (at items.Alone spots.VariantEnd)
 end_step signs.Equals next steps = (refl, cc)
 end_step class next steps = cc
 
-equals_value : (trees more : List TokenTree) (sign : Sign) (next : Place) → signs trees ≡ sign ∷ signs more
+equals_value : (trees more : List TokenTree) (sign : Sign) (next : WalkState) → signs trees ≡ sign ∷ signs more
     → trees ≡ sign.trees ++ more → sign.class ≡ signs.Equals → next ≡ at items.Alone spots.Expression
     → Goes next more → Value trees
 equals_value trees more sign next read whole class is goes =
@@ -91,11 +93,11 @@ equals_value trees more sign next read whole class is goes =
     (reads_whole (at items.Alone spots.Expression) more (subst (λ p. Goes p more) is goes))
 
 -- there are no trees left, or they begin with a sign
-data Left (place : Place) (trees : List TokenTree) : Type 0 where
+data Left (place : WalkState) (trees : List TokenTree) : Type 0 where
   ended : trees ≡ [] → Left place trees
   goes_on : Begins (step place) trees → Left place trees
 
-left_of : (place : Place) (trees : List TokenTree) (all : List Sign) → signs trees ≡ all → Goes place trees
+left_of : (place : WalkState) (trees : List TokenTree) (all : List Sign) → signs trees ≡ all → Goes place trees
     → Left place trees
 left_of place trees [] read goes = ended (no_signs trees (ap classes_of read))
 left_of place trees (sign ∷ all) read goes =
@@ -119,14 +121,14 @@ pub data FieldsLeft (trees : List TokenTree) : Type 0 where
       → (g.delimiter ≡ delimiters.Parenthesis) ⊎ (g.delimiter ≡ delimiters.Brace) → Value rest → FieldsLeft trees
 
 -- the step after the name of a variant
-abbrev AfterName : Class → Place → Type 0
+abbrev AfterName : SignClass → WalkState → Type 0
 AfterName signs.Parentheses next = next ≡ at items.Alone spots.VariantEnd
 AfterName signs.Restriction next = next ≡ at items.Alone spots.VariantEnd
 AfterName signs.Braces next = next ≡ at items.Alone spots.VariantEnd
 AfterName signs.Equals next = next ≡ at items.Alone spots.Expression
 AfterName class next = ⊥
 
-after_name : (class : Class) (next : Place) → step (at items.Alone spots.VariantName) class ≡ Some next
+after_name : (class : SignClass) (next : WalkState) → step (at items.Alone spots.VariantName) class ≡ Some next
     → AfterName class next
 after_name signs.Parentheses next steps = cc
 after_name signs.Restriction next steps = cc
@@ -137,10 +139,10 @@ after_name class next steps = cc
 abbrev IsOfFields : Delimiter → Type 0
 IsOfFields d = (d ≡ delimiters.Parenthesis) ⊎ (d ≡ delimiters.Brace)
 
-abbrev MayHoldFields : Class → Type 0
+abbrev MayHoldFields : SignClass → Type 0
 MayHoldFields class = (class ≡ signs.Parentheses) ⊎ ((class ≡ signs.Restriction) ⊎ (class ≡ signs.Braces))
 
-no_fields : (class : Class) → (class ≡ signs.Parentheses → ⊥) → (class ≡ signs.Restriction → ⊥)
+no_fields : (class : SignClass) → (class ≡ signs.Parentheses → ⊥) → (class ≡ signs.Restriction → ⊥)
     → (class ≡ signs.Braces → ⊥) → MayHoldFields class → ⊥
 no_fields class first second third (inl is) = first is
 no_fields class first second third (inr (inl is)) = second is
@@ -158,12 +160,12 @@ delimits delimiters.None f which =
     (no_fields signs.Literal (λ is. cc) (λ is. cc) (λ is. cc))
     (no_fields signs.Invisible (λ is. cc) (λ is. cc) (λ is. cc)) which)
 
-group_left : (trees more : List TokenTree) (sign : Sign) (next : Place) → signs trees ≡ sign ∷ signs more
+group_left : (trees more : List TokenTree) (sign : Sign) (next : WalkState) → signs trees ≡ sign ∷ signs more
     → trees ≡ sign.trees ++ more → sort_of sign.class ≡ groups
     → (sign.class ≡ signs.Parentheses) ⊎ ((sign.class ≡ signs.Restriction) ⊎ (sign.class ≡ signs.Braces))
     → next ≡ at items.Alone spots.VariantEnd → Goes next more → FieldsLeft trees
 group_left trees more sign next read whole sort which is goes =
-    let found = grouped trees sign (signs more) read sort in
+    let found = is_group_sign trees sign (signs more) read sort in
     let class : group_class found.0.delimiter found.0.stream ≡ sign.class = sym (ap (λ s. s.class) found.1.is) in
     let one : sign.trees ≡ Group found.0 ∷ [] = ap (λ s. s.trees) found.1.is in
     within found.0 more (whole ∙ ap (λ ts. ts ++ more) one)
@@ -186,7 +188,7 @@ no_group trees sign all read class g rest whole =
     let is : group_class g.delimiter g.stream ≡ signs.Equals = cc in
     no_equals g.delimiter g.stream is
 
-fields_by : (trees more : List TokenTree) (sign : Sign) (next : Place) (class : Class)
+fields_by : (trees more : List TokenTree) (sign : Sign) (next : WalkState) (class : SignClass)
     → signs trees ≡ sign ∷ signs more → trees ≡ sign.trees ++ more → sign.class ≡ class → AfterName class next
     → Goes next more → FieldsLeft trees
 fields_by trees more sign next signs.Parentheses read whole is leads goes =
@@ -226,23 +228,23 @@ record Fielded (trees : List TokenTree) (found : Fields) (rest : List TokenTree)
   delimited : AreDelimited found
   value : Value rest
 
-fielded : (trees : List TokenTree) (found : Fields) (rest : List TokenTree) → FieldsLeft trees
+fields_split : (trees : List TokenTree) (found : Fields) (rest : List TokenTree) → FieldsLeft trees
     → SplitsFields trees found rest → Fielded trees found rest
-fielded trees (fields.Named g) rest (unit none value) splits = absurd (none g.now rest splits.0)
-fielded trees (fields.Tuple g) rest (unit none value) splits = absurd (none g.now rest splits.0)
-fielded trees fields.Unit rest (unit none value) splits =
+fields_split trees (fields.Named g) rest (unit none value) splits = absurd (none g.now rest splits.0)
+fields_split trees (fields.Tuple g) rest (unit none value) splits = absurd (none g.now rest splits.0)
+fields_split trees fields.Unit rest (unit none value) splits =
     record { whole = splits.0; delimited = tt; value = subst Value splits.0 value }
-fielded trees fields.Unit rest (within group after whole delimiters value) splits =
+fields_split trees fields.Unit rest (within group after whole delimiters value) splits =
     absurd (splits.1 group after whole)
-fielded trees (fields.Tuple g) rest (within group after whole is value) splits =
+fields_split trees (fields.Tuple g) rest (within group after whole is value) splits =
     let same : Group group ∷ after ≡ Group g.now ∷ rest = sym whole ∙ splits.0 in
     let rests : after ≡ rest = cc in
     record { whole = splits.0; delimited = splits.1; value = subst Value rests value }
-fielded trees (fields.Named g) rest (within group after whole (inl is) value) splits =
+fields_split trees (fields.Named g) rest (within group after whole (inl is) value) splits =
     let same : Group group ∷ after ≡ Group g.now ∷ rest = sym whole ∙ splits.0 in
     let groups : group ≡ g.now = cc in
     absurd (splits.1 (ap (λ x. x.delimiter) (sym groups) ∙ is))
-fielded trees (fields.Named g) rest (within group after whole (inr is) value) splits =
+fields_split trees (fields.Named g) rest (within group after whole (inr is) value) splits =
     let same : Group group ∷ after ≡ Group g.now ∷ rest = sym whole ∙ splits.0 in
     let groups : group ≡ g.now = cc in
     let rests : after ≡ rest = cc in
@@ -260,7 +262,7 @@ variant_parts trees r1 r2 r3 r4 found attributes visibility name whole splits ha
     let same : Ident name.ident ∷ name.more ≡ Ident found.name.now ∷ r3 = sym name.whole ∙ whole in
     let idents : name.ident ≡ found.name.now = cc in
     let rests : name.more ≡ r3 = cc in
-    let left = fielded r3 found.fields r4 (subst FieldsLeft rests (fields_of name.more name.left)) splits in
+    let left = fields_split r3 found.fields r4 (subst FieldsLeft rests (fields_of name.more name.left)) splits in
     record {
       value = r4;
       front = front_of trees found.attributes.now r1 found.visibility.now r2

@@ -17,11 +17,11 @@ use Rattle.declarations.specs.Reading.{FaultAt, StopsBefore, Walked}
 use Rattle.declarations.specs.Signs.{signs, classes_of, trees_of}
 use Rattle.declarations.specs.Walk.{walk, Stops}
 use Rattle.declarations.specs.Whole.{IsWhole, ReadsAll}
-use Rattle.declarations.specs.declared.class.Class.{Class}
-use Rattle.declarations.specs.declared.place.Place.{Place}
+use Rattle.declarations.specs.declared.class.SignClass.{SignClass}
+use Rattle.declarations.specs.declared.walk_state.WalkState.{WalkState}
 
 -- all trees are read if a walk over them may end
-pub whole_read : {name : Option Name} → (start : Place) (trees left : List TokenTree) (place : Place)
+pub whole_read : {name : Option Name} → (start : WalkState) (trees left : List TokenTree) (place : WalkState)
     → Walked start trees left place name → ends place ≡ true → length left ≡ 0 → ReadsAll (IsFrom start) trees
 whole_read start trees [] place walked ended none = record {
   piece = walked.front;
@@ -33,7 +33,7 @@ whole_read start trees [] place walked ended none = record {
 whole_read start trees (tree ∷ left) place walked ended none = absurd (omega arith)
 
 -- a walk cannot go on past the signs where it stops
-stuck : (start place : Place) (front : List Class) (sign : Class) (more : List Class) (last : Place)
+stuck : (start place : WalkState) (front : List SignClass) (sign : SignClass) (more : List SignClass) (last : WalkState)
     → walk step start front ≡ Some place → step place sign ≡ None
     → walk step start (front ++ sign ∷ more) ≡ Some last → ⊥
 stuck start place front sign more last walks stop goes =
@@ -42,7 +42,7 @@ stuck start place front sign more last walks stop goes =
     ∙ walk-cons step place sign more ∙ ap (λ o. after step o more) stop in
     cc
 
-no_longer : (start place : Place) (front left : List Class) → walk step start front ≡ Some place
+no_longer : (start place : WalkState) (front left : List SignClass) → walk step start front ≡ Some place
     → Stops step place left → StopsBefore (IsWhole (IsFrom start)) front left
 no_longer start place front [] walks stops = tt
 no_longer start place front (sign ∷ left) walks stops = λ goes.
@@ -52,7 +52,8 @@ no_longer start place front (sign ∷ left) walks stops = λ goes.
     stuck start place front sign goes.more goes.stands.0.last walks stops
     (ap (walk step start) all ∙ goes.stands.0.walks)
 
-nothing : (start place : Place) (front left piece : List Class) (last : Place) → walk step start front ≡ Some place
+nothing : (start place : WalkState) (front left piece : List SignClass) (last : WalkState)
+    → walk step start front ≡ Some place
     → Stops step place left → (ends place ≡ true → left ≡ [] → ⊥)
     → piece ≡ front ++ left → walk step start piece ≡ Some last → ends last ≡ true → ⊥
 nothing start place front [] piece last walks stops wrong whole goes ended =
@@ -66,7 +67,7 @@ nothing start place front (sign ∷ left) piece last walks stops wrong whole goe
 no_classes : (left : List TokenTree) → classes_of (signs left) ≡ [] → length left ≡ 0
 no_classes left none = ap length (no_signs left none)
 
-pub whole_fault : {name : Option Name} → (start : Place) (trees left : List TokenTree) (place : Place) (at : ℕ)
+pub whole_fault : {name : Option Name} → (start : WalkState) (trees left : List TokenTree) (place : WalkState) (at : ℕ)
     → Walked start trees left place name → Stops step place (classes_of (signs left))
     → (ends place ≡ true → length left ≡ 0 → ⊥) → at + length left ≡ length trees
     → FaultAt (IsWhole (IsFrom start)) trees at
@@ -108,7 +109,7 @@ whole_fault start trees left place at walked stops wrong counted =
     }
 
 -- the first left tree is the tree after as many trees as come before it
-pub span_at : {name : Option Name} → (start : Place) (trees left : List TokenTree) (place : Place) (at : ℕ)
+pub span_at : {name : Option Name} → (start : WalkState) (trees left : List TokenTree) (place : WalkState) (at : ℕ)
     → Walked start trees left place name → at + length left ≡ length trees → first_extent left ≡ extent_at trees at
 span_at start trees left place at walked counted =
     let sum = ap length walked.whole ∙ length-append (trees_of walked.front) left in

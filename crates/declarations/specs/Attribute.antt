@@ -11,7 +11,7 @@ use Rattle.pm_stream.specs.DocGroup.{is_equals}
 use Rattle.pm_stream.specs.declared.stream.Group.{Group as Grouped}
 use Rattle.pm_stream.specs.declared.stream.TokenTree.{TokenTree}
 use Rattle.pm_stream.specs.declared.stream.TokenTree.TheVariants.{Group, Ident, Punct, Literal}
-use Rattle.declarations.specs.Bare.{bared, has_no_delimiters, inside_of}
+use Rattle.declarations.specs.Bare.{bare_trees, has_no_delimiters, inside_of}
 use Rattle.declarations.specs.declared.attribute.Attribute.{Attribute}
 use Rattle.declarations.specs.declared.attribute.AttributeArgs.{AttributeArgs}
 use Rattle.declarations.specs.declared.attribute.AttributeArgs.TheVariants as args
@@ -82,7 +82,7 @@ is_word _ text = false
 
 -- whether the trees are one identifier with this text, perhaps in groups without delimiters
 abbrev pub is_named : List TokenTree → List ℕ → Bool
-is_named trees text = is_word (bared trees) text
+is_named trees text = is_word (bare_trees trees) text
 
 -- the literal, if it is the only tree
 abbrev pub only_literal : List TokenTree → Option Text
@@ -91,7 +91,7 @@ only_literal _ = None
 
 -- the literal after `=` Alone, perhaps in groups without delimiters, if there are no other trees
 abbrev pub literal_after : List TokenTree → Option Text
-literal_after (Punct mark ∷ value) = if is_equals mark then only_literal (bared value) else None
+literal_after (Punct mark ∷ value) = if is_equals mark then only_literal (bare_trees value) else None
 literal_after _ = None
 
 -- the literal, if the trees in the brackets are `doc`, `=` Alone and that literal

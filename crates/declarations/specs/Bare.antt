@@ -39,9 +39,9 @@ abbrev pub inside_of : Grouped → List TokenTree
 inside_of g = innermost_trees g.stream
 
 -- the trees; or if they are one group without delimiters, the trees in the innermost of such groups
-abbrev pub bared : List TokenTree → List TokenTree
-bared (Group g ∷ []) = if has_no_delimiters g.delimiter then inside_of g else Group g ∷ []
-bared trees = trees
+abbrev pub bare_trees : List TokenTree → List TokenTree
+bare_trees (Group g ∷ []) = if has_no_delimiters g.delimiter then inside_of g else Group g ∷ []
+bare_trees trees = trees
 
 -- the group without delimiters that the trees begin with, and the trees after it
 abbrev pub bare_first : List TokenTree → Option (Grouped × List TokenTree)

@@ -10,9 +10,9 @@ use Rattle.pm_stream.specs.declared.stream.TokenTree.{TokenTree}
 use Rattle.pm_stream.specs.declared.stream.TokenTree.TheVariants.{Group, Ident, Punct, Literal}
 
 -- the span at which an error is reported: that of the tree, or the call site if trees are missing
-abbrev pub told_at : Option Extent → Extent
-told_at None = nowhere
-told_at (Some extent) = extent
+abbrev pub span_or_call_site : Option Extent → Extent
+span_or_call_site None = nowhere
+span_or_call_site (Some extent) = extent
 
 -- a punctuation mark, such as `:` (58) or `!` (33)
 abbrev pub mark : ℕ → Spacing → Extent → TokenTree

@@ -7,14 +7,14 @@ use Rattle.pm_token.specs.Leaf.{Name}
 use Rattle.pm_stream.specs.declared.stream.Group.{Group as Grouped}
 use Rattle.pm_stream.specs.declared.stream.TokenTree.{TokenTree}
 use Rattle.pm_stream.specs.declared.stream.TokenTree.TheVariants.{Group, Ident}
-use Rattle.declarations.specs.Bare.{bare_first, bared, inside_of}
+use Rattle.declarations.specs.Bare.{bare_first, bare_trees, inside_of}
 use Rattle.declarations.specs.Fault.{extent_at, first_extent}
 use Rattle.declarations.specs.List.{IsPastComma}
 use Rattle.declarations.specs.Reader.{Finds, Sticks}
 use Rattle.declarations.specs.Reading.{FaultAt, Reads}
 use Rattle.declarations.specs.Signs.{BeginsWith}
-use Rattle.declarations.specs.declared.class.Class.{Class}
-use Rattle.declarations.specs.declared.class.Class.TheVariants as classes
+use Rattle.declarations.specs.declared.class.SignClass.{SignClass}
+use Rattle.declarations.specs.declared.class.SignClass.TheVariants as classes
 use Rattle.declarations.specs.declared.entry.Entry.{Entry}
 use Rattle.declarations.specs.declared.entry.EntryKind.{EntryKind}
 use Rattle.declarations.specs.declared.entry.EntryKind.TheVariants as kinds
@@ -26,7 +26,7 @@ use Rattle.declarations.specs.rules.Pieces.{ByRule}
 -- the trees begin with a group that is the list of an entry, and the rest comes after it
 pub record IsListAt (trees : List TokenTree) (tree : TokenTree) (rest : List TokenTree) : Type 0 where
   pub whole : trees ≡ tree ∷ rest
-  pub class : Class
+  pub class : SignClass
   pub begins : BeginsWith trees class rest
   pub is : rule.is_list class ≡ true
 
@@ -89,7 +89,7 @@ only_name _ = None
 
 -- the identifier, if it is the only tree, perhaps in groups without delimiters
 abbrev pub sole_name : List TokenTree → Option Name
-sole_name trees = only_name (bared trees)
+sole_name trees = only_name (bare_trees trees)
 
 -- the span of the first tree of an entry that has this kind and this path
 abbrev pub entry_extent : EntryKind → List TokenTree → Option Extent

@@ -87,22 +87,22 @@ pub record IsEntryError (known : Names) (list : List TokenTree) (error : EntryEr
   pub left : List TokenTree
   pub names : HasNames known list places left
   pub wrong : IsWrong error.problem known list places left error
-  pub told : error.known.now ≡ known
+  pub kind_and_name : error.known.now ≡ known
 
 -- ---- the messages of errors
 
 -- a name in backticks
-abbrev pub quoted : List ℕ → List ℕ
-quoted text = codes "`" ++ text ++ codes "`"
+abbrev pub in_backticks : List ℕ → List ℕ
+in_backticks text = codes "`" ++ text ++ codes "`"
 
 -- a space and the name in backticks, or nothing
 abbrev pub name_part : Option Name → List ℕ
 name_part None = []
-name_part (Some ident) = codes " " ++ quoted (spelling ident)
+name_part (Some ident) = codes " " ++ in_backticks (spelling ident)
 
 -- a comma and one more known name
 abbrev pub next_known : List ℕ → List ℕ
-next_known word = codes ", " ++ quoted word
+next_known word = codes ", " ++ in_backticks word
 
 -- more known names, each after a comma
 abbrev pub more_known : Names → List ℕ
@@ -112,7 +112,7 @@ more_known (word ∷ words) = next_known word.now ++ more_known words
 -- the end of the message, with the names that are known
 abbrev pub known_part : Names → List ℕ
 known_part [] = codes "; no names are known"
-known_part (word ∷ words) = codes "; known are " ++ (quoted word.now ++ more_known words)
+known_part (word ∷ words) = codes "; known are " ++ (in_backticks word.now ++ more_known words)
 
 -- the message of an error
 abbrev pub error_text : EntryProblem → Option Name → Names → List ℕ

@@ -1,22 +1,22 @@
 -- The steps of the walk over an expression, up to its end. A step says where a sign leads.
 use Rattle.std.specs.Prelude.{Option, None}
 use Rattle.declarations.specs.Moves.{open_angle, to_spot}
-use Rattle.declarations.specs.declared.class.Class.{Class}
-use Rattle.declarations.specs.declared.class.Class.TheVariants as signs
-use Rattle.declarations.specs.declared.place.Item.{Item}
-use Rattle.declarations.specs.declared.place.Item.TheVariants as items
-use Rattle.declarations.specs.declared.place.Part.TheVariants as parts
-use Rattle.declarations.specs.declared.place.Rule.TheVariants as rules
-use Rattle.declarations.specs.declared.place.Shift.{Shift}
-use Rattle.declarations.specs.declared.place.Spot.TheVariants as spots
+use Rattle.declarations.specs.declared.class.SignClass.{SignClass}
+use Rattle.declarations.specs.declared.class.SignClass.TheVariants as signs
+use Rattle.declarations.specs.declared.walk_state.Item.{Item}
+use Rattle.declarations.specs.declared.walk_state.Item.TheVariants as items
+use Rattle.declarations.specs.declared.walk_state.Part.TheVariants as parts
+use Rattle.declarations.specs.declared.walk_state.Continuation.TheVariants as rules
+use Rattle.declarations.specs.declared.walk_state.Shift.{Shift}
+use Rattle.declarations.specs.declared.walk_state.Spot.TheVariants as spots
 
 -- the step after a whole variant in a list
-abbrev pub variant_end : Item → Class → Option Shift
+abbrev pub variant_end : Item → SignClass → Option Shift
 variant_end items.Variants signs.Comma = to_spot items.Variants (spots.Before parts.Variant)
 variant_end _ _ = None
 
 -- the step where an operand must come
-abbrev pub expression : Item → Class → Option Shift
+abbrev pub expression : Item → SignClass → Option Shift
 expression item signs.Restriction = to_spot item spots.ExpressionWhole
 expression item signs.Parentheses = to_spot item spots.ExpressionWhole
 expression item signs.Brackets = to_spot item spots.ExpressionWhole
@@ -51,7 +51,7 @@ expression item signs.Arrow = to_spot item spots.Cast
 expression item _ = None
 
 -- the step where an operand may come, or what follows an operand
-abbrev pub expression_open : Item → Class → Option Shift
+abbrev pub expression_open : Item → SignClass → Option Shift
 expression_open item signs.Dot = to_spot item spots.ExpressionOpen
 expression_open item signs.Question = to_spot item spots.ExpressionWhole
 expression_open item signs.Plus = to_spot item spots.Expression
@@ -61,7 +61,7 @@ expression_open item signs.Comma = variant_end item signs.Comma
 expression_open item class = expression item class
 
 -- the step after an operand of an expression or of a cast
-abbrev pub operator : Item → Class → Option Shift
+abbrev pub operator : Item → SignClass → Option Shift
 operator item signs.Restriction = to_spot item spots.ExpressionWhole
 operator item signs.Parentheses = to_spot item spots.ExpressionWhole
 operator item signs.Brackets = to_spot item spots.ExpressionWhole
@@ -90,26 +90,26 @@ operator item signs.Comma = variant_end item signs.Comma
 operator item _ = None
 
 -- the step after an operand of an expression
-abbrev pub expression_whole : Item → Class → Option Shift
+abbrev pub expression_whole : Item → SignClass → Option Shift
 expression_whole item signs.PathSeparator = to_spot item spots.Expression
 expression_whole item signs.Less = to_spot item spots.Expression
 expression_whole item signs.LessJoint = to_spot item spots.ExpressionLess
 expression_whole item class = operator item class
 
 -- the step after a `Joint` `<` that is an operator. A second mark may belong to the operator, as in `<<`
-abbrev pub expression_less : Item → Class → Option Shift
+abbrev pub expression_less : Item → SignClass → Option Shift
 expression_less item signs.Less = to_spot item spots.Expression
 expression_less item signs.LessJoint = to_spot item spots.Expression
 expression_less item signs.LessEquals = to_spot item spots.Expression
 expression_less item class = expression item class
 
 -- the step after an operand and `.`
-abbrev pub expression_dot : Item → Class → Option Shift
+abbrev pub expression_dot : Item → SignClass → Option Shift
 expression_dot item signs.Dot = to_spot item spots.ExpressionOpen
 expression_dot item class = expression item class
 
 -- the step within the bars of a closure
-abbrev pub closure : Item → Class → Option Shift
+abbrev pub closure : Item → SignClass → Option Shift
 closure item signs.Bar = to_spot item spots.Expression
 closure item signs.Less = open_angle item rules.ClosureAngle
 closure item signs.LessJoint = open_angle item rules.ClosureAngle
@@ -117,7 +117,7 @@ closure item signs.Semicolon = None
 closure item _ = to_spot item spots.Closure
 
 -- the step where the type of a cast must come
-abbrev pub cast : Item → Class → Option Shift
+abbrev pub cast : Item → SignClass → Option Shift
 cast item signs.Restriction = to_spot item spots.CastWhole
 cast item signs.Parentheses = to_spot item spots.CastWhole
 cast item signs.Brackets = to_spot item spots.CastWhole
@@ -145,7 +145,7 @@ cast item (signs.Keyword _) = to_spot item spots.Cast
 cast item _ = None
 
 -- the step after the type of a cast, or after a part of it
-abbrev pub cast_whole : Item → Class → Option Shift
+abbrev pub cast_whole : Item → SignClass → Option Shift
 cast_whole item signs.PathSeparator = to_spot item spots.Cast
 cast_whole item signs.Less = open_angle item rules.CastAngle
 cast_whole item signs.LessJoint = open_angle item rules.CastAngle

@@ -8,8 +8,8 @@ use Rattle.declarations.specs.Item.{IsNameClass}
 use Rattle.declarations.specs.Reading.{Reads}
 use Rattle.declarations.specs.Signs.{name_class, tree_class}
 use Rattle.declarations.specs.Whole.{ReadsAll}
-use Rattle.declarations.specs.declared.class.Class.{Class}
-use Rattle.declarations.specs.declared.class.Class.TheVariants as classes
+use Rattle.declarations.specs.declared.class.SignClass.{SignClass}
+use Rattle.declarations.specs.declared.class.SignClass.TheVariants as classes
 use Rattle.declarations.specs.declared.field.Field.{Field}
 
 -- the trees are attributes, a visibility and the rest. Attributes and visibility are what their rules read
@@ -39,7 +39,7 @@ pub record HasTypeParts (trees : List TokenTree) (field : Field) : Type 0 where
   pub type_read : ReadsAll IsType field.field_type.now
 
 -- the trees begin with a field of this form that has these parts, and the rest comes after it
-pub record IsFieldAt (form : List Class → List Class → Type 0) (has_parts : List TokenTree → Field → Type 0)
+pub record IsFieldAt (form : List SignClass → List SignClass → Type 0) (has_parts : List TokenTree → Field → Type 0)
     (trees : List TokenTree) (field : Field) (rest : List TokenTree) : Type 0 where
   pub part : List TokenTree
   pub reads : Reads form trees part rest

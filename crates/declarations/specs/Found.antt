@@ -3,17 +3,17 @@ use Rattle.std.specs.Prelude.{◌≡◌, List, []}
 use Rattle.grammars.specs.Find.{Found, Past, Stuck, find}
 use Rattle.pm_stream.specs.declared.stream.TokenTree.{TokenTree}
 use Rattle.declarations.specs.Reader.{Remains, classes_in}
-use Rattle.declarations.specs.declared.class.Class.{Class}
+use Rattle.declarations.specs.declared.class.SignClass.{SignClass}
 use Rattle.declarations.specs.rules.Names.{G, Label}
 use Rattle.declarations.specs.rules.Rules.{rules}
 
 -- what is found, without its signs and labels
-abbrev pub bare : Found Class Label → Found Class Label
+abbrev pub bare : Found SignClass Label → Found SignClass Label
 bare (Past events rest) = Past [] rest
 bare (Stuck left) = Stuck left
 
 -- what the rule finds at the start of the signs, without these signs and the labels
-abbrev pub finds : G → List Class → Found Class Label
+abbrev pub finds : G → List SignClass → Found SignClass Label
 finds g cs = bare (find rules g cs)
 
 -- what the rule `g` finds in the trees ends where that ends which the rule `h` finds in the rest

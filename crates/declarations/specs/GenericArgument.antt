@@ -6,8 +6,8 @@ use Rattle.declarations.specs.List.{BeginsList}
 use Rattle.declarations.specs.Reader.{Finds, Sticks}
 use Rattle.declarations.specs.Reading.{Reads}
 use Rattle.declarations.specs.Signs.{BeginsWith}
-use Rattle.declarations.specs.declared.class.Class.{Class}
-use Rattle.declarations.specs.declared.class.Class.TheVariants as classes
+use Rattle.declarations.specs.declared.class.SignClass.{SignClass}
+use Rattle.declarations.specs.declared.class.SignClass.TheVariants as classes
 use Rattle.declarations.specs.declared.fault.Fault.{Fault}
 use Rattle.declarations.specs.declared.generic_argument.ArgumentKind.{ArgumentKind}
 use Rattle.declarations.specs.declared.generic_argument.ArgumentKind.TheVariants as kinds
@@ -19,13 +19,13 @@ use Rattle.declarations.specs.rules.Pieces.{ByRule}
 use Rattle.declarations.specs.rules.Types.{bounds, type}
 
 -- the trees begin with this sign, and then have a part by the rule
-pub record HasAfter (mark : Class) (end : G) (trees ended rest : List TokenTree) : Type 0 where
+pub record HasAfter (mark : SignClass) (end : G) (trees ended rest : List TokenTree) : Type 0 where
   pub from_end : List TokenTree
   pub marked : BeginsWith trees mark from_end
   pub end_read : Reads (ByRule end) from_end ended rest
 
 -- the trees begin with a type, this sign, and a part by the rule
-pub record HasMarked (mark : Class) (end : G) (trees part ended rest : List TokenTree) : Type 0 where
+pub record HasMarked (mark : SignClass) (end : G) (trees part ended rest : List TokenTree) : Type 0 where
   pub from_mark : List TokenTree
   pub part_read : Reads (ByRule type) trees part from_mark
   pub after : HasAfter mark end from_mark ended rest

@@ -6,22 +6,22 @@ use Rattle.declarations.specs.Front.{declaration, front_names, front_step, front
 use Rattle.declarations.specs.Header.{body, closing, generics, header, is_alone}
 use Rattle.declarations.specs.Moves.{at_spot, only, to_bounds, to_spot, to_type, type_from}
 use Rattle.declarations.specs.TypeStep.{step_of, may_end}
-use Rattle.declarations.specs.declared.class.Class.{Class}
-use Rattle.declarations.specs.declared.class.Class.TheVariants as signs
+use Rattle.declarations.specs.declared.class.SignClass.{SignClass}
+use Rattle.declarations.specs.declared.class.SignClass.TheVariants as signs
 use Rattle.declarations.specs.declared.class.Keyword.TheVariants as keywords
-use Rattle.declarations.specs.declared.place.Item.{Item}
-use Rattle.declarations.specs.declared.place.Item.TheVariants as items
-use Rattle.declarations.specs.declared.place.Part.{Part}
-use Rattle.declarations.specs.declared.place.Part.TheVariants as parts
-use Rattle.declarations.specs.declared.place.Place.{Place}
-use Rattle.declarations.specs.declared.place.Rule.{Rule}
-use Rattle.declarations.specs.declared.place.Rule.TheVariants as rules
-use Rattle.declarations.specs.declared.place.Shift.{Shift}
-use Rattle.declarations.specs.declared.place.Spot.{Spot}
-use Rattle.declarations.specs.declared.place.Spot.TheVariants as spots
-use Rattle.declarations.specs.declared.place.State.{State}
-use Rattle.declarations.specs.declared.place.State.TheVariants as states
-use Rattle.declarations.specs.declared.place.TypeStart.{TypeStart}
+use Rattle.declarations.specs.declared.walk_state.Item.{Item}
+use Rattle.declarations.specs.declared.walk_state.Item.TheVariants as items
+use Rattle.declarations.specs.declared.walk_state.Part.{Part}
+use Rattle.declarations.specs.declared.walk_state.Part.TheVariants as parts
+use Rattle.declarations.specs.declared.walk_state.WalkState.{WalkState}
+use Rattle.declarations.specs.declared.walk_state.Continuation.{Continuation}
+use Rattle.declarations.specs.declared.walk_state.Continuation.TheVariants as rules
+use Rattle.declarations.specs.declared.walk_state.Shift.{Shift}
+use Rattle.declarations.specs.declared.walk_state.Spot.{Spot}
+use Rattle.declarations.specs.declared.walk_state.Spot.TheVariants as spots
+use Rattle.declarations.specs.declared.walk_state.State.{State}
+use Rattle.declarations.specs.declared.walk_state.State.TheVariants as states
+use Rattle.declarations.specs.declared.walk_state.TypeStart.{TypeStart}
 use Rattle.declarations.specs.declared.types.Turn.{Turn}
 use Rattle.declarations.specs.declared.types.Turn.TheVariants as turns
 use Rattle.declarations.specs.declared.types.TypeState.{TypeState}
@@ -31,31 +31,31 @@ use Rattle.declarations.specs.declared.types.TypeStep.{TypeStep}
 -- ---- generic parameters
 
 -- the step after a whole generic parameter
-abbrev pub parameter_end : Item → Class → Option Shift
+abbrev pub parameter_end : Item → SignClass → Option Shift
 parameter_end item signs.Comma = to_spot item (spots.Before parts.Parameter)
 parameter_end item signs.Greater = to_spot item spots.AfterGenerics
 parameter_end item _ = None
 
 -- the step where a generic parameter begins
-abbrev pub parameter : Item → Class → Option Shift
+abbrev pub parameter : Item → SignClass → Option Shift
 parameter item signs.Lifetime = to_spot item spots.LifetimeName
 parameter item (signs.Word _) = to_spot item spots.TypeName
 parameter item (signs.Keyword keywords.Const) = to_spot item spots.ConstName
 parameter item _ = None
 
 -- the step after a lifetime that is a generic parameter
-abbrev pub lifetime_name : Item → Class → Option Shift
+abbrev pub lifetime_name : Item → SignClass → Option Shift
 lifetime_name item signs.Colon = to_bounds item rules.Parameter
 lifetime_name item class = parameter_end item class
 
 -- the step after the name of a type parameter
-abbrev pub type_name : Item → Class → Option Shift
+abbrev pub type_name : Item → SignClass → Option Shift
 type_name item signs.Colon = to_bounds item rules.TypeParameter
 type_name item signs.Equals = to_type item rules.Parameter
 type_name item class = parameter_end item class
 
 -- the step at the default of a constant parameter, if the default is no type
-abbrev pub const_default : Item → Class → Option Shift
+abbrev pub const_default : Item → SignClass → Option Shift
 const_default item signs.Literal = to_spot item spots.ConstEnd
 const_default item signs.Braces = to_spot item spots.ConstEnd
 const_default item signs.Truth = to_spot item spots.ConstEnd
@@ -65,7 +65,7 @@ const_default item _ = None
 -- ---- attributes, visibilities and the parts after them
 
 -- the step where a part begins, after its attributes and its visibility
-abbrev pub begin : Part → Item → Rule → Class → Option Shift
+abbrev pub begin : Part → Item → Continuation → SignClass → Option Shift
 begin parts.Field item rule (signs.Word _) = at_spot item rule spots.FieldName
 begin parts.Variant item rule (signs.Word _) = at_spot item rule spots.VariantName
 begin parts.Parameter item rule class = parameter item class
@@ -74,9 +74,9 @@ begin parts.AnyItem item rule class = declaration class
 begin _ item rule _ = None
 
 -- the step where a part without a visibility begins, after its attributes
-abbrev pub unmarked : Part → Item → Rule → Class → Option Shift
-unmarked parts.AnyItem item rule class = unmarked_item class
-unmarked part item rule class = begin part item rule class
+abbrev pub after_attributes_only : Part → Item → Continuation → SignClass → Option Shift
+after_attributes_only parts.AnyItem item rule class = unmarked_item class
+after_attributes_only part item rule class = begin part item rule class
 
 abbrev pub has_visibility : Part → Bool
 has_visibility parts.Attributes = false
@@ -84,40 +84,40 @@ has_visibility parts.Parameter = false
 has_visibility _ = true
 
 -- the step after the attributes of a part
-abbrev pub attributed : Part → Item → Rule → Class → Option Shift
-attributed part item rule (signs.Keyword keywords.Pub) =
+abbrev pub after_attribute : Part → Item → Continuation → SignClass → Option Shift
+after_attribute part item rule (signs.Keyword keywords.Pub) =
     only (has_visibility part) (at_spot item rule (spots.Public part))
-attributed part item rule signs.Visibility = only (has_visibility part) (at_spot item rule (spots.Visible part))
-attributed part item rule class = unmarked part item rule class
+after_attribute part item rule signs.Visibility = only (has_visibility part) (at_spot item rule (spots.Visible part))
+after_attribute part item rule class = after_attributes_only part item rule class
 
 abbrev pub has_attributes : Part → Bool
 has_attributes parts.Visibility = false
 has_attributes _ = true
 
 -- the step before another attribute of a part, or before what follows the attributes
-abbrev pub before : Part → Item → Rule → Class → Option Shift
+abbrev pub before : Part → Item → Continuation → SignClass → Option Shift
 before part item rule signs.Hash = only (has_attributes part) (at_spot item rule (spots.Hash part))
-before part item rule class = attributed part item rule class
+before part item rule class = after_attribute part item rule class
 
 -- the step before a part. A list of generic parameters may end here
-abbrev pub before_first : Part → Item → Rule → Class → Option Shift
+abbrev pub before_first : Part → Item → Continuation → SignClass → Option Shift
 before_first parts.Parameter item rule signs.Greater = to_spot item spots.AfterGenerics
 before_first part item rule class = before part item rule class
 
 -- the step after the `pub` of a part
-abbrev pub public : Part → Item → Rule → Class → Option Shift
+abbrev pub public : Part → Item → Continuation → SignClass → Option Shift
 public part item rule signs.Restriction = at_spot item rule (spots.Visible part)
 public part item rule class = begin part item rule class
 
 -- ---- variants
 
 -- the step before the discriminant of a variant
-abbrev pub variant_value : Item → Class → Option Shift
+abbrev pub variant_value : Item → SignClass → Option Shift
 variant_value item signs.Equals = to_spot item spots.Expression
 variant_value item class = variant_end item class
 
 -- the step after the name of a variant
-abbrev pub variant_body : Item → Rule → Class → Option Shift
+abbrev pub variant_body : Item → Continuation → SignClass → Option Shift
 variant_body item rule signs.Parentheses = at_spot item rule spots.VariantEnd
 variant_body item rule signs.Restriction = at_spot item rule spots.VariantEnd
 variant_body item rule signs.Braces = at_spot item rule spots.VariantEnd
@@ -126,7 +126,7 @@ variant_body item rule class = variant_value item class
 -- ---- all steps outside of types and bounds
 
 -- the step after a type or bounds
-abbrev pub follow : Item → Rule → Class → Option Shift
+abbrev pub follow : Item → Continuation → SignClass → Option Shift
 follow item rules.Fields signs.Comma = at_spot item rules.Fields (spots.Before parts.Field)
 follow item rules.TupleFields signs.Comma = at_spot item rules.TupleFields (spots.Before parts.TupleField)
 follow item rules.Parameter class = parameter_end item class
@@ -143,7 +143,7 @@ follow item rules.Header class = header item class
 follow item _ _ = None
 
 -- the step outside of types and bounds
-abbrev pub spot_step : Item → Rule → Spot → Class → Option Shift
+abbrev pub spot_step : Item → Continuation → Spot → SignClass → Option Shift
 spot_step item rule (spots.Before part) class = before_first part item rule class
 spot_step item rule (spots.Hash part) signs.Brackets = at_spot item rule (spots.Attributed part)
 spot_step item rule (spots.Attributed part) class = before part item rule class
@@ -185,7 +185,7 @@ closing_type items.Impl = type_from rules.Target types.Wanted
 closing_type _ = None
 
 -- the type that can begin in this state
-abbrev pub spot_type : Item → Rule → Spot → Option TypeStart
+abbrev pub spot_type : Item → Continuation → Spot → Option TypeStart
 spot_type item rule (spots.Before parts.TupleField) = type_from rule types.Wanted
 spot_type item rule (spots.Attributed parts.TupleField) = type_from rule types.Wanted
 spot_type item rule (spots.Public parts.TupleField) = type_from rule types.Wanted
@@ -198,67 +198,67 @@ spot_type item rule _ = None
 
 -- ---- the step from any state
 
-abbrev pub turned : Turn → ℕ → ℕ
-turned turns.Stay depth = depth
-turned turns.Open depth = depth + 1
-turned turns.Close depth = depth - 1
+abbrev pub depth_after : Turn → ℕ → ℕ
+depth_after turns.Stay depth = depth
+depth_after turns.Open depth = depth + 1
+depth_after turns.Close depth = depth - 1
 
 -- the state after the angle brackets of an expression
-abbrev pub after_angle : Rule → TypeState → State
+abbrev pub after_angle : Continuation → TypeState → State
 after_angle rules.Angle state = states.At spots.ExpressionWhole
 after_angle rules.CastAngle state = states.At spots.CastWhole
 after_angle rules.ClosureAngle state = states.At spots.Closure
 after_angle _ state = states.Range state
 
 -- the state after a step within a type. The step may close the angle brackets of an expression
-abbrev pub range_state : Rule → TypeState → Turn → ℕ → State
+abbrev pub range_state : Continuation → TypeState → Turn → ℕ → State
 range_state rule state turns.Close depth = if depth == 0 then after_angle rule state else states.Range state
 range_state rule state turns.Stay depth = states.Range state
 range_state rule state turns.Open depth = states.Range state
 
-abbrev pub ranged : Place → Option TypeStep → Option Place
-ranged place None = None
-ranged place (Some taken) = Some (record {
+abbrev pub after_range : WalkState → Option TypeStep → Option WalkState
+after_range place None = None
+after_range place (Some taken) = Some (record {
   item = place.item;
   rule = place.rule;
-  state = range_state place.rule taken.state taken.turn (turned taken.turn place.depth);
-  depth = turned taken.turn place.depth;
+  state = range_state place.rule taken.state taken.turn (depth_after taken.turn place.depth);
+  depth = depth_after taken.turn place.depth;
 })
 
 -- the step within a type or bounds
-abbrev pub range_step : Place → TypeState → Class → Option Place
-range_step place state class = ranged place (step_of state class (place.depth == 0))
+abbrev pub range_step : WalkState → TypeState → SignClass → Option WalkState
+range_step place state class = after_range place (step_of state class (place.depth == 0))
 
-abbrev pub shifted : ℕ → Option Shift → Option Place
-shifted depth None = None
-shifted depth (Some s) =
-    Some (record { item = s.item; rule = s.rule; state = s.state; depth = turned s.turn depth })
+abbrev pub shift_state : ℕ → Option Shift → Option WalkState
+shift_state depth None = None
+shift_state depth (Some s) =
+    Some (record { item = s.item; rule = s.rule; state = s.state; depth = depth_after s.turn depth })
 
-abbrev pub else_follow : Option Place → Place → TypeState → Class → Option Place
+abbrev pub else_follow : Option WalkState → WalkState → TypeState → SignClass → Option WalkState
 else_follow (Some next) place state class = Some next
 else_follow None place state class =
-    if (place.depth == 0) && may_end state then shifted place.depth (follow place.item place.rule class) else None
+    if (place.depth == 0) && may_end state then shift_state place.depth (follow place.item place.rule class) else None
 
-abbrev pub type_at : Option TypeStart → Place → Class → Option Place
+abbrev pub type_at : Option TypeStart → WalkState → SignClass → Option WalkState
 type_at None place class = None
 type_at (Some start) place class = range_step (record place { rule = start.rule }) start.state class
 
-abbrev pub else_type : Option Shift → Place → Spot → Class → Option Place
-else_type (Some s) place spot class = shifted place.depth (Some s)
+abbrev pub else_type : Option Shift → WalkState → Spot → SignClass → Option WalkState
+else_type (Some s) place spot class = shift_state place.depth (Some s)
 else_type None place spot class = type_at (spot_type place.item place.rule spot) place class
 
-abbrev pub step_from : State → Place → Class → Option Place
+abbrev pub step_from : State → WalkState → SignClass → Option WalkState
 step_from (states.Range state) place class = else_follow (range_step place state class) place state class
 step_from (states.At spot) place class = else_type (spot_step place.item place.rule spot class) place spot class
 
 -- the state that a sign of this class leads to, or nothing if the sign cannot come next
-abbrev pub step : Place → Class → Option Place
+abbrev pub step : WalkState → SignClass → Option WalkState
 step place class = step_from place.state place class
 
 -- ---- where a part may end
 
 -- whether the part that is read may end after a type or bounds
-abbrev pub rule_ends : Item → Rule → Bool
+abbrev pub rule_ends : Item → Continuation → Bool
 rule_ends item rules.Alone = true
 rule_ends item rules.Fields = true
 rule_ends item rules.TupleFields = true
@@ -276,13 +276,13 @@ is_front parts.Visibility = true
 is_front _ = false
 
 -- whether what is read may end before this part, as a list may
-abbrev pub part_ends : Item → Rule → Part → Bool
+abbrev pub part_ends : Item → Continuation → Part → Bool
 part_ends item rules.Fields parts.Field = true
 part_ends item rules.TupleFields parts.TupleField = true
 part_ends items.Variants rule parts.Variant = true
 part_ends item rule part = is_front part
 
-abbrev pub spot_ends : Item → Rule → Spot → Bool
+abbrev pub spot_ends : Item → Continuation → Spot → Bool
 spot_ends item rule (spots.Before part) = part_ends item rule part
 spot_ends item rule (spots.Attributed part) = is_front part
 spot_ends item rule (spots.Public part) = is_front part
@@ -300,12 +300,12 @@ spot_ends item rule spots.ItemEnd = true
 spot_ends item rule spots.Inner = true
 spot_ends item rule _ = false
 
-abbrev pub ends_at : State → Place → Bool
+abbrev pub ends_at : State → WalkState → Bool
 ends_at (states.Range state) place = ((place.depth == 0) && may_end state) && rule_ends place.item place.rule
 ends_at (states.At spot) place = spot_ends place.item place.rule spot
 
 -- whether the part that is read may end in this state
-abbrev pub ends : Place → Bool
+abbrev pub ends : WalkState → Bool
 ends place = ends_at place.state place
 
 -- ---- the names of items
@@ -317,12 +317,12 @@ wants_name (states.At (spots.Front front)) = front_names front
 wants_name _ = false
 
 -- whether a sign of this class can be the name of an item
-abbrev pub is_name : Class → Bool
+abbrev pub is_name : SignClass → Bool
 is_name (signs.Word _) = true
 is_name signs.SelfValue = true
 is_name signs.Underscore = true
 is_name _ = false
 
 -- whether a sign of this class is the name of the item, in this state
-abbrev pub names : Place → Class → Bool
+abbrev pub names : WalkState → SignClass → Bool
 names place class = wants_name place.state && is_name class

@@ -1,16 +1,16 @@
 -- The steps of the walk over an item, from its name on. A step says where a sign leads.
 use Rattle.std.specs.Prelude.{Bool, true, false, Option, None}
 use Rattle.declarations.specs.Moves.{only, to_bounds, to_front, to_spot, to_type}
-use Rattle.declarations.specs.declared.class.Class.{Class}
-use Rattle.declarations.specs.declared.class.Class.TheVariants as signs
+use Rattle.declarations.specs.declared.class.SignClass.{SignClass}
+use Rattle.declarations.specs.declared.class.SignClass.TheVariants as signs
 use Rattle.declarations.specs.declared.class.Keyword.TheVariants as keywords
-use Rattle.declarations.specs.declared.place.Front.TheVariants as fronts
-use Rattle.declarations.specs.declared.place.Item.{Item}
-use Rattle.declarations.specs.declared.place.Item.TheVariants as items
-use Rattle.declarations.specs.declared.place.Part.TheVariants as parts
-use Rattle.declarations.specs.declared.place.Rule.TheVariants as rules
-use Rattle.declarations.specs.declared.place.Shift.{Shift}
-use Rattle.declarations.specs.declared.place.Spot.TheVariants as spots
+use Rattle.declarations.specs.declared.walk_state.Front.TheVariants as fronts
+use Rattle.declarations.specs.declared.walk_state.Item.{Item}
+use Rattle.declarations.specs.declared.walk_state.Item.TheVariants as items
+use Rattle.declarations.specs.declared.walk_state.Part.TheVariants as parts
+use Rattle.declarations.specs.declared.walk_state.Continuation.TheVariants as rules
+use Rattle.declarations.specs.declared.walk_state.Shift.{Shift}
+use Rattle.declarations.specs.declared.walk_state.Spot.TheVariants as spots
 
 -- whether the item may end with a body in braces
 abbrev pub in_braces : Item → Bool
@@ -50,7 +50,7 @@ value items.Static = to_front items.Static fronts.UntilFirst
 value _ = None
 
 -- the step after the header of an item, or after its where clause
-abbrev pub body : Item → Class → Option Shift
+abbrev pub body : Item → SignClass → Option Shift
 body item signs.Braces = only (in_braces item) (to_spot item spots.ItemEnd)
 body item signs.Semicolon = only (in_semicolon item) (to_spot item spots.ItemEnd)
 body item signs.Equals = value item
@@ -78,49 +78,49 @@ has_where items.Impl = true
 has_where _ = false
 
 -- the step after the header of an item, where a where clause may begin
-abbrev pub header : Item → Class → Option Shift
+abbrev pub header : Item → SignClass → Option Shift
 header item (signs.Keyword keywords.Where) = only (has_where item) (to_spot item spots.Predicate)
 header item class = body item class
 
 -- the step after the generic parameters of a struct
-abbrev pub struct_header : Class → Option Shift
+abbrev pub struct_header : SignClass → Option Shift
 struct_header signs.Parentheses = to_spot items.Tuple spots.AfterGenerics
 struct_header signs.Restriction = to_spot items.Tuple spots.AfterGenerics
 struct_header class = header items.Struct class
 
 -- the step after the generic parameters of a function, before its parameters
-abbrev pub function_header : Class → Option Shift
+abbrev pub function_header : SignClass → Option Shift
 function_header signs.Parentheses = to_spot items.Returning spots.AfterGenerics
 function_header signs.Restriction = to_spot items.Returning spots.AfterGenerics
 function_header _ = None
 
 -- the step after the parameters of a function
-abbrev pub return_header : Class → Option Shift
+abbrev pub return_header : SignClass → Option Shift
 return_header signs.Arrow = to_type items.Returning rules.Header
 return_header class = header items.Returning class
 
 -- the step after the name of a constant or a static
-abbrev pub typed_header : Item → Class → Option Shift
+abbrev pub typed_header : Item → SignClass → Option Shift
 typed_header item signs.Colon = to_type item rules.Header
 typed_header item _ = None
 
-abbrev pub alias_header : Class → Option Shift
+abbrev pub alias_header : SignClass → Option Shift
 alias_header signs.Colon = to_bounds items.Alias rules.Header
 alias_header class = header items.Alias class
 
-abbrev pub trait_header : Class → Option Shift
+abbrev pub trait_header : SignClass → Option Shift
 trait_header signs.Colon = to_bounds items.Trait rules.Header
 trait_header signs.Equals = to_bounds items.TraitAlias rules.Header
 trait_header class = header items.Trait class
 
 -- the step after the generic parameters of an `impl`, if no type begins there
-abbrev pub impl_header : Class → Option Shift
+abbrev pub impl_header : SignClass → Option Shift
 impl_header (signs.Keyword keywords.Const) = to_front items.Impl fronts.ImplConst
 impl_header signs.Exclamation = to_front items.Impl fronts.ImplNot
 impl_header _ = None
 
 -- the step after the generic parameters of an item, which may be left out
-abbrev pub closing : Item → Class → Option Shift
+abbrev pub closing : Item → SignClass → Option Shift
 closing items.Struct class = struct_header class
 closing items.Function class = function_header class
 closing items.Returning class = return_header class
@@ -132,7 +132,7 @@ closing items.Impl class = impl_header class
 closing item class = header item class
 
 -- the step after a name that generic parameters may follow
-abbrev pub generics : Item → Class → Option Shift
+abbrev pub generics : Item → SignClass → Option Shift
 generics item signs.Less = to_spot item (spots.Before parts.Parameter)
 generics item signs.LessJoint = to_spot item (spots.Before parts.Parameter)
 generics item class = closing item class

@@ -10,8 +10,8 @@ use Rattle.declarations.specs.Reader.{classes_in}
 use Rattle.declarations.specs.Reading.{Reads}
 use Rattle.declarations.specs.Signs.{BeginsWith}
 use Rattle.declarations.specs.Whole.{ReadsAll}
-use Rattle.declarations.specs.declared.class.Class.{Class}
-use Rattle.declarations.specs.declared.class.Class.TheVariants as classes
+use Rattle.declarations.specs.declared.class.SignClass.{SignClass}
+use Rattle.declarations.specs.declared.class.SignClass.TheVariants as classes
 use Rattle.declarations.specs.declared.class.Keyword.TheVariants as keywords
 use Rattle.declarations.specs.declared.implementation.Impl.{Impl}
 use Rattle.declarations.specs.rules.Classes.{is_word, one_of, opens}
@@ -42,26 +42,26 @@ target_types = Then type may_for
 -- ---- whether generic parameters follow
 
 -- whether the sign after a word shows that the word is a generic parameter
-abbrev pub ends_parameter : Class → Bool
+abbrev pub ends_parameter : SignClass → Bool
 ends_parameter = one_of (classes.Colon ∷ classes.Equals ∷ classes.Comma ∷ classes.Greater ∷ [])
 
 -- whether the sign alone shows that a `<` before it begins generic parameters
-abbrev pub begins_parameter : Class → Bool
+abbrev pub begins_parameter : SignClass → Bool
 begins_parameter =
     one_of (classes.Greater ∷ classes.Hash ∷ classes.Lifetime ∷ classes.Keyword keywords.Const ∷ [])
 
 -- whether the signs after a word show that it is a generic parameter
-abbrev pub goes_on_parameter : List Class → Bool
+abbrev pub goes_on_parameter : List SignClass → Bool
 goes_on_parameter [] = false
 goes_on_parameter (c ∷ cs) = ends_parameter c
 
 -- whether the signs after a `<` show that it begins generic parameters
-abbrev pub begins_generics : List Class → Bool
+abbrev pub begins_generics : List SignClass → Bool
 begins_generics [] = false
 begins_generics (c ∷ cs) = begins_parameter c || is_word c && goes_on_parameter cs
 
 -- whether the signs after `impl` begin with generic parameters, and not with a type
-abbrev pub has_generics : List Class → Bool
+abbrev pub has_generics : List SignClass → Bool
 has_generics [] = false
 has_generics (c ∷ cs) = opens c && begins_generics cs
 

@@ -9,16 +9,16 @@ use Rattle.declarations.specs.Forms.{IsFrom, IsItem, AreAttributes, IsVisibility
 use Rattle.declarations.specs.Reading.{Reads}
 use Rattle.declarations.specs.Signs.{signs, classes_of, name_class}
 use Rattle.declarations.specs.Whole.{ReadsAll}
-use Rattle.declarations.specs.declared.class.Class.{Class}
-use Rattle.declarations.specs.declared.class.Class.TheVariants as classes
+use Rattle.declarations.specs.declared.class.SignClass.{SignClass}
+use Rattle.declarations.specs.declared.class.SignClass.TheVariants as classes
 use Rattle.declarations.specs.declared.class.Keyword.TheVariants as keywords
 use Rattle.declarations.specs.declared.class.Word.TheVariants as words
-use Rattle.declarations.specs.declared.place.Item.{Item}
-use Rattle.declarations.specs.declared.place.Item.TheVariants as items
-use Rattle.declarations.specs.declared.place.Place.{Place}
-use Rattle.declarations.specs.declared.place.Rule.TheVariants as rules
-use Rattle.declarations.specs.declared.place.Spot.TheVariants as spots
-use Rattle.declarations.specs.declared.place.State.TheVariants as states
+use Rattle.declarations.specs.declared.walk_state.Item.{Item}
+use Rattle.declarations.specs.declared.walk_state.Item.TheVariants as items
+use Rattle.declarations.specs.declared.walk_state.WalkState.{WalkState}
+use Rattle.declarations.specs.declared.walk_state.Continuation.TheVariants as rules
+use Rattle.declarations.specs.declared.walk_state.Spot.TheVariants as spots
+use Rattle.declarations.specs.declared.walk_state.State.TheVariants as states
 use Rattle.declarations.specs.declared.item.Body.{Body}
 use Rattle.declarations.specs.declared.item.Body.TheVariants as bodies
 use Rattle.declarations.specs.declared.item.Fields.TheVariants as fields
@@ -64,12 +64,12 @@ parts_of item = item.attributes.now ++ after_attributes item
 -- ---- what each part is
 
 -- a sign of this class can be a name
-abbrev pub IsNameClass : Class → Type 0
+abbrev pub IsNameClass : SignClass → Type 0
 IsNameClass (classes.Word word) = Unit {0}
 IsNameClass class = ⊥
 
 -- whether a sign of this class can be a name
-abbrev pub is_name_class : Class → Bool
+abbrev pub is_name_class : SignClass → Bool
 is_name_class (classes.Word word) = true
 is_name_class class = false
 
@@ -78,7 +78,7 @@ abbrev pub is_keyword : Name → Bool
 is_keyword ident = not (is_name_class (name_class ident))
 
 -- the item with this keyword has this body, and `;` exactly if it is a struct without braces
-abbrev pub HasBody : Class → Body → List TokenTree → Type 0
+abbrev pub HasBody : SignClass → Body → List TokenTree → Type 0
 HasBody (classes.Keyword keywords.Struct) (bodies.Struct (fields.Named g)) semicolon =
     (g.now.delimiter ≡ delimiters.Brace) × (semicolon ≡ [])
 HasBody (classes.Keyword keywords.Struct) (bodies.Struct (fields.Tuple g)) semicolon =
@@ -92,7 +92,7 @@ HasBody (classes.Word words.Union) (bodies.Union g) semicolon =
 HasBody class body semicolon = ⊥
 
 -- the trees after the generic parameters are this where clause and this body
-pub record HasEnding (keyword : Class) (trees : List TokenTree) (body : Body) (clause semicolon : List TokenTree)
+pub record HasEnding (keyword : SignClass) (trees : List TokenTree) (body : Body) (clause semicolon : List TokenTree)
     : Type 0 where
   pub whole : trees ≡ ending body clause semicolon
   pub clause_reads : Reads IsWhere (clause ++ after_clause body semicolon) clause (after_clause body semicolon)
@@ -119,17 +119,18 @@ pub record IsTypeItem (trees : List TokenTree) (item : TypeItem) : Type 0 where
 
 -- ---- the trees that are left of an item
 
-abbrev pub behind_generics : Item → Place
-behind_generics item = record { item = item; rule = rules.Alone; state = states.At spots.AfterGenerics; depth = 0 }
+abbrev pub after_generics_state : Item → WalkState
+after_generics_state item = record { item = item; rule = rules.Alone; state = states.At spots.AfterGenerics; depth = 0 }
 
 -- the trees are what comes after the generic parameters of an enum or a union
 abbrev pub AreBracesLeft : List TokenTree → Type 0
 AreBracesLeft trees =
-    ReadsAll (IsFrom (behind_generics items.Enum)) trees ⊎ ReadsAll (IsFrom (behind_generics items.Union)) trees
+    ReadsAll (IsFrom (after_generics_state items.Enum)) trees
+    ⊎ ReadsAll (IsFrom (after_generics_state items.Union)) trees
 
 -- the trees are what comes after the generic parameters of an item with this keyword
-abbrev pub IsLeft : Class → List TokenTree → Type 0
-IsLeft (classes.Keyword keywords.Struct) trees = ReadsAll (IsFrom (behind_generics items.Struct)) trees
+abbrev pub IsLeft : SignClass → List TokenTree → Type 0
+IsLeft (classes.Keyword keywords.Struct) trees = ReadsAll (IsFrom (after_generics_state items.Struct)) trees
 IsLeft (classes.Keyword keywords.Enum) trees = AreBracesLeft trees
 IsLeft (classes.Word words.Union) trees = AreBracesLeft trees
 IsLeft class trees = ⊥

@@ -6,9 +6,9 @@ use Rattle.declarations.specs.Forms.{any_item}
 use Rattle.declarations.specs.Reading.{Walked}
 use Rattle.declarations.specs.declared.any_item.ItemKind.{ItemKind}
 use Rattle.declarations.specs.declared.any_item.ItemKind.TheVariants as kinds
-use Rattle.declarations.specs.declared.place.Item.{Item}
-use Rattle.declarations.specs.declared.place.Item.TheVariants as items
-use Rattle.declarations.specs.declared.place.Place.{Place}
+use Rattle.declarations.specs.declared.walk_state.Item.{Item}
+use Rattle.declarations.specs.declared.walk_state.Item.TheVariants as items
+use Rattle.declarations.specs.declared.walk_state.WalkState.{WalkState}
 
 abbrev pub kind_of : Item → ItemKind
 kind_of items.Struct = kinds.Struct
@@ -34,6 +34,6 @@ kind_of _ = kinds.Group
 
 -- the walk over the item's signs, up to the rest, ends in an item of this kind and finds this name
 pub record Tells (trees rest : List TokenTree) (kind : ItemKind) (name : Option Name) : Type 0 where
-  pub last : Place
+  pub last : WalkState
   pub walked : Walked any_item trees rest last name
   pub is : kind ≡ kind_of last.item

@@ -10,7 +10,7 @@ use Rattle.declarations.specs.Field.{IsFieldAt, HasFieldParts, HasTypeParts}
 use Rattle.declarations.specs.Forms.{IsField, IsTupleField, IsVariant}
 use Rattle.declarations.specs.Reading.{Reads, FaultAt}
 use Rattle.declarations.specs.Variant.{IsVariantAt}
-use Rattle.declarations.specs.declared.class.Class.{Class}
+use Rattle.declarations.specs.declared.class.SignClass.{SignClass}
 use Rattle.declarations.specs.declared.fault.Fault.{Fault}
 use Rattle.declarations.specs.declared.field.Field.{Field}
 use Rattle.declarations.specs.declared.item.Fields.{Fields}
@@ -26,7 +26,7 @@ IsPastComma (Punct mark ∷ rest) left = (mark.mark ≡ 44) × (left ≡ rest)
 IsPastComma (tree ∷ rest) left = ⊥
 
 -- a part is read, and neither `,` nor the end comes after it
-pub record LacksComma (form : List Class → List Class → Type 0) (trees : List TokenTree) (at : ℕ) : Type 0 where
+pub record LacksComma (form : List SignClass → List SignClass → Type 0) (trees : List TokenTree) (at : ℕ) : Type 0 where
   pub part : List TokenTree
   pub rest : List TokenTree
   pub reads : Reads form trees part rest
@@ -34,7 +34,7 @@ pub record LacksComma (form : List Class → List Class → Type 0) (trees : Lis
   pub none : (left : List TokenTree) → IsPastComma rest left → ⊥
 
 -- the error of a list: its next part cannot be read, or neither `,` nor the end comes after that part
-pub record IsListFault (form : List Class → List Class → Type 0) (trees : List TokenTree) (fault : Fault)
+pub record IsListFault (form : List SignClass → List SignClass → Type 0) (trees : List TokenTree) (fault : Fault)
     : Type 0 where
   pub place : FaultAt form trees fault.at ⊎ LacksComma form trees fault.at
   pub span : fault.span ≡ extent_at trees fault.at
@@ -46,7 +46,7 @@ IsFirst at trees part left = (rest : List TokenTree) × at trees part rest × Is
 
 -- the list begins with this part; or it has this error at its first part, and no trees are left
 abbrev pub BeginsList : {A : Type 0} → (List TokenTree → A → List TokenTree → Type 0)
-    → (List Class → List Class → Type 0) → List TokenTree → Result A Fault → List TokenTree → Type 0
+    → (List SignClass → List SignClass → Type 0) → List TokenTree → Result A Fault → List TokenTree → Type 0
 BeginsList at form trees found left =
     MatchResult found (λ part. IsFirst at trees part left) (λ fault. IsListFault form trees fault × (left ≡ []))
 
@@ -62,7 +62,7 @@ abbrev pub IsFieldOf : Bool → List TokenTree → Field → List TokenTree → 
 IsFieldOf true = IsFieldAt IsField HasFieldParts
 IsFieldOf false = IsFieldAt IsTupleField HasTypeParts
 
-abbrev pub field_form : Bool → List Class → List Class → Type 0
+abbrev pub field_form : Bool → List SignClass → List SignClass → Type 0
 field_form true = IsField
 field_form false = IsTupleField
 

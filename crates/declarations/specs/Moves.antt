@@ -1,27 +1,27 @@
 -- The moves from one state of the walk to another.
 use Rattle.std.specs.Prelude.{Bool, true, false, Option, Some, None}
-use Rattle.declarations.specs.declared.place.Front.{Front}
-use Rattle.declarations.specs.declared.place.Item.{Item}
-use Rattle.declarations.specs.declared.place.Rule.{Rule}
-use Rattle.declarations.specs.declared.place.Rule.TheVariants as rules
-use Rattle.declarations.specs.declared.place.Shift.{Shift}
-use Rattle.declarations.specs.declared.place.Spot.{Spot}
-use Rattle.declarations.specs.declared.place.Spot.TheVariants as spots
-use Rattle.declarations.specs.declared.place.State.{State}
-use Rattle.declarations.specs.declared.place.State.TheVariants as states
-use Rattle.declarations.specs.declared.place.TypeStart.{TypeStart}
+use Rattle.declarations.specs.declared.walk_state.Front.{Front}
+use Rattle.declarations.specs.declared.walk_state.Item.{Item}
+use Rattle.declarations.specs.declared.walk_state.Continuation.{Continuation}
+use Rattle.declarations.specs.declared.walk_state.Continuation.TheVariants as rules
+use Rattle.declarations.specs.declared.walk_state.Shift.{Shift}
+use Rattle.declarations.specs.declared.walk_state.Spot.{Spot}
+use Rattle.declarations.specs.declared.walk_state.Spot.TheVariants as spots
+use Rattle.declarations.specs.declared.walk_state.State.{State}
+use Rattle.declarations.specs.declared.walk_state.State.TheVariants as states
+use Rattle.declarations.specs.declared.walk_state.TypeStart.{TypeStart}
 use Rattle.declarations.specs.declared.types.Turn.{Turn}
 use Rattle.declarations.specs.declared.types.Turn.TheVariants as turns
 use Rattle.declarations.specs.declared.types.TypeState.{TypeState}
 use Rattle.declarations.specs.declared.types.TypeState.TheVariants as types
 
-abbrev pub turn_to : Item → Rule → State → Turn → Option Shift
+abbrev pub turn_to : Item → Continuation → State → Turn → Option Shift
 turn_to item rule state turn = Some (record { item = item; rule = rule; state = state; turn = turn })
 
-abbrev pub move_to : Item → Rule → State → Option Shift
+abbrev pub move_to : Item → Continuation → State → Option Shift
 move_to item rule state = turn_to item rule state turns.Stay
 
-abbrev pub at_spot : Item → Rule → Spot → Option Shift
+abbrev pub at_spot : Item → Continuation → Spot → Option Shift
 at_spot item rule spot = move_to item rule (states.At spot)
 
 abbrev pub to_spot : Item → Spot → Option Shift
@@ -34,14 +34,14 @@ to_front item front = to_spot item (spots.Front front)
 abbrev pub close_to : Item → Spot → Option Shift
 close_to item spot = turn_to item rules.Alone (states.At spot) turns.Close
 
-abbrev pub to_type : Item → Rule → Option Shift
+abbrev pub to_type : Item → Continuation → Option Shift
 to_type item rule = move_to item rule (states.Range types.Wanted)
 
-abbrev pub to_bounds : Item → Rule → Option Shift
+abbrev pub to_bounds : Item → Continuation → Option Shift
 to_bounds item rule = move_to item rule (states.Range types.Bound)
 
 -- the move into the angle brackets of an expression
-abbrev pub open_angle : Item → Rule → Option Shift
+abbrev pub open_angle : Item → Continuation → Option Shift
 open_angle item rule = turn_to item rule (states.Range types.Argument) turns.Open
 
 abbrev pub only : Bool → Option Shift → Option Shift
@@ -49,5 +49,5 @@ only true shift = shift
 only false shift = None
 
 -- a type that can begin in a state
-abbrev pub type_from : Rule → TypeState → Option TypeStart
+abbrev pub type_from : Continuation → TypeState → Option TypeStart
 type_from rule state = Some (record { rule = rule; state = state })

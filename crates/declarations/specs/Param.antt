@@ -5,8 +5,8 @@ use Rattle.pm_stream.specs.declared.stream.TokenTree.TheVariants.{Ident, Punct}
 use Rattle.declarations.specs.Forms.{AreAttributes, AreBounds, IsType}
 use Rattle.declarations.specs.Reading.{Reads}
 use Rattle.declarations.specs.Signs.{BeginsWith, is_written}
-use Rattle.declarations.specs.declared.class.Class.{Class}
-use Rattle.declarations.specs.declared.class.Class.TheVariants as classes
+use Rattle.declarations.specs.declared.class.SignClass.{SignClass}
+use Rattle.declarations.specs.declared.class.SignClass.TheVariants as classes
 use Rattle.declarations.specs.declared.class.Keyword.TheVariants as keywords
 use Rattle.declarations.specs.declared.class.Word.{Word}
 use Rattle.declarations.specs.declared.generics.Param.{Param}
@@ -17,7 +17,7 @@ use Rattle.declarations.specs.declared.generics.Predicate.{Predicate}
 -- ---- single signs
 
 -- the trees are a sign of this class and then the rest
-pub record HasSign (class : Class) (trees sign rest : List TokenTree) : Type 0 where
+pub record HasSign (class : SignClass) (trees sign rest : List TokenTree) : Type 0 where
   pub begins : BeginsWith trees class rest
   pub whole : trees ≡ sign ++ rest
 
@@ -27,18 +27,18 @@ pub record IsWord (trees name rest : List TokenTree) : Type 0 where
   pub sign : HasSign (classes.Word word) trees name rest
 
 -- the trees do not begin with a sign of this class
-abbrev pub HasNo : Class → List TokenTree → Type 0
+abbrev pub HasNo : SignClass → List TokenTree → Type 0
 HasNo class trees = (rest : List TokenTree) → BeginsWith trees class rest → ⊥
 
 -- the trees begin with the mark and a part of this form; or they do not begin with the mark, and the part is empty
-pub data MayHave (mark : Class) (form : List TokenTree → List TokenTree → List TokenTree → Type 0)
+pub data MayHave (mark : SignClass) (form : List TokenTree → List TokenTree → List TokenTree → Type 0)
     (trees part rest : List TokenTree) : Type 0 where
   stands : (left : List TokenTree) → BeginsWith trees mark left → form left part rest
       → MayHave mark form trees part rest
   left_out : HasNo mark trees → part ≡ [] → rest ≡ trees → MayHave mark form trees part rest
 
 -- the trees begin with the mark and a part of this form
-pub record MustHave (mark : Class) (form : List TokenTree → List TokenTree → List TokenTree → Type 0)
+pub record MustHave (mark : SignClass) (form : List TokenTree → List TokenTree → List TokenTree → Type 0)
     (trees part rest : List TokenTree) : Type 0 where
   pub left : List TokenTree
   pub begins : BeginsWith trees mark left
@@ -82,7 +82,7 @@ HasBounds kinds.Type trees bounds rest = MayHave classes.Colon (Reads AreBounds)
 HasBounds kinds.Const trees bounds rest = MustHave classes.Colon (Reads IsType) trees bounds rest
 
 -- whether a sign of this class is the whole default of a constant
-abbrev pub is_constant : Class → Bool
+abbrev pub is_constant : SignClass → Bool
 is_constant classes.Literal = true
 is_constant classes.Braces = true
 is_constant classes.Truth = true
@@ -90,7 +90,8 @@ is_constant _ = false
 
 -- the default of a constant: a literal, braces, `true`, `false`, `-` and a literal, or a type
 pub data ReadsConstant (trees part rest : List TokenTree) : Type 0 where
-  one_sign : (class : Class) → is_constant class ≡ true → HasSign class trees part rest → ReadsConstant trees part rest
+  one_sign : (class : SignClass) → is_constant class ≡ true → HasSign class trees part rest
+      → ReadsConstant trees part rest
   negative : (left : List TokenTree) → BeginsWith trees classes.Minus left → BeginsWith left classes.Literal rest
       → trees ≡ part ++ rest → ReadsConstant trees part rest
   of_type : Reads IsType trees part rest → ReadsConstant trees part rest

@@ -8,8 +8,8 @@ use Rattle.declarations.specs.List.{BeginsList}
 use Rattle.declarations.specs.Reader.{Finds, Remains, Sticks, classes_in}
 use Rattle.declarations.specs.Reading.{Reads}
 use Rattle.declarations.specs.Signs.{BeginsWith}
-use Rattle.declarations.specs.declared.class.Class.{Class}
-use Rattle.declarations.specs.declared.class.Class.TheVariants as classes
+use Rattle.declarations.specs.declared.class.SignClass.{SignClass}
+use Rattle.declarations.specs.declared.class.SignClass.TheVariants as classes
 use Rattle.declarations.specs.declared.fault.Fault.{Fault}
 use Rattle.declarations.specs.declared.parameter.Parameter.{Parameter}
 use Rattle.declarations.specs.declared.parameter.ParameterKind.{ParameterKind}
@@ -66,13 +66,13 @@ GivesParameter old given new =
 
 -- what the rule `g` finds in the trees is what comes before the rest, and then what the rule `h` finds in the rest
 pub record LeadsTo (g : G) (trees : List TokenTree) (h : G) (rest : List TokenTree) : Type 0 where
-  pub events : List (Event Class Label)
+  pub events : List (Event SignClass Label)
   pub found : find rules g (classes_in trees) ≡ front events (find rules h (classes_in rest))
   pub remains : Remains rest trees
 
 -- the rule that reads the rest of a parameter with this beginning
 abbrev pub left_of : Shape → G
-left_of shapes.Pattern = rule.typed
+left_of shapes.Pattern = rule.pattern_parameter
 left_of shapes.Receiver = rule.self_type
 left_of shapes.Reference = Nothing
 

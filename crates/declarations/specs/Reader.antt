@@ -5,12 +5,12 @@ use Rattle.grammars.specs.Grammar.{Event}
 use Rattle.grammars.specs.Find.{Past, Stuck, find}
 use Rattle.pm_stream.specs.declared.stream.TokenTree.{TokenTree}
 use Rattle.declarations.specs.Signs.{Sign, classes_of, signs, trees_of}
-use Rattle.declarations.specs.declared.class.Class.{Class}
+use Rattle.declarations.specs.declared.class.SignClass.{SignClass}
 use Rattle.declarations.specs.rules.Names.{G, Label}
 use Rattle.declarations.specs.rules.Rules.{rules}
 
 -- the classes of the signs of trees
-unfoldable pub classes_in : List TokenTree → List Class
+unfoldable pub classes_in : List TokenTree → List SignClass
 classes_in trees = classes_of (signs trees)
 
 -- the rest is what remains of the trees after some whole signs
@@ -21,7 +21,7 @@ pub record Remains (rest trees : List TokenTree) : Type 0 where
 
 -- what the rule finds at the start of the trees ends before the rest
 pub record Finds (g : G) (trees rest : List TokenTree) : Type 0 where
-  pub events : List (Event Class Label)
+  pub events : List (Event SignClass Label)
   pub found : find rules g (classes_in trees) ≡ Past events (classes_in rest)
   pub remains : Remains rest trees
 

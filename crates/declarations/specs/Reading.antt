@@ -6,11 +6,11 @@ use Rattle.pm_stream.specs.declared.stream.TokenTree.TheVariants.{Ident}
 use Rattle.declarations.specs.Grammar.{ends, names, step}
 use Rattle.declarations.specs.Signs.{Sign, signs, classes_of, trees_of}
 use Rattle.declarations.specs.Walk.{IsFront, Stops, walk}
-use Rattle.declarations.specs.declared.class.Class.{Class}
-use Rattle.declarations.specs.declared.place.Place.{Place}
+use Rattle.declarations.specs.declared.class.SignClass.{SignClass}
+use Rattle.declarations.specs.declared.walk_state.WalkState.{WalkState}
 
 -- the trees are the part and then the rest, and the part has this form if the rest comes after it
-pub record Reads (form : List Class → List Class → Type 0) (trees part rest : List TokenTree) : Type 0 where
+pub record Reads (form : List SignClass → List SignClass → Type 0) (trees part rest : List TokenTree) : Type 0 where
   pub piece : List Sign
   pub read : signs trees ≡ piece ++ signs rest
   pub taken : part ≡ trees_of piece
@@ -18,12 +18,12 @@ pub record Reads (form : List Class → List Class → Type 0) (trees part rest 
   pub stands : form (classes_of piece) (classes_of (signs rest))
 
 -- the prefix of the signs cannot go on with the first sign that is left
-abbrev pub StopsBefore : (List Class → List Class → Type 0) → List Class → List Class → Type 0
+abbrev pub StopsBefore : (List SignClass → List SignClass → Type 0) → List SignClass → List SignClass → Type 0
 StopsBefore form front [] = Unit {0}
 StopsBefore form front (sign ∷ left) = IsFront form (front ++ sign ∷ []) → ⊥
 
 -- nothing of this form can be read. The error is after `at` trees: the longest prefix that other trees could complete
-pub record FaultAt (form : List Class → List Class → Type 0) (trees : List TokenTree) (at : ℕ) : Type 0 where
+pub record FaultAt (form : List SignClass → List SignClass → Type 0) (trees : List TokenTree) (at : ℕ) : Type 0 where
   pub front : List Sign
   pub left : List TokenTree
   pub read : signs trees ≡ front ++ signs left
@@ -34,7 +34,8 @@ pub record FaultAt (form : List Class → List Class → Type 0) (trees : List T
   pub nothing : (part rest : List TokenTree) → Reads form trees part rest → ⊥
 
 -- no other part and rest can be read from these trees by the form
-abbrev pub IsOnly : (List Class → List Class → Type 0) → List TokenTree → List TokenTree → List TokenTree → Type 0
+abbrev pub IsOnly : (List SignClass → List SignClass → Type 0) → List TokenTree → List TokenTree → List TokenTree
+    → Type 0
 IsOnly form trees part rest =
     (part2 rest2 : List TokenTree) → Reads form trees part2 rest2 → (part2 ≡ part) × (rest2 ≡ rest)
 
@@ -46,29 +47,30 @@ first_name (Ident i ∷ rest) = Some i
 first_name _ = None
 
 -- the name that is found so far, after a sign of this class at the start of the trees
-abbrev pub named : Place → Class → List TokenTree → Option Name → Option Name
-named place class trees name = cond (names place class) (first_name trees) name
+abbrev pub name_so_far : WalkState → SignClass → List TokenTree → Option Name → Option Name
+name_so_far place class trees name = cond (names place class) (first_name trees) name
 
 -- the last name that a walk over the signs finds, or the one that it had before
-abbrev pub name_of : Place → Option Name → List Sign → Option Name
+abbrev pub name_of : WalkState → Option Name → List Sign → Option Name
 name_of place name [] = name
 name_of place name (sign ∷ rest) =
     elim (step place sign.class) [
       | None ↦ name
-      | Some next ↦ name_of next (named place sign.class sign.trees name) rest
+      | Some next ↦ name_of next (name_so_far place sign.class sign.trees name) rest
     ]
 
 -- the walk from `start` over the signs before the left trees ends in this state, and finds this name
-pub record Walked (start : Place) (trees left : List TokenTree) (place : Place) (name : Option Name) : Type 0 where
-  pub front : List Sign
-  pub read : signs trees ≡ front ++ signs left
-  pub whole : trees ≡ trees_of front ++ left
-  pub walks : walk step start (classes_of front) ≡ Some place
-  pub takes : name ≡ name_of start None front
+pub record Walked (start : WalkState) (trees left : List TokenTree) (place : WalkState) (name : Option Name) : Type 0
+  where
+    pub front : List Sign
+    pub read : signs trees ≡ front ++ signs left
+    pub whole : trees ≡ trees_of front ++ left
+    pub walks : walk step start (classes_of front) ≡ Some place
+    pub takes : name ≡ name_of start None front
 
 -- the walk from `start` stops before the left trees, in a state where the part may end or not
-pub record StopsAt (start : Place) (ended : Bool) (trees left : List TokenTree) : Type 0 where
-  pub place : Place
+pub record StopsAt (start : WalkState) (ended : Bool) (trees left : List TokenTree) : Type 0 where
+  pub place : WalkState
   pub name : Option Name
   pub walked : Walked start trees left place name
   pub stops : Stops step place (classes_of (signs left))

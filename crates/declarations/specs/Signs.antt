@@ -14,8 +14,8 @@ use Rattle.pm_stream.specs.Size.{is_nil}
 use Rattle.pm_stream.specs.declared.stream.TokenTree.{TokenTree}
 use Rattle.pm_stream.specs.declared.stream.TokenTree.TheVariants.{Group, Ident, Punct, Literal}
 use Rattle.declarations.specs.Bare.{innermost, innermost_trees}
-use Rattle.declarations.specs.declared.class.Class.{Class}
-use Rattle.declarations.specs.declared.class.Class.TheVariants as classes
+use Rattle.declarations.specs.declared.class.SignClass.{SignClass}
+use Rattle.declarations.specs.declared.class.SignClass.TheVariants as classes
 use Rattle.declarations.specs.declared.class.Keyword.{Keyword}
 use Rattle.declarations.specs.declared.class.Keyword.TheVariants as keywords
 use Rattle.declarations.specs.declared.class.Word.{Word}
@@ -26,7 +26,7 @@ abbrev pub is_written : Name → List ℕ → Bool
 is_written ident text = pointwise nat_eq (name_text ident) text
 
 -- the class of a keyword that can be in a path
-abbrev pub path_class : Name → Option Class
+abbrev pub path_class : Name → Option SignClass
 path_class ident =
     if is_written ident (codes "self") then Some classes.SelfValue
     else (if is_written ident (codes "Self") then Some classes.SelfType
@@ -38,7 +38,7 @@ abbrev pub is_truth : Name → Bool
 is_truth ident = is_written ident (codes "true") || is_written ident (codes "false")
 
 -- the class of a keyword that is an operand, or that can come before or after an operand
-abbrev pub operand_class : Name → Option Class
+abbrev pub operand_class : Name → Option SignClass
 operand_class ident =
     if is_truth ident then Some classes.Truth
     else (if is_written ident (codes "as") then Some classes.As
@@ -121,19 +121,19 @@ or_else (Some found) other = Some found
 abbrev pub keyword_of : Name → Option Keyword
 keyword_of ident = or_else (item_keyword ident) (or_else (type_keyword ident) (other_keyword ident))
 
-abbrev pub keyword_or_word : Option Keyword → Name → Class
+abbrev pub keyword_or_word : Option Keyword → Name → SignClass
 keyword_or_word None ident = classes.Word (word_of ident)
 keyword_or_word (Some keyword) ident = classes.Keyword keyword
 
-abbrev pub class_or_name : Option Class → Name → Class
+abbrev pub class_or_name : Option SignClass → Name → SignClass
 class_or_name None ident = keyword_or_word (keyword_of ident) ident
 class_or_name (Some class) ident = class
 
-abbrev pub name_class : Name → Class
+abbrev pub name_class : Name → SignClass
 name_class ident = class_or_name (or_else (path_class ident) (operand_class ident)) ident
 
 -- the class of a mark that occurs only in expressions
-abbrev pub operator_class : ℕ → Class
+abbrev pub operator_class : ℕ → SignClass
 operator_class c =
     if c == 124 then classes.Bar
     else (if c == 46 then classes.Dot
@@ -141,7 +141,7 @@ operator_class c =
     else classes.Mark))
 
 -- the class of a mark, by its character and whether it is `Joint`
-abbrev pub mark_class : ℕ → Bool → Class
+abbrev pub mark_class : ℕ → Bool → SignClass
 mark_class c joint =
     if (c == 60) && joint then classes.LessJoint
     else (if c == 60 then classes.Less
@@ -180,7 +180,7 @@ is_restriction nil = false
 is_restriction (leaf token lo hi rest) = restricts_by token (is_nil rest)
 is_restriction (group d lo hi inside rest) = false
 
-abbrev pub parentheses_class : Bool → Class
+abbrev pub parentheses_class : Bool → SignClass
 parentheses_class true = classes.Restriction
 parentheses_class false = classes.Parentheses
 
@@ -213,46 +213,46 @@ is_visibility (group d lo hi inside rest) = false
 
 -- the class of trees in a group without delimiters that are no visibility: a literal, `'` (39) and an identifier, or
 -- other trees
-abbrev pub held_class : List TokenTree → Class
+abbrev pub held_class : List TokenTree → SignClass
 held_class (Literal l ∷ []) = classes.Literal
 held_class (Punct p ∷ Ident i ∷ []) = if p.mark == 39 then classes.Lifetime else classes.Invisible
 held_class _ = classes.Invisible
 
 -- the class of a group without delimiters. What is in the innermost of such groups decides
-abbrev pub unseen_class : Forest → Class
+abbrev pub unseen_class : Forest → SignClass
 unseen_class inside =
     if is_visibility (innermost inside) then classes.Visibility else held_class (innermost_trees inside)
 
-abbrev pub group_class : Delimiter → Forest → Class
+abbrev pub group_class : Delimiter → Forest → SignClass
 group_class delimiters.Parenthesis inside = parentheses_class (is_restriction inside)
 group_class delimiters.Bracket inside = classes.Brackets
 group_class delimiters.Brace inside = classes.Braces
 group_class delimiters.None inside = unseen_class inside
 
 -- the class of a tree that is a sign of its own
-abbrev pub tree_class : TokenTree → Class
+abbrev pub tree_class : TokenTree → SignClass
 tree_class (Group g) = group_class g.delimiter g.stream
 tree_class (Ident i) = name_class i
 tree_class (Punct p) = mark_class p.mark (is_joint p.spacing)
 tree_class (Literal l) = classes.Literal
 
 -- the class of two marks that are read as one, whatever the spacing of the first is: `#` (35) and `!` (33)
-abbrev pub loose_class : ℕ → ℕ → Option Class
+abbrev pub loose_class : ℕ → ℕ → Option SignClass
 loose_class first second = if (first == 35) && (second == 33) then Some classes.HashBang else None
 
 -- the class of two marks that are one sign if the first is `Joint`: `::` (58), `->` (45, 62), `<=` (60, 61), `||` (124)
-abbrev pub marks_class : ℕ → ℕ → Option Class
+abbrev pub marks_class : ℕ → ℕ → Option SignClass
 marks_class first second =
     if (first == 58) && (second == 58) then Some classes.PathSeparator
     else (if (first == 45) && (second == 62) then Some classes.Arrow
     else (if (first == 60) && (second == 61) then Some classes.LessEquals
     else (if (first == 124) && (second == 124) then Some classes.Bars else None)))
 
-abbrev pub joint_class : ℕ → ℕ → Option Class
+abbrev pub joint_class : ℕ → ℕ → Option SignClass
 joint_class first second = or_else (marks_class first second) (loose_class first second)
 
 -- the class of two trees that are read as one sign, or nothing. They are two marks, or `'` (39) and an identifier
-abbrev pub pair_class : TokenTree → TokenTree → Option Class
+abbrev pub pair_class : TokenTree → TokenTree → Option SignClass
 pair_class (Punct p) (Punct q) =
     if is_joint p.spacing then joint_class p.mark q.mark else loose_class p.mark q.mark
 pair_class (Punct p) (Ident i) = if p.mark == 39 then Some classes.Lifetime else None
@@ -260,7 +260,7 @@ pair_class _ _ = None
 
 -- a sign: its class and its trees
 pub record Sign : Type 0 where
-  pub class : Class
+  pub class : SignClass
   pub trees : List TokenTree
 
 -- the signs of these trees, perhaps after one tree that is not yet read
@@ -278,7 +278,7 @@ abbrev pub signs : List TokenTree → List Sign
 signs trees = signs_after None trees
 
 -- the classes of the signs
-abbrev pub classes_of : List Sign → List Class
+abbrev pub classes_of : List Sign → List SignClass
 classes_of [] = []
 classes_of (sign ∷ rest) = sign.class ∷ classes_of rest
 
@@ -288,7 +288,7 @@ trees_of [] = []
 trees_of (sign ∷ rest) = sign.trees ++ trees_of rest
 
 -- the trees begin with a sign of this class, and the rest comes after it
-pub record BeginsWith (trees : List TokenTree) (class : Class) (rest : List TokenTree) : Type 0 where
+pub record BeginsWith (trees : List TokenTree) (class : SignClass) (rest : List TokenTree) : Type 0 where
   pub front : List TokenTree
   pub whole : trees ≡ front ++ rest
   pub fewer : length rest < length trees

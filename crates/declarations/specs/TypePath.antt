@@ -12,13 +12,13 @@ use Rattle.declarations.specs.Reader.{Finds, Remains, Sticks}
 use Rattle.declarations.specs.Reading.{Reads}
 use Rattle.declarations.specs.Signs.{BeginsWith, name_class}
 use Rattle.declarations.specs.Whole.{ReadsAll}
-use Rattle.declarations.specs.declared.class.Class.{Class}
-use Rattle.declarations.specs.declared.class.Class.TheVariants as classes
+use Rattle.declarations.specs.declared.class.SignClass.{SignClass}
+use Rattle.declarations.specs.declared.class.SignClass.TheVariants as classes
 use Rattle.declarations.specs.declared.type_path.Last.{Last}
 use Rattle.declarations.specs.declared.type_path.PathArguments.{PathArguments}
 use Rattle.declarations.specs.declared.type_path.PathArguments.TheVariants as kinds
 use Rattle.declarations.specs.declared.type_path.Segment.{Segment}
-use Rattle.declarations.specs.declared.type_path.Step.{Step}
+use Rattle.declarations.specs.declared.type_path.Transition.{Transition}
 use Rattle.declarations.specs.declared.type_path.TypePath.{TypePath}
 use Rattle.declarations.specs.rules.Classes.{opens}
 use Rattle.declarations.specs.rules.Names.{AfterName, G}
@@ -42,7 +42,7 @@ pub record HasBrackets (trees inside rest : List TokenTree) : Type 0 where
   pub from_open : List TokenTree
   pub from_inside : List TokenTree
   pub separator : MaySeparate trees from_open
-  pub class : Class
+  pub class : SignClass
   pub open_read : BeginsWith from_open class from_inside
   pub is_open : opens class ≡ true
   pub closed : HasInside from_inside inside rest
@@ -139,7 +139,7 @@ HasRound (kinds.AngleBracketed inside) trees rest = ⊥
 
 -- a step, with its arguments and its next segment
 pub record IsStep (g : G) (has : PathArguments → List TokenTree → List TokenTree → Type 0) (trees : List TokenTree)
-    (step : Step) : Type 0 where
+    (step : Transition) : Type 0 where
   pub goes : Goes g trees step.rest.now step.next
   pub arguments : has step.arguments trees step.rest.now
   pub next : HasNext step.rest.now step.next
@@ -147,7 +147,7 @@ pub record IsStep (g : G) (has : PathArguments → List TokenTree → List Token
 
 -- the result is a step, or the trees from the error on
 abbrev pub ReadsStep : G → (PathArguments → List TokenTree → List TokenTree → Type 0) → List TokenTree
-    → Result Step (Bor (List TokenTree)) → Type 0
+    → Result Transition (Bor (List TokenTree)) → Type 0
 ReadsStep g has trees result = MatchResult result (λ step. IsStep g has trees step) (λ left. Sticks g trees left.now)
 
 -- the last segment of a path that begins with the first segment

@@ -1,12 +1,14 @@
 -- The steps of the walk over a type or bounds, up to their end.
 use Rattle.std.specs.Prelude.{Bool, true, false, Option, Some, None}
-use Rattle.declarations.specs.declared.class.Class.{Class}
-use Rattle.declarations.specs.declared.class.Class.TheVariants.{Word, SelfValue, SelfType, Super, Crate, Underscore}
-use Rattle.declarations.specs.declared.class.Class.TheVariants.{As, Truth, Literal, Lifetime, PathSeparator, Arrow}
-use Rattle.declarations.specs.declared.class.Class.TheVariants.{Restriction, Parentheses, Brackets, Braces, Invisible}
-use Rattle.declarations.specs.declared.class.Class.TheVariants.{Less, LessJoint, Greater, Comma, Colon, Equals}
-use Rattle.declarations.specs.declared.class.Class.TheVariants.{Plus, Minus, Star, And, Question, Exclamation, Tilde}
-use Rattle.declarations.specs.declared.class.Class.TheVariants as signs
+use Rattle.declarations.specs.declared.class.SignClass.{SignClass}
+use Rattle.declarations.specs.declared.class.SignClass.TheVariants.{Word, SelfValue, SelfType, Super, Crate, Underscore}
+use Rattle.declarations.specs.declared.class.SignClass.TheVariants.{As, Truth, Literal, Lifetime, PathSeparator, Arrow}
+use Rattle.declarations.specs.declared.class.SignClass.TheVariants.{Restriction, Parentheses, Brackets, Braces}
+use Rattle.declarations.specs.declared.class.SignClass.TheVariants.{Invisible}
+use Rattle.declarations.specs.declared.class.SignClass.TheVariants.{Less, LessJoint, Greater, Comma, Colon, Equals}
+use Rattle.declarations.specs.declared.class.SignClass.TheVariants.{Plus, Minus, Star, And, Question, Exclamation}
+use Rattle.declarations.specs.declared.class.SignClass.TheVariants.{Tilde}
+use Rattle.declarations.specs.declared.class.SignClass.TheVariants as signs
 use Rattle.declarations.specs.declared.class.Keyword.{Keyword}
 use Rattle.declarations.specs.declared.class.Keyword.TheVariants as keywords
 use Rattle.declarations.specs.declared.types.Turn.{Turn}
@@ -46,7 +48,7 @@ front keywords.For = stay states.For
 front _ = None
 
 -- the step where an operand may come. The second argument says that no angle bracket is open
-abbrev pub operand : Class → Bool → Option TypeStep
+abbrev pub operand : SignClass → Bool → Option TypeStep
 operand (Word _) outside = stay states.Whole
 operand SelfValue outside = stay states.Whole
 operand SelfType outside = stay states.Whole
@@ -74,7 +76,7 @@ operand LessJoint outside = open_bracket
 operand _ outside = None
 
 -- the step after an operand
-abbrev pub continuation : Class → Bool → Option TypeStep
+abbrev pub continuation : SignClass → Bool → Option TypeStep
 continuation Restriction outside = stay states.Whole
 continuation Parentheses outside = stay states.Whole
 continuation PathSeparator outside = stay states.Wanted
@@ -91,50 +93,50 @@ continuation Greater outside = close_bracket outside
 continuation _ outside = None
 
 -- the step before a bound, or at the end of bounds
-abbrev pub bound : Class → Bool → Option TypeStep
+abbrev pub bound : SignClass → Bool → Option TypeStep
 bound Comma outside = within outside (stay states.Argument)
 bound Greater outside = close_bracket outside
 bound class outside = operand class outside
 
-abbrev pub after_lifetime : Class → Bool → Option TypeStep
+abbrev pub after_lifetime : SignClass → Bool → Option TypeStep
 after_lifetime Plus outside = stay states.Bound
 after_lifetime class outside = bound class outside
 
 -- the step before an argument, or at the end of the arguments
-abbrev pub argument : Class → Bool → Option TypeStep
+abbrev pub argument : SignClass → Bool → Option TypeStep
 argument Greater outside = close_bracket outside
 argument class outside = operand class outside
 
-abbrev pub macro_group : Class → Option TypeStep
+abbrev pub macro_group : SignClass → Option TypeStep
 macro_group Restriction = stay states.Whole
 macro_group Parentheses = stay states.Whole
 macro_group Brackets = stay states.Whole
 macro_group Braces = stay states.Whole
 macro_group _ = None
 
-abbrev pub pointer : Class → Option TypeStep
+abbrev pub pointer : SignClass → Option TypeStep
 pointer (signs.Keyword keywords.Const) = stay states.Wanted
 pointer (signs.Keyword keywords.Mut) = stay states.Wanted
 pointer _ = None
 
-abbrev pub tilde : Class → Option TypeStep
+abbrev pub tilde : SignClass → Option TypeStep
 tilde (signs.Keyword keywords.Const) = stay states.Wanted
 tilde _ = None
 
-abbrev pub abi : Class → Bool → Option TypeStep
+abbrev pub abi : SignClass → Bool → Option TypeStep
 abi Literal outside = stay states.Wanted
 abi class outside = operand class outside
 
-abbrev pub minus : Class → Option TypeStep
+abbrev pub minus : SignClass → Option TypeStep
 minus Literal = stay states.Whole
 minus _ = None
 
-abbrev pub for_binder : Class → Option TypeStep
+abbrev pub for_binder : SignClass → Option TypeStep
 for_binder Less = stay states.Binder
 for_binder LessJoint = stay states.Binder
 for_binder _ = None
 
-abbrev pub binder : Class → Option TypeStep
+abbrev pub binder : SignClass → Option TypeStep
 binder Lifetime = stay states.Binder
 binder Comma = stay states.Binder
 binder Colon = stay states.Binder
@@ -143,7 +145,7 @@ binder Greater = stay states.Wanted
 binder _ = None
 
 -- the step from a state. The last argument says that no angle bracket is open
-abbrev pub step_of : TypeState → Class → Bool → Option TypeStep
+abbrev pub step_of : TypeState → SignClass → Bool → Option TypeStep
 step_of states.Wanted class outside = operand class outside
 step_of states.Bound class outside = bound class outside
 step_of states.Lifetime class outside = after_lifetime class outside

@@ -2,12 +2,12 @@
 use Rattle.std.specs.Prelude.{◌≡◌, List, []}
 use Rattle.pm_stream.specs.declared.stream.TokenTree.{TokenTree}
 use Rattle.declarations.specs.Reading.{Reads}
-use Rattle.declarations.specs.declared.class.Class.{Class}
+use Rattle.declarations.specs.declared.class.SignClass.{SignClass}
 
 -- a piece of the form with nothing after it
-abbrev pub IsWhole : (List Class → List Class → Type 0) → List Class → List Class → Type 0
+abbrev pub IsWhole : (List SignClass → List SignClass → Type 0) → List SignClass → List SignClass → Type 0
 IsWhole form piece rest = form piece rest × (rest ≡ [])
 
 -- all of the trees are one part of the form
-abbrev pub ReadsAll : (List Class → List Class → Type 0) → List TokenTree → Type 0
+abbrev pub ReadsAll : (List SignClass → List SignClass → Type 0) → List TokenTree → Type 0
 ReadsAll form trees = Reads (IsWhole form) trees trees []

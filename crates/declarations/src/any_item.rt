@@ -7,8 +7,8 @@ ghost use Rattle.declarations.specs.Kind.{Tells, kind_of};
 ghost use Rattle.declarations.specs.Reading.{FaultAt, IsOnly, Reads, first_name};
 
 use crate::fault::Fault;
-use crate::place::{Item, Part, Place, Rule, Spot, State};
 use crate::walk::split_from;
+use crate::walk_state::{Continuation, Item, Part, Spot, State, WalkState};
 use pm_stream::TokenTree;
 use pm_token::Ident;
 
@@ -75,14 +75,14 @@ pub fn split_any_item<'a>(trees: &'a [TokenTree]) -> Result<(AnyItem<'a>, &'a [T
     ensures only { IfOk result (λ found. IsOnly IsAnyItem trees.now found.0.trees.now found.1.now) }
     ensures fewer { IfOk result (λ found. length found.1.now < length trees.now) }
     // The kind and the name are those that the walk over the item's signs finds.
-    ensures told { IfOk result (λ found. (name : Option Name) × Tells trees.now found.1.now found.0.kind name
+    ensures kind_and_name { IfOk result (λ found. (name : Option Name) × Tells trees.now found.1.now found.0.kind name
         × MatchOption found.0.name (name ≡ None) (λ ident. name ≡ Some ident.now)) }
     ensures fault { IfErr result (λ fault. FaultAt IsAnyItem trees.now fault.at) }
     ensures span { IfErr result (λ fault. fault.span ≡ extent_at trees.now fault.at) }
 {
-    let start = Place {
+    let start = WalkState {
         item: Item::Alone,
-        rule: Rule::Alone,
+        rule: Continuation::Alone,
         state: State::At(Spot::Before(Part::AnyItem)),
         depth: 0,
     };

@@ -12,7 +12,7 @@ ghost use Rattle.declarations.specs.Attribute.{AreArgs, IsAttributeAt, after_pat
 ghost use Rattle.declarations.specs.Attribute.{doc_of, inside, is_bracket, is_inner, is_named, is_outer, is_word};
 ghost use Rattle.declarations.specs.Attribute.{literal_after, only_literal, parts_of, path_of};
 
-use crate::bare::{bared, has_no_delimiters, inside_of};
+use crate::bare::{bare_trees, has_no_delimiters, inside_of};
 use crate::item::split_group;
 use pm_stream::{Group, TokenTree};
 use pm_token::{Delimiter, Literal, Punct, Spacing};
@@ -210,7 +210,7 @@ impl<'a> Attribute<'a> {
 pub(crate) fn is_named(trees: &[TokenTree], word: &str) -> bool
     ensures { result ≡ is_named trees.now (spelled word.now) }
 {
-    is_word(bared(trees), word)
+    is_word(bare_trees(trees), word)
 }
 
 /// Whether the trees are this one identifier.
@@ -228,7 +228,7 @@ fn literal_after(trees: &[TokenTree]) -> Option<&Literal>
     ensures { option_copied result ≡ literal_after trees.now }
 {
     match trees.split_first() {
-        Some((TokenTree::Punct(mark), value)) if is_equals(mark) => only_literal(bared(value)),
+        Some((TokenTree::Punct(mark), value)) if is_equals(mark) => only_literal(bare_trees(value)),
         _ => None,
     }
 }

@@ -1,6 +1,6 @@
 //! Groups without delimiters, in which a macro by example passes a fragment.
 ghost use Rattle.std.specs.Prelude.{◌≡◌, option_copied};
-ghost use Rattle.declarations.specs.Bare.{bared, has_no_delimiters, held_alone, held_by, innermost, inside_of};
+ghost use Rattle.declarations.specs.Bare.{bare_trees, has_no_delimiters, held_alone, held_by, innermost, inside_of};
 
 use pm_stream::{Group, TokenStream, TokenTree};
 use pm_token::Delimiter;
@@ -57,8 +57,8 @@ pub(crate) fn inside_of(group: &Group) -> &[TokenTree]
 }
 
 /// The trees; or if they are one group without delimiters, the trees in the innermost of such groups.
-pub(crate) fn bared(trees: &[TokenTree]) -> &[TokenTree]
-    ensures { result.now ≡ bared trees.now }
+pub(crate) fn bare_trees(trees: &[TokenTree]) -> &[TokenTree]
+    ensures { result.now ≡ bare_trees trees.now }
 {
     match trees {
         [TokenTree::Group(group)] if has_no_delimiters(group.delimiter()) => inside_of(group),

@@ -20,17 +20,17 @@ ghost use Rattle.declarations.specs.rules.Entries.{literal_entry, more_segments,
 ghost use Rattle.declarations.specs.rules.Expressions.{expression};
 ghost use Rattle.declarations.specs.rules.Names.{one};
 ghost use Rattle.declarations.specs.rules.Pieces.{ByRule};
-ghost use Rattle.declarations.specs.declared.class.Class.TheVariants as signs;
+ghost use Rattle.declarations.specs.declared.class.SignClass.TheVariants as signs;
 
 use crate::attribute::is_named;
-use crate::bare::{bared, has_no_delimiters, inside_of};
-use crate::class::Class;
+use crate::bare::{bare_trees, has_no_delimiters, inside_of};
+use crate::class::SignClass;
 use crate::fault::Fault;
 use crate::item::split_group;
-use crate::place::{Item, Place, Rule, Spot, State};
 use crate::reader::{begins, is, part, past};
 use crate::signs::first_sign;
 use crate::walk::walk_past;
+use crate::walk_state::{Continuation, Item, Spot, State, WalkState};
 use pm_span::Span;
 use pm_stream::{Group, TokenTree};
 use pm_token::Ident;
@@ -200,7 +200,7 @@ impl<'a> Entry<'a> {
     pub fn name(&self) -> Option<&'a Ident>
         ensures { option_copied result ≡ sole_name self.now.path.now }
     {
-        only_name(bared(self.path))
+        only_name(bare_trees(self.path))
     }
 
     /// Returns the span of the first tree. An entry that a call of this crate returned always has one. For an entry in
@@ -307,13 +307,13 @@ fn whole_plain_entry(trees: &[TokenTree]) -> Result<Entry<'_>, Fault>
     }
 }
 
-fn is_segment(class: Class) -> bool
+fn is_segment(class: SignClass) -> bool
     ensures { result ≡ is_entry_segment class }
 {
     match class {
-        Class::Word(_) | Class::Keyword(_) => true,
-        Class::SelfValue | Class::SelfType | Class::Super | Class::Crate => true,
-        Class::As | Class::Await | Class::Jump => true,
+        SignClass::Word(_) | SignClass::Keyword(_) => true,
+        SignClass::SelfValue | SignClass::SelfType | SignClass::Super | SignClass::Crate => true,
+        SignClass::As | SignClass::Await | SignClass::Jump => true,
         _ => false,
     }
 }
@@ -340,8 +340,8 @@ fn segment(trees: &[TokenTree]) -> Result<&[TokenTree], &[TokenTree]>
 fn separator(trees: &[TokenTree]) -> Result<&[TokenTree], &[TokenTree]>
     ensures { ReadsRule (perhaps (one signs.PathSeparator)) trees.now result }
 {
-    if begins(trees, Class::PathSeparator) {
-        past(trees, Class::PathSeparator)
+    if begins(trees, SignClass::PathSeparator) {
+        past(trees, SignClass::PathSeparator)
     } else {
         Ok(trees)
     }
@@ -352,7 +352,7 @@ fn separator(trees: &[TokenTree]) -> Result<&[TokenTree], &[TokenTree]>
 fn next_segment(trees: &[TokenTree]) -> Result<&[TokenTree], &[TokenTree]>
     ensures { ReadsRule next_segment trees.now result }
 {
-    segment(past(trees, Class::PathSeparator)?)
+    segment(past(trees, SignClass::PathSeparator)?)
 }
 
 /// Skips more segments, each after `::`.
@@ -360,7 +360,7 @@ fn more_segments(trees: &[TokenTree]) -> Result<&[TokenTree], &[TokenTree]>
     ensures { ReadsRule more_segments trees.now result }
 {
     let mut left = trees;
-    while begins(left, Class::PathSeparator) {
+    while begins(left, SignClass::PathSeparator) {
         match next_segment(left) {
             Ok(next) => left = next,
             Err(fault) => return Err(fault),
@@ -385,11 +385,11 @@ fn entry_path(trees: &[TokenTree]) -> Result<&[TokenTree], &[TokenTree]>
     segments(separator(trees)?)
 }
 
-fn is_literal(class: Class) -> bool
+fn is_literal(class: SignClass) -> bool
     ensures { result ≡ is_literal class }
 {
     match class {
-        Class::Literal | Class::Truth => true,
+        SignClass::Literal | SignClass::Truth => true,
         _ => false,
     }
 }
@@ -416,8 +416,8 @@ fn plain_literal(trees: &[TokenTree]) -> Result<&[TokenTree], &[TokenTree]>
 fn literal(trees: &[TokenTree]) -> Result<&[TokenTree], &[TokenTree]>
     ensures { ReadsRule entry_literal trees.now result }
 {
-    if begins(trees, Class::Minus) {
-        past(past(trees, Class::Minus)?, Class::Literal)
+    if begins(trees, SignClass::Minus) {
+        past(past(trees, SignClass::Minus)?, SignClass::Literal)
     } else {
         plain_literal(trees)
     }
@@ -428,9 +428,9 @@ fn literal(trees: &[TokenTree]) -> Result<&[TokenTree], &[TokenTree]>
 fn past_expression(trees: &[TokenTree]) -> Result<&[TokenTree], &[TokenTree]>
     ensures { ReadsRule expression trees.now result }
 {
-    let start = Place {
+    let start = WalkState {
         item: Item::Alone,
-        rule: Rule::Alone,
+        rule: Continuation::Alone,
         state: State::At(Spot::Expression),
         depth: 0,
     };
@@ -438,11 +438,11 @@ fn past_expression(trees: &[TokenTree]) -> Result<&[TokenTree], &[TokenTree]>
 }
 
 /// Whether the sign can go on after an operand but can begin no value: `=`, `>` or `->`.
-fn continues(class: Class) -> bool
+fn continues(class: SignClass) -> bool
     ensures { result ≡ continues class }
 {
     match class {
-        Class::Equals | Class::Greater | Class::Arrow => true,
+        SignClass::Equals | SignClass::Greater | SignClass::Arrow => true,
         _ => false,
     }
 }
@@ -503,7 +503,7 @@ fn value_of(trees: &[TokenTree]) -> Result<(EntryKind<'_>, &[TokenTree]), &[Toke
 {
     match first_sign(trees) {
         Some((class, from_value)) => {
-            if is(Class::Equals, class) {
+            if is(SignClass::Equals, class) {
                 match past_value(from_value) {
                     Ok(rest) => Ok((EntryKind::Value(part(from_value, rest)), rest)),
                     Err(left) => Err(left),
@@ -517,11 +517,11 @@ fn value_of(trees: &[TokenTree]) -> Result<(EntryKind<'_>, &[TokenTree]), &[Toke
 }
 
 /// Whether a literal can begin with a sign of this class.
-fn begins_literal(class: Class) -> bool
+fn begins_literal(class: SignClass) -> bool
     ensures { result ≡ may_begin literal_entry class }
 {
     match class {
-        Class::Minus | Class::Literal | Class::Truth => true,
+        SignClass::Minus | SignClass::Literal | SignClass::Truth => true,
         _ => false,
     }
 }

@@ -3,7 +3,7 @@ ghost use Rattle.std.specs.Prelude.{◌≡◌, ℕ, ◌≤◌, [], IfErr, List, 
 ghost use Rattle.std.specs.Fmt.{WritesOnOk};
 ghost use Rattle.declarations.specs.Ending.{closing_of, or_extent};
 ghost use Rattle.declarations.specs.EntryCheck.{HasNames, IsEntryError, known_part, more_known, name_part, next_known};
-ghost use Rattle.declarations.specs.EntryCheck.{number_of, place_of, quoted};
+ghost use Rattle.declarations.specs.EntryCheck.{number_of, place_of, in_backticks};
 
 use crate::entry::{Entry, spot_of};
 use crate::entry_list::first_entry;
@@ -237,7 +237,7 @@ fn write_next<W: fmt::Write>(word: &str, f: &mut fmt::Formatter<W>) -> fmt::Resu
 
 /// Writes a name in backticks.
 fn write_quoted<W: fmt::Write>(word: &str, f: &mut fmt::Formatter<W>) -> fmt::Result
-    ensures { WritesOnOk W.write_str_gives f.old result (quoted word.now) f.new }
+    ensures { WritesOnOk W.write_str_gives f.old result (in_backticks word.now) f.new }
 {
     f.write_str("`")?;
     f.write_str(word)?;

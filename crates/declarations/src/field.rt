@@ -8,7 +8,7 @@ ghost use Rattle.declarations.specs.Whole.{ReadsAll};
 
 use crate::fault::Fault;
 use crate::item::split_name;
-use crate::parts::{split_attributes, split_field, split_tuple_field, split_visibility};
+use crate::part_splitting::{split_attributes, split_field, split_tuple_field, split_visibility};
 use pm_stream::TokenTree;
 use pm_token::Ident;
 

@@ -11,9 +11,9 @@ ghost use Rattle.declarations.specs.Whole.{IsWhole, ReadsAll};
 
 use crate::any_item::{AnyItem, ItemKind, split_any_item};
 use crate::fault::Fault;
-use crate::parts::split_inner_attributes;
-use crate::place::{Item, Part, Place, Rule, Spot, State};
+use crate::part_splitting::split_inner_attributes;
 use crate::walk::read_whole;
+use crate::walk_state::{Continuation, Item, Part, Spot, State, WalkState};
 use pm_stream::{Group, TokenTree};
 use pm_token::Delimiter;
 
@@ -79,14 +79,14 @@ pub fn parse_file(trees: &[TokenTree]) -> Result<File<'_>, Fault>
 pub fn parse_item(trees: &[TokenTree]) -> Result<AnyItem<'_>, Fault>
     ensures ok { IfOk result (λ item. ReadsAll IsAnyItem trees.now × (item.trees.now ≡ trees.now)) }
     // The kind and the name are those that the walk over the item's signs finds.
-    ensures told { IfOk result (λ item. (name : Option Name) × Tells trees.now [] item.kind name
+    ensures kind_and_name { IfOk result (λ item. (name : Option Name) × Tells trees.now [] item.kind name
         × MatchOption item.name (name ≡ None) (λ ident. name ≡ Some ident.now)) }
     ensures fault { IfErr result (λ fault. FaultAt (IsWhole IsAnyItem) trees.now fault.at) }
     ensures span { IfErr result (λ fault. fault.span ≡ extent_at trees.now fault.at) }
 {
-    let start = Place {
+    let start = WalkState {
         item: Item::Alone,
-        rule: Rule::Alone,
+        rule: Continuation::Alone,
         state: State::At(Spot::Before(Part::AnyItem)),
         depth: 0,
     };

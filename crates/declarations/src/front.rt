@@ -4,26 +4,26 @@ ghost use Rattle.declarations.specs.Front.{async_front, auto_front, call_group, 
 ghost use Rattle.declarations.specs.Front.{const_front, const_safe, crate_name, declaration, default_front};
 ghost use Rattle.declarations.specs.Front.{default_unsafe, extern_abi, extern_front, front_names, front_step};
 ghost use Rattle.declarations.specs.Front.{front_type, function_extern, impl_angle, impl_const, impl_front};
-ghost use Rattle.declarations.specs.Front.{impl_word, item_keyword, item_word, macro_parameters, qualified, rename};
-ghost use Rattle.declarations.specs.Front.{renamed, safe_front, static_front, type_item, unmarked_item};
+ghost use Rattle.declarations.specs.Front.{impl_word, item_keyword, item_word, macro_parameters, before_fn, rename};
+ghost use Rattle.declarations.specs.Front.{after_renaming_name, safe_front, static_front, type_item, unmarked_item};
 ghost use Rattle.declarations.specs.Front.{unsafe_extern, unsafe_front, until, until_first, use_front, use_path};
 ghost use Rattle.declarations.specs.Front.{use_segment};
 
-use crate::class::{Class, Keyword, Word};
+use crate::class::{Keyword, SignClass, Word};
 use crate::header::{body, generics, header, impl_header};
-use crate::place::{
-    Front, Item, Part, Rule, Shift, Spot, State, TypeStart, close_to, to_front, to_spot, turn_to,
-    type_from,
-};
 use crate::types::{Turn, TypeState};
+use crate::walk_state::{
+    Continuation, Front, Item, Part, Shift, Spot, State, TypeStart, close_to, to_front, to_spot,
+    turn_to, type_from,
+};
 
 /// The step before `fn` or `extern`, in what must be a function.
-fn qualified(class: Class) -> Option<Shift>
-    ensures { result ≡ qualified class }
+fn before_fn(class: SignClass) -> Option<Shift>
+    ensures { result ≡ before_fn class }
 {
     match class {
-        Class::Keyword(Keyword::Extern) => to_front(Item::Function, Front::FunctionExtern),
-        Class::Keyword(Keyword::Fn) => to_spot(Item::Function, Spot::Name),
+        SignClass::Keyword(Keyword::Extern) => to_front(Item::Function, Front::FunctionExtern),
+        SignClass::Keyword(Keyword::Fn) => to_spot(Item::Function, Spot::Name),
         _ => None,
     }
 }
@@ -65,203 +65,203 @@ fn item_word(word: Word) -> Option<Shift>
 }
 
 /// The step after the visibility of an item.
-pub(crate) fn declaration(class: Class) -> Option<Shift>
+pub(crate) fn declaration(class: SignClass) -> Option<Shift>
     ensures { result ≡ declaration class }
 {
     match class {
-        Class::Keyword(keyword) => item_keyword(keyword),
-        Class::Word(word) => item_word(word),
+        SignClass::Keyword(keyword) => item_keyword(keyword),
+        SignClass::Word(word) => item_word(word),
         _ => None,
     }
 }
 
 /// The step where an item begins without a visibility. It may be a macro call, or a group without delimiters.
-pub(crate) fn unmarked_item(class: Class) -> Option<Shift>
+pub(crate) fn unmarked_item(class: SignClass) -> Option<Shift>
     ensures { result ≡ unmarked_item class }
 {
     match class {
-        Class::Word(word) => to_front(Item::Call, Front::CallWord(word)),
-        Class::SelfValue | Class::Super | Class::Crate => to_front(
+        SignClass::Word(word) => to_front(Item::Call, Front::CallWord(word)),
+        SignClass::SelfValue | SignClass::Super | SignClass::Crate => to_front(
             Item::Call,
             Front::CallWord(Word::Plain),
         ),
-        Class::PathSeparator => to_front(Item::Call, Front::CallPath),
-        Class::Invisible => to_spot(Item::Group, Spot::ItemEnd),
+        SignClass::PathSeparator => to_front(Item::Call, Front::CallPath),
+        SignClass::Invisible => to_spot(Item::Group, Spot::ItemEnd),
         _ => declaration(class),
     }
 }
 
 /// The step where a struct, an enum or a union begins, after its visibility.
-pub(crate) fn type_item(class: Class) -> Option<Shift>
+pub(crate) fn type_item(class: SignClass) -> Option<Shift>
     ensures { result ≡ type_item class }
 {
     match class {
-        Class::Keyword(Keyword::Struct) => to_spot(Item::Struct, Spot::Name),
-        Class::Keyword(Keyword::Enum) => to_spot(Item::Enum, Spot::Name),
-        Class::Word(Word::Union) => to_spot(Item::Union, Spot::Name),
+        SignClass::Keyword(Keyword::Struct) => to_spot(Item::Struct, Spot::Name),
+        SignClass::Keyword(Keyword::Enum) => to_spot(Item::Enum, Spot::Name),
+        SignClass::Word(Word::Union) => to_spot(Item::Union, Spot::Name),
         _ => None,
     }
 }
 
-fn auto_front(class: Class) -> Option<Shift>
+fn auto_front(class: SignClass) -> Option<Shift>
     ensures { result ≡ auto_front class }
 {
     match class {
-        Class::Keyword(Keyword::Trait) => to_spot(Item::Trait, Spot::Name),
+        SignClass::Keyword(Keyword::Trait) => to_spot(Item::Trait, Spot::Name),
         _ => None,
     }
 }
 
-fn default_front(class: Class) -> Option<Shift>
+fn default_front(class: SignClass) -> Option<Shift>
     ensures { result ≡ default_front class }
 {
     match class {
-        Class::Keyword(Keyword::Async) => to_front(Item::Function, Front::Async),
-        Class::Keyword(Keyword::Const) => to_front(Item::Constant, Front::Const),
-        Class::Keyword(Keyword::Impl) => to_front(Item::Impl, Front::Impl),
-        Class::Keyword(Keyword::Type) => to_spot(Item::Alias, Spot::Name),
-        Class::Keyword(Keyword::Unsafe) => to_front(Item::Function, Front::DefaultUnsafe),
-        Class::Word(Word::Safe) => to_front(Item::Function, Front::Qualified),
-        _ => qualified(class),
+        SignClass::Keyword(Keyword::Async) => to_front(Item::Function, Front::Async),
+        SignClass::Keyword(Keyword::Const) => to_front(Item::Constant, Front::Const),
+        SignClass::Keyword(Keyword::Impl) => to_front(Item::Impl, Front::Impl),
+        SignClass::Keyword(Keyword::Type) => to_spot(Item::Alias, Spot::Name),
+        SignClass::Keyword(Keyword::Unsafe) => to_front(Item::Function, Front::DefaultUnsafe),
+        SignClass::Word(Word::Safe) => to_front(Item::Function, Front::Qualified),
+        _ => before_fn(class),
     }
 }
 
-fn default_unsafe(class: Class) -> Option<Shift>
+fn default_unsafe(class: SignClass) -> Option<Shift>
     ensures { result ≡ default_unsafe class }
 {
     match class {
-        Class::Keyword(Keyword::Impl) => to_front(Item::Impl, Front::Impl),
-        _ => qualified(class),
+        SignClass::Keyword(Keyword::Impl) => to_front(Item::Impl, Front::Impl),
+        _ => before_fn(class),
     }
 }
 
-fn safe_front(class: Class) -> Option<Shift>
+fn safe_front(class: SignClass) -> Option<Shift>
     ensures { result ≡ safe_front class }
 {
     match class {
-        Class::Keyword(Keyword::Static) => to_front(Item::Static, Front::Static),
-        _ => qualified(class),
+        SignClass::Keyword(Keyword::Static) => to_front(Item::Static, Front::Static),
+        _ => before_fn(class),
     }
 }
 
-fn async_front(class: Class) -> Option<Shift>
+fn async_front(class: SignClass) -> Option<Shift>
     ensures { result ≡ async_front class }
 {
     match class {
-        Class::Keyword(Keyword::Unsafe) | Class::Word(Word::Safe) => to_front(
+        SignClass::Keyword(Keyword::Unsafe) | SignClass::Word(Word::Safe) => to_front(
             Item::Function,
             Front::Qualified,
         ),
-        _ => qualified(class),
+        _ => before_fn(class),
     }
 }
 
 /// The step after `const`. A `safe` may be the constant's name, or belong to a function.
-fn const_front(class: Class) -> Option<Shift>
+fn const_front(class: SignClass) -> Option<Shift>
     ensures { result ≡ const_front class }
 {
     match class {
-        Class::Keyword(Keyword::Async) => to_front(Item::Function, Front::Async),
-        Class::Keyword(Keyword::Unsafe) => to_front(Item::Function, Front::Qualified),
-        Class::Word(Word::Safe) => to_front(Item::Constant, Front::ConstSafe),
-        Class::Word(_) | Class::Underscore => to_spot(Item::Constant, Spot::Generics),
-        _ => qualified(class),
+        SignClass::Keyword(Keyword::Async) => to_front(Item::Function, Front::Async),
+        SignClass::Keyword(Keyword::Unsafe) => to_front(Item::Function, Front::Qualified),
+        SignClass::Word(Word::Safe) => to_front(Item::Constant, Front::ConstSafe),
+        SignClass::Word(_) | SignClass::Underscore => to_spot(Item::Constant, Spot::Generics),
+        _ => before_fn(class),
     }
 }
 
-fn const_safe(class: Class) -> Option<Shift>
+fn const_safe(class: SignClass) -> Option<Shift>
     ensures { result ≡ const_safe class }
 {
     match class {
-        Class::Keyword(_) => qualified(class),
+        SignClass::Keyword(_) => before_fn(class),
         _ => generics(Item::Constant, class),
     }
 }
 
 /// The step after `extern` and its ABI, if it has one.
-fn extern_abi(class: Class) -> Option<Shift>
+fn extern_abi(class: SignClass) -> Option<Shift>
     ensures { result ≡ extern_abi class }
 {
     match class {
-        Class::Keyword(Keyword::Fn) => to_spot(Item::Function, Spot::Name),
+        SignClass::Keyword(Keyword::Fn) => to_spot(Item::Function, Spot::Name),
         _ => body(Item::ExternBlock, class),
     }
 }
 
-fn unsafe_extern(class: Class) -> Option<Shift>
+fn unsafe_extern(class: SignClass) -> Option<Shift>
     ensures { result ≡ unsafe_extern class }
 {
     match class {
-        Class::Literal => to_front(Item::ExternBlock, Front::ExternAbi),
+        SignClass::Literal => to_front(Item::ExternBlock, Front::ExternAbi),
         _ => extern_abi(class),
     }
 }
 
-fn extern_front(class: Class) -> Option<Shift>
+fn extern_front(class: SignClass) -> Option<Shift>
     ensures { result ≡ extern_front class }
 {
     match class {
-        Class::Crate => to_front(Item::ExternCrate, Front::CrateName),
+        SignClass::Crate => to_front(Item::ExternCrate, Front::CrateName),
         _ => unsafe_extern(class),
     }
 }
 
 /// The step after the `extern` of what must be a function.
-fn function_extern(class: Class) -> Option<Shift>
+fn function_extern(class: SignClass) -> Option<Shift>
     ensures { result ≡ function_extern class }
 {
     match class {
-        Class::Literal => to_front(Item::Function, Front::FunctionAbi),
-        Class::Keyword(Keyword::Fn) => to_spot(Item::Function, Spot::Name),
+        SignClass::Literal => to_front(Item::Function, Front::FunctionAbi),
+        SignClass::Keyword(Keyword::Fn) => to_spot(Item::Function, Spot::Name),
         _ => None,
     }
 }
 
-fn unsafe_front(class: Class) -> Option<Shift>
+fn unsafe_front(class: SignClass) -> Option<Shift>
     ensures { result ≡ unsafe_front class }
 {
     match class {
-        Class::Keyword(Keyword::Extern) => to_front(Item::ExternBlock, Front::UnsafeExtern),
-        Class::Keyword(Keyword::Fn) => to_spot(Item::Function, Spot::Name),
-        Class::Keyword(Keyword::Impl) => to_front(Item::Impl, Front::Impl),
-        Class::Keyword(Keyword::Mod) => to_front(Item::Module, Front::PlainName),
-        Class::Keyword(Keyword::Static) => to_front(Item::Static, Front::Static),
-        Class::Keyword(Keyword::Trait) => to_spot(Item::Trait, Spot::Name),
-        Class::Word(Word::Auto) => to_front(Item::Trait, Front::Auto),
+        SignClass::Keyword(Keyword::Extern) => to_front(Item::ExternBlock, Front::UnsafeExtern),
+        SignClass::Keyword(Keyword::Fn) => to_spot(Item::Function, Spot::Name),
+        SignClass::Keyword(Keyword::Impl) => to_front(Item::Impl, Front::Impl),
+        SignClass::Keyword(Keyword::Mod) => to_front(Item::Module, Front::PlainName),
+        SignClass::Keyword(Keyword::Static) => to_front(Item::Static, Front::Static),
+        SignClass::Keyword(Keyword::Trait) => to_spot(Item::Trait, Spot::Name),
+        SignClass::Word(Word::Auto) => to_front(Item::Trait, Front::Auto),
         _ => None,
     }
 }
 
-fn static_front(class: Class) -> Option<Shift>
+fn static_front(class: SignClass) -> Option<Shift>
     ensures { result ≡ static_front class }
 {
     match class {
-        Class::Keyword(Keyword::Mut) => to_front(Item::Static, Front::PlainName),
-        Class::Word(_) => to_spot(Item::Static, Spot::AfterGenerics),
+        SignClass::Keyword(Keyword::Mut) => to_front(Item::Static, Front::PlainName),
+        SignClass::Word(_) => to_spot(Item::Static, Spot::AfterGenerics),
         _ => None,
     }
 }
 
 /// The step after a first word, which may be in the path of a macro call or begin another item.
-fn call_word(word: Word, class: Class) -> Option<Shift>
+fn call_word(word: Word, class: SignClass) -> Option<Shift>
     ensures { result ≡ call_word word class }
 {
     match (word, class) {
-        (_, Class::Exclamation) => to_front(Item::Call, Front::CallName),
-        (_, Class::PathSeparator) => to_front(Item::Call, Front::CallPath),
+        (_, SignClass::Exclamation) => to_front(Item::Call, Front::CallName),
+        (_, SignClass::PathSeparator) => to_front(Item::Call, Front::CallPath),
         (Word::Auto, _) => auto_front(class),
         (Word::Default, _) => default_front(class),
         (Word::Safe, _) => safe_front(class),
-        (Word::Union, Class::Word(_)) => to_spot(Item::Union, Spot::Generics),
+        (Word::Union, SignClass::Word(_)) => to_spot(Item::Union, Spot::Generics),
         _ => None,
     }
 }
 
-fn call_path(class: Class) -> Option<Shift>
+fn call_path(class: SignClass) -> Option<Shift>
     ensures { result ≡ call_path class }
 {
     match class {
-        Class::Word(_) | Class::SelfValue | Class::Super | Class::Crate => to_front(
+        SignClass::Word(_) | SignClass::SelfValue | SignClass::Super | SignClass::Crate => to_front(
             Item::Call,
             Front::CallWord(Word::Plain),
         ),
@@ -270,68 +270,68 @@ fn call_path(class: Class) -> Option<Shift>
 }
 
 /// The step before the group of a macro call.
-fn call_group(class: Class) -> Option<Shift>
+fn call_group(class: SignClass) -> Option<Shift>
     ensures { result ≡ call_group class }
 {
     match class {
-        Class::Parentheses | Class::Restriction | Class::Brackets => to_front(
+        SignClass::Parentheses | SignClass::Restriction | SignClass::Brackets => to_front(
             Item::Call,
             Front::Semicolon,
         ),
-        Class::Braces => to_spot(Item::Call, Spot::ItemEnd),
+        SignClass::Braces => to_spot(Item::Call, Spot::ItemEnd),
         _ => None,
     }
 }
 
 /// The step after the `!` of a macro call: a name, as in `macro_rules! name`, or the group of the call.
-fn call_name(class: Class) -> Option<Shift>
+fn call_name(class: SignClass) -> Option<Shift>
     ensures { result ≡ call_name class }
 {
     match class {
-        Class::Word(_) => to_front(Item::Call, Front::CallGroup),
+        SignClass::Word(_) => to_front(Item::Call, Front::CallGroup),
         _ => call_group(class),
     }
 }
 
-fn macro_parameters(class: Class) -> Option<Shift>
+fn macro_parameters(class: SignClass) -> Option<Shift>
     ensures { result ≡ macro_parameters class }
 {
     match class {
-        Class::Parentheses | Class::Restriction => to_front(Item::Macro, Front::MacroBody),
+        SignClass::Parentheses | SignClass::Restriction => to_front(Item::Macro, Front::MacroBody),
         _ => body(Item::Macro, class),
     }
 }
 
 /// The step after `impl <` if the bracket begins generic parameters.
-fn impl_angle(class: Class) -> Option<Shift>
+fn impl_angle(class: SignClass) -> Option<Shift>
     ensures { result ≡ impl_angle class }
 {
     match class {
-        Class::Greater => close_to(Item::Impl, Spot::AfterGenerics),
-        Class::Hash => close_to(Item::Impl, Spot::Hash(Part::Parameter)),
-        Class::Lifetime => close_to(Item::Impl, Spot::LifetimeName),
-        Class::Keyword(Keyword::Const) => close_to(Item::Impl, Spot::ConstName),
-        Class::Word(_) => to_front(Item::Impl, Front::ImplWord),
+        SignClass::Greater => close_to(Item::Impl, Spot::AfterGenerics),
+        SignClass::Hash => close_to(Item::Impl, Spot::Hash(Part::Parameter)),
+        SignClass::Lifetime => close_to(Item::Impl, Spot::LifetimeName),
+        SignClass::Keyword(Keyword::Const) => close_to(Item::Impl, Spot::ConstName),
+        SignClass::Word(_) => to_front(Item::Impl, Front::ImplWord),
         _ => None,
     }
 }
 
 /// The step after `impl <` and a word, if the word is a generic parameter.
-fn impl_word(class: Class) -> Option<Shift>
+fn impl_word(class: SignClass) -> Option<Shift>
     ensures { result ≡ impl_word class }
 {
     match class {
-        Class::Greater => close_to(Item::Impl, Spot::AfterGenerics),
-        Class::Comma => close_to(Item::Impl, Spot::Before(Part::Parameter)),
-        Class::Colon => turn_to(
+        SignClass::Greater => close_to(Item::Impl, Spot::AfterGenerics),
+        SignClass::Comma => close_to(Item::Impl, Spot::Before(Part::Parameter)),
+        SignClass::Colon => turn_to(
             Item::Impl,
-            Rule::TypeParameter,
+            Continuation::TypeParameter,
             State::Range(TypeState::Bound),
             Turn::Close,
         ),
-        Class::Equals => turn_to(
+        SignClass::Equals => turn_to(
             Item::Impl,
-            Rule::Parameter,
+            Continuation::Parameter,
             State::Range(TypeState::Wanted),
             Turn::Close,
         ),
@@ -340,13 +340,13 @@ fn impl_word(class: Class) -> Option<Shift>
 }
 
 /// The step after `impl`, if no type begins there.
-fn impl_front(class: Class) -> Option<Shift>
+fn impl_front(class: SignClass) -> Option<Shift>
     ensures { result ≡ impl_front class }
 {
     match class {
-        Class::Less | Class::LessJoint => turn_to(
+        SignClass::Less | SignClass::LessJoint => turn_to(
             Item::Impl,
-            Rule::Alone,
+            Continuation::Alone,
             State::At(Spot::Front(Front::ImplAngle)),
             Turn::Open,
         ),
@@ -355,95 +355,95 @@ fn impl_front(class: Class) -> Option<Shift>
 }
 
 /// The step after `impl const`, if no type begins there.
-fn impl_const(class: Class) -> Option<Shift>
+fn impl_const(class: SignClass) -> Option<Shift>
     ensures { result ≡ impl_const class }
 {
     match class {
-        Class::Exclamation => to_front(Item::Impl, Front::ImplNot),
+        SignClass::Exclamation => to_front(Item::Impl, Front::ImplNot),
         _ => None,
     }
 }
 
-fn use_path(class: Class) -> Option<Shift>
+fn use_path(class: SignClass) -> Option<Shift>
     ensures { result ≡ use_path class }
 {
     match class {
-        Class::Word(_) | Class::SelfValue | Class::Super | Class::Crate => to_front(
+        SignClass::Word(_) | SignClass::SelfValue | SignClass::Super | SignClass::Crate => to_front(
             Item::Use,
             Front::UseSegment,
         ),
-        Class::Star | Class::Braces => to_front(Item::Use, Front::Semicolon),
+        SignClass::Star | SignClass::Braces => to_front(Item::Use, Front::Semicolon),
         _ => None,
     }
 }
 
-fn use_front(class: Class) -> Option<Shift>
+fn use_front(class: SignClass) -> Option<Shift>
     ensures { result ≡ use_front class }
 {
     match class {
-        Class::PathSeparator => to_front(Item::Use, Front::UsePath),
+        SignClass::PathSeparator => to_front(Item::Use, Front::UsePath),
         _ => use_path(class),
     }
 }
 
 /// The step after a name that `as` may follow.
-fn renamed(item: Item, class: Class) -> Option<Shift>
-    ensures { result ≡ renamed item class }
+fn after_renaming_name(item: Item, class: SignClass) -> Option<Shift>
+    ensures { result ≡ after_renaming_name item class }
 {
     match class {
-        Class::As => to_front(item, Front::Rename),
-        Class::Semicolon => to_spot(item, Spot::ItemEnd),
+        SignClass::As => to_front(item, Front::Rename),
+        SignClass::Semicolon => to_spot(item, Spot::ItemEnd),
         _ => None,
     }
 }
 
-fn use_segment(class: Class) -> Option<Shift>
+fn use_segment(class: SignClass) -> Option<Shift>
     ensures { result ≡ use_segment class }
 {
     match class {
-        Class::PathSeparator => to_front(Item::Use, Front::UsePath),
-        _ => renamed(Item::Use, class),
+        SignClass::PathSeparator => to_front(Item::Use, Front::UsePath),
+        _ => after_renaming_name(Item::Use, class),
     }
 }
 
-fn rename(item: Item, class: Class) -> Option<Shift>
+fn rename(item: Item, class: SignClass) -> Option<Shift>
     ensures { result ≡ rename item class }
 {
     match class {
-        Class::Word(_) | Class::Underscore => to_front(item, Front::Semicolon),
+        SignClass::Word(_) | SignClass::Underscore => to_front(item, Front::Semicolon),
         _ => None,
     }
 }
 
-fn crate_name(class: Class) -> Option<Shift>
+fn crate_name(class: SignClass) -> Option<Shift>
     ensures { result ≡ crate_name class }
 {
     match class {
-        Class::Word(_) | Class::SelfValue => to_front(Item::ExternCrate, Front::CrateNamed),
+        SignClass::Word(_) | SignClass::SelfValue => to_front(Item::ExternCrate, Front::CrateNamed),
         _ => None,
     }
 }
 
-fn until_first(item: Item, class: Class) -> Option<Shift>
+fn until_first(item: Item, class: SignClass) -> Option<Shift>
     ensures { result ≡ until_first item class }
 {
     match class {
-        Class::Semicolon => None,
+        SignClass::Semicolon => None,
         _ => to_front(item, Front::Until),
     }
 }
 
-fn until(item: Item, class: Class) -> Option<Shift>
+fn until(item: Item, class: SignClass) -> Option<Shift>
     ensures { result ≡ until item class }
 {
     match class {
-        Class::Semicolon => to_spot(item, Spot::ItemEnd),
+        SignClass::Semicolon => to_spot(item, Spot::ItemEnd),
         _ => to_front(item, Front::Until),
     }
 }
 
 /// The step before an item's name.
-pub(crate) fn front_step(item: Item, front: Front, class: Class) -> Option<Shift>
+pub(crate) fn front_step(item: Item, front: Front, class: SignClass) -> Option<Shift>
     ensures { result ≡ front_step item front class }
 {
     match (front, class) {
@@ -452,22 +452,25 @@ pub(crate) fn front_step(item: Item, front: Front, class: Class) -> Option<Shift
         (Front::DefaultUnsafe, _) => default_unsafe(class),
         (Front::Safe, _) => safe_front(class),
         (Front::Async, _) => async_front(class),
-        (Front::Qualified, _) => qualified(class),
+        (Front::Qualified, _) => before_fn(class),
         (Front::Const, _) => const_front(class),
         (Front::ConstSafe, _) => const_safe(class),
         (Front::Extern, _) => extern_front(class),
         (Front::UnsafeExtern, _) => unsafe_extern(class),
         (Front::ExternAbi, _) => extern_abi(class),
         (Front::FunctionExtern, _) => function_extern(class),
-        (Front::FunctionAbi, Class::Keyword(Keyword::Fn)) => to_spot(Item::Function, Spot::Name),
+        (Front::FunctionAbi, SignClass::Keyword(Keyword::Fn)) => to_spot(
+            Item::Function,
+            Spot::Name,
+        ),
         (Front::Unsafe, _) => unsafe_front(class),
         (Front::Static, _) => static_front(class),
-        (Front::PlainName, Class::Word(_)) => to_spot(item, Spot::AfterGenerics),
+        (Front::PlainName, SignClass::Word(_)) => to_spot(item, Spot::AfterGenerics),
         (Front::CallWord(word), _) => call_word(word, class),
         (Front::CallPath, _) => call_path(class),
         (Front::CallName, _) => call_name(class),
         (Front::CallGroup, _) => call_group(class),
-        (Front::MacroName, Class::Word(_)) => to_front(Item::Macro, Front::MacroParameters),
+        (Front::MacroName, SignClass::Word(_)) => to_front(Item::Macro, Front::MacroParameters),
         (Front::MacroParameters, _) => macro_parameters(class),
         (Front::MacroBody, _) => body(Item::Macro, class),
         (Front::Impl, _) => impl_front(class),
@@ -479,11 +482,11 @@ pub(crate) fn front_step(item: Item, front: Front, class: Class) -> Option<Shift
         (Front::UsePath, _) => use_path(class),
         (Front::UseSegment, _) => use_segment(class),
         (Front::CrateName, _) => crate_name(class),
-        (Front::CrateNamed, _) => renamed(item, class),
+        (Front::CrateNamed, _) => after_renaming_name(item, class),
         (Front::Rename, _) => rename(item, class),
         (Front::UntilFirst, _) => until_first(item, class),
         (Front::Until, _) => until(item, class),
-        (Front::Semicolon, Class::Semicolon) => to_spot(item, Spot::ItemEnd),
+        (Front::Semicolon, SignClass::Semicolon) => to_spot(item, Spot::ItemEnd),
         _ => None,
     }
 }
@@ -494,9 +497,9 @@ pub(crate) fn front_type(front: Front) -> Option<TypeStart>
 {
     match front {
         Front::Impl | Front::ImplAngle | Front::ImplConst | Front::ImplNot => {
-            type_from(Rule::Target, TypeState::Wanted)
+            type_from(Continuation::Target, TypeState::Wanted)
         }
-        Front::ImplWord => type_from(Rule::Target, TypeState::Whole),
+        Front::ImplWord => type_from(Continuation::Target, TypeState::Whole),
         _ => None,
     }
 }

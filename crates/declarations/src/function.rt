@@ -13,19 +13,19 @@ ghost use Rattle.declarations.specs.Whole.{IsWhole};
 ghost use Rattle.declarations.specs.rules.Bodies.{body_end, returning};
 ghost use Rattle.declarations.specs.rules.Classes.{is_round, is_word};
 ghost use Rattle.declarations.specs.rules.Fronts.{is_safe};
-ghost use Rattle.declarations.specs.rules.Functions.{abi, function_item, qualifiers, returned};
+ghost use Rattle.declarations.specs.rules.Functions.{abi, function_item, qualifiers, return_type_rule};
 ghost use Rattle.declarations.specs.rules.Names.{one, word};
 ghost use Rattle.declarations.specs.rules.Parts.{generics, visibility, where_clause};
 ghost use Rattle.declarations.specs.rules.Pieces.{ByRule};
 
-use crate::class::{Class, Keyword, Word};
+use crate::class::{Keyword, SignClass, Word};
 use crate::fault::Fault;
 use crate::item::{split_group, split_name, split_parentheses};
 use crate::parameter::{past_attributes, past_type};
-use crate::place::{Item, Place, Rule, Spot, State};
 use crate::reader::{begins_identifier, begins_mark, is, part, past};
 use crate::signs::{first_sign, name_class};
 use crate::walk::walk_past;
+use crate::walk_state::{Continuation, Item, Spot, State, WalkState};
 use pm_stream::{Group, TokenTree};
 use pm_token::{Delimiter, Ident};
 
@@ -94,7 +94,7 @@ fn function_of(trees: &[TokenTree]) -> Result<(Function<'_>, &[TokenTree]), &[To
     let from_visibility = past_attributes(trees)?;
     let from_qualifiers = past_visibility(from_visibility)?;
     let from_fn = past_qualifiers(from_qualifiers);
-    let from_name = past(from_fn, Class::Keyword(Keyword::Fn))?;
+    let from_name = past(from_fn, SignClass::Keyword(Keyword::Fn))?;
     let (name, from_generics) = name_of(from_name)?;
     let from_parameters = past_generics(from_generics)?;
     let (parameters, from_return) = parentheses_of(from_parameters)?;
@@ -122,10 +122,10 @@ pub(crate) fn past_visibility(trees: &[TokenTree]) -> Result<&[TokenTree], &[Tok
 {
     match first_sign(trees) {
         Some((class, rest)) => {
-            if is(Class::Keyword(Keyword::Pub), class) {
-                return Ok(may(rest, Class::Restriction));
+            if is(SignClass::Keyword(Keyword::Pub), class) {
+                return Ok(may(rest, SignClass::Restriction));
             }
-            if is(Class::Visibility, class) {
+            if is(SignClass::Visibility, class) {
                 return Ok(rest);
             }
             Ok(trees)
@@ -150,9 +150,9 @@ pub(crate) fn past_generics(trees: &[TokenTree]) -> Result<&[TokenTree], &[Token
 fn walk_generics(trees: &[TokenTree]) -> Result<&[TokenTree], &[TokenTree]>
     ensures { ReadsRule generics trees.now result }
 {
-    let start = Place {
+    let start = WalkState {
         item: Item::Alone,
-        rule: Rule::Alone,
+        rule: Continuation::Alone,
         state: State::At(Spot::Generics),
         depth: 0,
     };
@@ -175,9 +175,9 @@ pub(crate) fn past_where(trees: &[TokenTree]) -> Result<&[TokenTree], &[TokenTre
 fn walk_where(trees: &[TokenTree]) -> Result<&[TokenTree], &[TokenTree]>
     ensures { ReadsRule where_clause trees.now result }
 {
-    let start = Place {
+    let start = WalkState {
         item: Item::Alone,
-        rule: Rule::Alone,
+        rule: Continuation::Alone,
         state: State::At(Spot::Where),
         depth: 0,
     };
@@ -188,7 +188,7 @@ fn walk_where(trees: &[TokenTree]) -> Result<&[TokenTree], &[TokenTree]>
 
 /// Skips a sign of this class, if one is next.
 #[tactic(auto, using(crate::proofs::FunctionPartLemmas::options))]
-pub(crate) fn may(trees: &[TokenTree], class: Class) -> &[TokenTree]
+pub(crate) fn may(trees: &[TokenTree], class: SignClass) -> &[TokenTree]
     ensures { Finds (perhaps (one class)) trees.now result.now }
 {
     match first_sign(trees) {
@@ -198,11 +198,11 @@ pub(crate) fn may(trees: &[TokenTree], class: Class) -> &[TokenTree]
 }
 
 /// Whether the sign is `unsafe` or `safe`.
-fn is_safe(class: Class) -> bool
+fn is_safe(class: SignClass) -> bool
     ensures { result ≡ is_safe class }
 {
     match class {
-        Class::Keyword(Keyword::Unsafe) | Class::Word(Word::Safe) => true,
+        SignClass::Keyword(Keyword::Unsafe) | SignClass::Word(Word::Safe) => true,
         _ => false,
     }
 }
@@ -225,8 +225,8 @@ fn may_abi(trees: &[TokenTree]) -> &[TokenTree]
 {
     match first_sign(trees) {
         Some((found, rest)) => {
-            if is(Class::Keyword(Keyword::Extern), found) {
-                may(rest, Class::Literal)
+            if is(SignClass::Keyword(Keyword::Extern), found) {
+                may(rest, SignClass::Literal)
             } else {
                 trees
             }
@@ -240,20 +240,20 @@ fn may_abi(trees: &[TokenTree]) -> &[TokenTree]
 fn past_qualifiers(trees: &[TokenTree]) -> &[TokenTree]
     ensures { Finds qualifiers trees.now result.now }
 {
-    let after_default = may(trees, Class::Word(Word::Default));
-    let after_const = may(after_default, Class::Keyword(Keyword::Const));
-    let after_async = may(after_const, Class::Keyword(Keyword::Async));
+    let after_default = may(trees, SignClass::Word(Word::Default));
+    let after_const = may(after_default, SignClass::Keyword(Keyword::Const));
+    let after_async = may(after_const, SignClass::Keyword(Keyword::Async));
     may_abi(may_safe(after_async))
 }
 
 // ---- the name and the parameters
 
 /// Whether the sign can name a function. A keyword cannot.
-pub(crate) fn is_name(class: Class) -> bool
+pub(crate) fn is_name(class: SignClass) -> bool
     ensures { result ≡ is_word class }
 {
     match class {
-        Class::Word(_) => true,
+        SignClass::Word(_) => true,
         _ => false,
     }
 }
@@ -320,12 +320,12 @@ fn end_of(trees: &[TokenTree]) -> Result<(End<'_>, &[TokenTree]), &[TokenTree]>
 /// Reads `->` and a type, if `->` is next. Returns the type, or no trees, and the trees after it.
 #[tactic(auto, using(crate::proofs::FunctionPartLemmas::returns))]
 pub(crate) fn return_of(trees: &[TokenTree]) -> Result<(&[TokenTree], &[TokenTree]), &[TokenTree]>
-    ensures { MatchResult result (λ found. Finds returned trees.now found.1.now
-        × HasReturn trees.now found.0.now found.1.now) (λ left. Sticks returned trees.now left.now) }
+    ensures { MatchResult result (λ found. Finds return_type_rule trees.now found.1.now
+        × HasReturn trees.now found.0.now found.1.now) (λ left. Sticks return_type_rule trees.now left.now) }
 {
     match first_sign(trees) {
         Some((class, from_type)) => {
-            if is(Class::Arrow, class) {
+            if is(SignClass::Arrow, class) {
                 match past_type(from_type) {
                     Ok(rest) => Ok((part(from_type, rest), rest)),
                     Err(left) => Err(left),
@@ -349,7 +349,7 @@ fn body_of(trees: &[TokenTree]) -> Result<(Option<&Group>, &[TokenTree]), &[Toke
     }
     match first_sign(trees) {
         Some((class, rest)) => {
-            if is(Class::Semicolon, class) {
+            if is(SignClass::Semicolon, class) {
                 Ok((None, rest))
             } else {
                 Err(trees)

@@ -14,9 +14,9 @@ ghost use Rattle.declarations.specs.rules.Paths.{word_argument, word_type};
 ghost use Rattle.declarations.specs.rules.Pieces.{ByRule};
 ghost use Rattle.declarations.specs.rules.Names.{one};
 ghost use Rattle.declarations.specs.rules.Types.{bounds, type};
-ghost use Rattle.declarations.specs.declared.class.Class.TheVariants as signs;
+ghost use Rattle.declarations.specs.declared.class.SignClass.TheVariants as signs;
 
-use crate::class::Class;
+use crate::class::SignClass;
 use crate::fault::Fault;
 use crate::list::{fault_after, past_comma};
 use crate::parameter::past_type;
@@ -155,31 +155,31 @@ fn past_bounds(trees: &[TokenTree]) -> Result<&[TokenTree], &[TokenTree]>
 }
 
 /// Whether the sign is a constant by itself.
-fn is_constant(class: Class) -> bool
+fn is_constant(class: SignClass) -> bool
     ensures { result ≡ is_constant class }
 {
     match class {
-        Class::Literal | Class::Braces | Class::Truth => true,
+        SignClass::Literal | SignClass::Braces | SignClass::Truth => true,
         _ => false,
     }
 }
 
 /// Whether the sign is a word.
-fn is_word(class: Class) -> bool
+fn is_word(class: SignClass) -> bool
     ensures { result ≡ is_word class }
 {
     match class {
-        Class::Word(_) => true,
+        SignClass::Word(_) => true,
         _ => false,
     }
 }
 
 /// Whether a constant can begin with the sign.
-fn begins_constant(class: Class) -> bool
+fn begins_constant(class: SignClass) -> bool
     ensures { result ≡ may_begin constant class }
 {
     match class {
-        Class::Minus | Class::Literal | Class::Braces | Class::Truth => true,
+        SignClass::Minus | SignClass::Literal | SignClass::Braces | SignClass::Truth => true,
         _ => false,
     }
 }
@@ -206,8 +206,8 @@ fn plain_constant(trees: &[TokenTree]) -> Result<&[TokenTree], &[TokenTree]>
 fn past_constant(trees: &[TokenTree]) -> Result<&[TokenTree], &[TokenTree]>
     ensures { ReadsRule constant trees.now result }
 {
-    if begins(trees, Class::Minus) {
-        past(past(trees, Class::Minus)?, Class::Literal)
+    if begins(trees, SignClass::Minus) {
+        past(past(trees, SignClass::Minus)?, SignClass::Literal)
     } else {
         plain_constant(trees)
     }
@@ -221,13 +221,13 @@ fn constraint_of(trees: &[TokenTree]) -> Result<(ArgumentKind<'_>, &[TokenTree])
 {
     match first_sign(trees) {
         Some((class, from_end)) => {
-            if is(Class::Equals, class) {
+            if is(SignClass::Equals, class) {
                 return match past_type(from_end) {
                     Ok(rest) => Ok((ArgumentKind::Binding(part(from_end, rest)), rest)),
                     Err(left) => Err(left),
                 };
             }
-            if is(Class::Colon, class) {
+            if is(SignClass::Colon, class) {
                 return match past_bounds(from_end) {
                     Ok(rest) => Ok((ArgumentKind::Constraint(part(from_end, rest)), rest)),
                     Err(left) => Err(left),
@@ -281,7 +281,7 @@ fn plain_argument_of(
 fn lifetime_of(trees: &[TokenTree]) -> Result<(GenericArgument<'_>, &[TokenTree]), &[TokenTree]>
     ensures { ReadsArgument (one signs.Lifetime) trees.now result }
 {
-    match past(trees, Class::Lifetime) {
+    match past(trees, SignClass::Lifetime) {
         Ok(rest) => {
             let trees = part(trees, rest);
             let kind = ArgumentKind::Lifetime;
@@ -315,7 +315,7 @@ pub(crate) fn argument_of(
 {
     match first_sign(trees) {
         Some((class, _)) => {
-            if is(Class::Lifetime, class) {
+            if is(SignClass::Lifetime, class) {
                 return lifetime_of(trees);
             }
             if begins_constant(class) {

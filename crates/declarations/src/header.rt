@@ -4,8 +4,10 @@ ghost use Rattle.declarations.specs.Header.{alias_header, body, closing, functio
 ghost use Rattle.declarations.specs.Header.{header, impl_header, in_braces, in_semicolon, is_alone, return_header};
 ghost use Rattle.declarations.specs.Header.{struct_header, trait_header, typed_header, value};
 
-use crate::class::{Class, Keyword};
-use crate::place::{Front, Item, Part, Rule, Shift, Spot, to_bounds, to_front, to_spot, to_type};
+use crate::class::{Keyword, SignClass};
+use crate::walk_state::{
+    Continuation, Front, Item, Part, Shift, Spot, to_bounds, to_front, to_spot, to_type,
+};
 
 /// Whether the item may end with a body in braces.
 fn in_braces(item: Item) -> bool
@@ -52,20 +54,20 @@ fn value(item: Item) -> Option<Shift>
     ensures { result ≡ value item }
 {
     match item {
-        Item::Alias => to_type(Item::Aliased, Rule::Header),
+        Item::Alias => to_type(Item::Aliased, Continuation::Header),
         Item::Constant | Item::Static => to_front(item, Front::UntilFirst),
         _ => None,
     }
 }
 
 /// The step after the header of an item, or after its where clause.
-pub(crate) fn body(item: Item, class: Class) -> Option<Shift>
+pub(crate) fn body(item: Item, class: SignClass) -> Option<Shift>
     ensures { result ≡ body item class }
 {
     match class {
-        Class::Braces if in_braces(item) => to_spot(item, Spot::ItemEnd),
-        Class::Semicolon if in_semicolon(item) => to_spot(item, Spot::ItemEnd),
-        Class::Equals => value(item),
+        SignClass::Braces if in_braces(item) => to_spot(item, Spot::ItemEnd),
+        SignClass::Semicolon if in_semicolon(item) => to_spot(item, Spot::ItemEnd),
+        SignClass::Equals => value(item),
         _ => None,
     }
 }
@@ -100,87 +102,93 @@ fn has_where(item: Item) -> bool
 }
 
 /// The step after the header of an item, where a where clause may begin.
-pub(crate) fn header(item: Item, class: Class) -> Option<Shift>
+pub(crate) fn header(item: Item, class: SignClass) -> Option<Shift>
     ensures { result ≡ header item class }
 {
     match class {
-        Class::Keyword(Keyword::Where) if has_where(item) => to_spot(item, Spot::Predicate),
+        SignClass::Keyword(Keyword::Where) if has_where(item) => to_spot(item, Spot::Predicate),
         _ => body(item, class),
     }
 }
 
 /// The step after the generic parameters of a struct.
-fn struct_header(class: Class) -> Option<Shift>
+fn struct_header(class: SignClass) -> Option<Shift>
     ensures { result ≡ struct_header class }
 {
     match class {
-        Class::Parentheses | Class::Restriction => to_spot(Item::Tuple, Spot::AfterGenerics),
+        SignClass::Parentheses | SignClass::Restriction => to_spot(
+            Item::Tuple,
+            Spot::AfterGenerics,
+        ),
         _ => header(Item::Struct, class),
     }
 }
 
 /// The step after the generic parameters of a function, before its parameters.
-fn function_header(class: Class) -> Option<Shift>
+fn function_header(class: SignClass) -> Option<Shift>
     ensures { result ≡ function_header class }
 {
     match class {
-        Class::Parentheses | Class::Restriction => to_spot(Item::Returning, Spot::AfterGenerics),
+        SignClass::Parentheses | SignClass::Restriction => to_spot(
+            Item::Returning,
+            Spot::AfterGenerics,
+        ),
         _ => None,
     }
 }
 
 /// The step after the parameters of a function.
-fn return_header(class: Class) -> Option<Shift>
+fn return_header(class: SignClass) -> Option<Shift>
     ensures { result ≡ return_header class }
 {
     match class {
-        Class::Arrow => to_type(Item::Returning, Rule::Header),
+        SignClass::Arrow => to_type(Item::Returning, Continuation::Header),
         _ => header(Item::Returning, class),
     }
 }
 
 /// The step after the name of a constant or a static.
-fn typed_header(item: Item, class: Class) -> Option<Shift>
+fn typed_header(item: Item, class: SignClass) -> Option<Shift>
     ensures { result ≡ typed_header item class }
 {
     match class {
-        Class::Colon => to_type(item, Rule::Header),
+        SignClass::Colon => to_type(item, Continuation::Header),
         _ => None,
     }
 }
 
-fn alias_header(class: Class) -> Option<Shift>
+fn alias_header(class: SignClass) -> Option<Shift>
     ensures { result ≡ alias_header class }
 {
     match class {
-        Class::Colon => to_bounds(Item::Alias, Rule::Header),
+        SignClass::Colon => to_bounds(Item::Alias, Continuation::Header),
         _ => header(Item::Alias, class),
     }
 }
 
-fn trait_header(class: Class) -> Option<Shift>
+fn trait_header(class: SignClass) -> Option<Shift>
     ensures { result ≡ trait_header class }
 {
     match class {
-        Class::Colon => to_bounds(Item::Trait, Rule::Header),
-        Class::Equals => to_bounds(Item::TraitAlias, Rule::Header),
+        SignClass::Colon => to_bounds(Item::Trait, Continuation::Header),
+        SignClass::Equals => to_bounds(Item::TraitAlias, Continuation::Header),
         _ => header(Item::Trait, class),
     }
 }
 
 /// The step after the generic parameters of an `impl`, if no type begins there.
-pub(crate) fn impl_header(class: Class) -> Option<Shift>
+pub(crate) fn impl_header(class: SignClass) -> Option<Shift>
     ensures { result ≡ impl_header class }
 {
     match class {
-        Class::Keyword(Keyword::Const) => to_front(Item::Impl, Front::ImplConst),
-        Class::Exclamation => to_front(Item::Impl, Front::ImplNot),
+        SignClass::Keyword(Keyword::Const) => to_front(Item::Impl, Front::ImplConst),
+        SignClass::Exclamation => to_front(Item::Impl, Front::ImplNot),
         _ => None,
     }
 }
 
 /// The step after the generic parameters of an item, which may be left out.
-pub(crate) fn closing(item: Item, class: Class) -> Option<Shift>
+pub(crate) fn closing(item: Item, class: SignClass) -> Option<Shift>
     ensures { result ≡ closing item class }
 {
     match item {
@@ -196,11 +204,11 @@ pub(crate) fn closing(item: Item, class: Class) -> Option<Shift>
 }
 
 /// The step after a name that generic parameters may follow.
-pub(crate) fn generics(item: Item, class: Class) -> Option<Shift>
+pub(crate) fn generics(item: Item, class: SignClass) -> Option<Shift>
     ensures { result ≡ generics item class }
 {
     match class {
-        Class::Less | Class::LessJoint => to_spot(item, Spot::Before(Part::Parameter)),
+        SignClass::Less | SignClass::LessJoint => to_spot(item, Spot::Before(Part::Parameter)),
         _ => closing(item, class),
     }
 }

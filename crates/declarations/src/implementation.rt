@@ -10,14 +10,14 @@ ghost use Rattle.declarations.specs.Reader.{Finds, Sticks, classes_in};
 ghost use Rattle.declarations.specs.Reading.{FaultAt};
 ghost use Rattle.declarations.specs.Signs.{BeginsWith};
 ghost use Rattle.declarations.specs.Whole.{IsWhole};
-ghost use Rattle.declarations.specs.declared.class.Class.TheVariants as signs;
+ghost use Rattle.declarations.specs.declared.class.SignClass.TheVariants as signs;
 ghost use Rattle.declarations.specs.declared.class.Keyword.TheVariants as keywords;
-ghost use Rattle.declarations.specs.rules.Bodies.{braced};
+ghost use Rattle.declarations.specs.rules.Bodies.{where_and_body};
 ghost use Rattle.declarations.specs.rules.ImplItems.{impl_item, impl_keyword, impl_qualifiers};
 ghost use Rattle.declarations.specs.rules.Impls.{const_target, impl_front, target};
 ghost use Rattle.declarations.specs.rules.Pieces.{ByRule};
 
-use crate::class::{Class, Keyword, Word};
+use crate::class::{Keyword, SignClass, Word};
 use crate::fault::Fault;
 use crate::function::{is_name, may, past_generics, past_visibility, past_where, split_braces};
 use crate::parameter::{past_attributes, past_type};
@@ -162,8 +162,8 @@ fn front_of(trees: &[TokenTree]) -> Result<(Front<'_>, &[TokenTree]), &[TokenTre
 fn past_impl_qualifiers(trees: &[TokenTree]) -> &[TokenTree]
     ensures { Finds impl_qualifiers trees.now result.now }
 {
-    let from_unsafe = may(trees, Class::Word(Word::Default));
-    may(from_unsafe, Class::Keyword(Keyword::Unsafe))
+    let from_unsafe = may(trees, SignClass::Word(Word::Default));
+    may(from_unsafe, SignClass::Keyword(Keyword::Unsafe))
 }
 
 /// Skips `impl`.
@@ -174,7 +174,7 @@ fn past_impl(trees: &[TokenTree]) -> Result<&[TokenTree], &[TokenTree]>
 {
     match first_sign(trees) {
         Some((class, rest)) => {
-            if is(Class::Keyword(Keyword::Impl), class) {
+            if is(SignClass::Keyword(Keyword::Impl), class) {
                 Ok(rest)
             } else {
                 Err(trees)
@@ -205,14 +205,14 @@ struct Target<'a> {
 /// Reads the parts between `impl` and the where clause. Returns them and the trees after them.
 #[tactic(auto, using(crate::proofs::ImplLemmas::headers))]
 fn header_of(trees: &[TokenTree]) -> Result<(Header<'_>, &[TokenTree]), &[TokenTree]>
-    ensures { MatchResult result (λ found. TurnsTo impl_front trees.now braced found.1.now
+    ensures { MatchResult result (λ found. TurnsTo impl_front trees.now where_and_body found.1.now
         × HasHeader trees.now found.0.generics.now found.0.constness.now found.0.target.negation.now
         found.0.target.trait_path found.0.target.self_type.now found.1.now)
         (λ left. Sticks impl_front trees.now left.now) }
 {
     match past_impl_generics(trees) {
         Ok((generics, from_const)) => {
-            let from_target = may(from_const, Class::Keyword(Keyword::Const));
+            let from_target = may(from_const, SignClass::Keyword(Keyword::Const));
             let constness = part(from_const, from_target);
             match target_of(from_target) {
                 Ok((target, rest)) => Ok((
@@ -233,21 +233,24 @@ fn header_of(trees: &[TokenTree]) -> Result<(Header<'_>, &[TokenTree]), &[TokenT
 // ---- generic parameters
 
 /// Whether the sign alone shows that a `<` before it begins generic parameters.
-fn begins_parameter(class: Class) -> bool
+fn begins_parameter(class: SignClass) -> bool
     ensures { result ≡ begins_parameter class }
 {
     match class {
-        Class::Greater | Class::Hash | Class::Lifetime | Class::Keyword(Keyword::Const) => true,
+        SignClass::Greater
+        | SignClass::Hash
+        | SignClass::Lifetime
+        | SignClass::Keyword(Keyword::Const) => true,
         _ => false,
     }
 }
 
 /// Whether the sign after a word shows that the word is a generic parameter.
-fn ends_parameter(class: Class) -> bool
+fn ends_parameter(class: SignClass) -> bool
     ensures { result ≡ ends_parameter class }
 {
     match class {
-        Class::Colon | Class::Equals | Class::Comma | Class::Greater => true,
+        SignClass::Colon | SignClass::Equals | SignClass::Comma | SignClass::Greater => true,
         _ => false,
     }
 }
@@ -319,11 +322,11 @@ fn past_impl_generics(trees: &[TokenTree]) -> Result<(&[TokenTree], &[TokenTree]
 // ---- the trait and the type
 
 /// Whether the sign begins a where clause or a body.
-fn begins_end(class: Class) -> bool
-    ensures { result ≡ may_begin braced class }
+fn begins_end(class: SignClass) -> bool
+    ensures { result ≡ may_begin where_and_body class }
 {
     match class {
-        Class::Keyword(Keyword::Where) | Class::Braces => true,
+        SignClass::Keyword(Keyword::Where) | SignClass::Braces => true,
         _ => false,
     }
 }
@@ -331,7 +334,7 @@ fn begins_end(class: Class) -> bool
 /// Whether a where clause or a body is next.
 #[tactic(auto, using(crate::proofs::ReaderLemmas::steps))]
 fn has_end(trees: &[TokenTree]) -> bool
-    ensures { result ≡ heads braced (classes_in trees.now) }
+    ensures { result ≡ heads where_and_body (classes_in trees.now) }
 {
     match first_sign(trees) {
         Some((class, _)) => begins_end(class),
@@ -342,13 +345,13 @@ fn has_end(trees: &[TokenTree]) -> bool
 /// Reads the trait and the type, with the `!` before them. Returns them and the trees after them.
 #[tactic(auto, using(crate::proofs::ImplLemmas::targets))]
 fn target_of(trees: &[TokenTree]) -> Result<(Target<'_>, &[TokenTree]), &[TokenTree]>
-    ensures { MatchResult result (λ found. TurnsTo const_target trees.now braced found.1.now
+    ensures { MatchResult result (λ found. TurnsTo const_target trees.now where_and_body found.1.now
         × HasTarget trees.now found.0.negation.now found.0.trait_path found.0.self_type.now found.1.now)
         (λ left. Sticks const_target trees.now left.now) }
 {
     match first_sign(trees) {
         Some((class, from_types)) => {
-            if is(Class::Exclamation, class) {
+            if is(SignClass::Exclamation, class) {
                 negative_of(trees, from_types)
             } else {
                 types_of(trees, &[])
@@ -365,7 +368,7 @@ fn negative_of<'a>(
     from_types: &'a [TokenTree],
 ) -> Result<(Target<'a>, &'a [TokenTree]), &'a [TokenTree]>
     requires { BeginsWith trees.now signs.Exclamation from_types.now }
-    ensures { MatchResult result (λ found. TurnsTo const_target trees.now braced found.1.now
+    ensures { MatchResult result (λ found. TurnsTo const_target trees.now where_and_body found.1.now
         × HasTarget trees.now found.0.negation.now found.0.trait_path found.0.self_type.now found.1.now)
         (λ left. Sticks const_target trees.now left.now) }
 {
@@ -426,7 +429,7 @@ fn may_for(trees: &[TokenTree]) -> Option<&[TokenTree]>
 {
     match first_sign(trees) {
         Some((class, rest)) => {
-            if is(Class::Keyword(Keyword::For), class) {
+            if is(SignClass::Keyword(Keyword::For), class) {
                 Some(rest)
             } else {
                 None
@@ -448,9 +451,9 @@ struct End<'a> {
 /// Reads a where clause and a body in braces. Returns them and the trees after them.
 #[tactic(auto, using(crate::proofs::ImplLemmas::ends))]
 fn end_of(trees: &[TokenTree]) -> Result<(End<'_>, &[TokenTree]), &[TokenTree]>
-    ensures { MatchResult result (λ found. Finds braced trees.now found.1.now
+    ensures { MatchResult result (λ found. Finds where_and_body trees.now found.1.now
         × HasBraces trees.now found.0.where_clause.now found.0.body.now found.1.now)
-        (λ left. Sticks braced trees.now left.now) }
+        (λ left. Sticks where_and_body trees.now left.now) }
 {
     match past_where(trees) {
         Ok(from_body) => match split_braces(from_body) {

@@ -6,19 +6,20 @@ ghost use Rattle.pm_stream.specs.declared.stream.TokenTree.TheVariants as trees_
 ghost use Rattle.pm_token.specs.Leaf.{Name};
 ghost use Rattle.declarations.specs.Fault.{extent_at};
 ghost use Rattle.declarations.specs.Forms.{IsFrom, IsItem};
-ghost use Rattle.declarations.specs.Item.{AreBracesLeft, HasBraces, HasEnding, IsLeft, IsTypeItem, behind_generics};
+ghost use Rattle.declarations.specs.Item.{AreBracesLeft, HasBraces, HasEnding, IsLeft, IsTypeItem};
+ghost use Rattle.declarations.specs.Item.{after_generics_state};
 ghost use Rattle.declarations.specs.Reading.{FaultAt};
 ghost use Rattle.declarations.specs.Whole.{IsWhole, ReadsAll};
-ghost use Rattle.declarations.specs.declared.class.Class.TheVariants as classes;
+ghost use Rattle.declarations.specs.declared.class.SignClass.TheVariants as classes;
 ghost use Rattle.declarations.specs.declared.class.Keyword.TheVariants as keywords;
-ghost use Rattle.declarations.specs.declared.place.Item.TheVariants as items;
+ghost use Rattle.declarations.specs.declared.walk_state.Item.TheVariants as items;
 
-use crate::class::{Class, Keyword};
+use crate::class::{Keyword, SignClass};
 use crate::fault::Fault;
-use crate::parts::{split_attributes, split_generics, split_visibility, split_where};
-use crate::place::{Item, Part, Place, Rule, Spot, State};
+use crate::part_splitting::{split_attributes, split_generics, split_visibility, split_where};
 use crate::signs::name_class;
 use crate::walk::read_whole;
+use crate::walk_state::{Continuation, Item, Part, Spot, State, WalkState};
 use pm_stream::{Group, TokenTree};
 use pm_token::{Delimiter, Ident};
 
@@ -83,9 +84,9 @@ pub fn parse_type_item(trees: &[TokenTree]) -> Result<TypeItem<'_>, Fault>
     ensures fault { IfErr result (λ fault. FaultAt (IsWhole IsItem) trees.now fault.at) }
     ensures span { IfErr result (λ fault. fault.span ≡ extent_at trees.now fault.at) }
 {
-    let start = Place {
+    let start = WalkState {
         item: Item::Alone,
-        rule: Rule::Alone,
+        rule: Continuation::Alone,
         state: State::At(Spot::Before(Part::TypeItem)),
         depth: 0,
     };
@@ -126,14 +127,14 @@ struct Ending<'a> {
     semicolon: &'a [TokenTree],
 }
 
-fn ending_of<'a>(keyword: Class, trees: &'a [TokenTree]) -> Result<Ending<'a>, Fault>
+fn ending_of<'a>(keyword: SignClass, trees: &'a [TokenTree]) -> Result<Ending<'a>, Fault>
     requires { IsLeft keyword trees.now }
     ensures { MatchResult result (λ ending. HasEnding keyword trees.now ending.body ending.where_clause.now
         ending.semicolon.now) (λ fault. ⊥) }
 {
     match keyword {
-        Class::Keyword(Keyword::Struct) => struct_ending(trees),
-        Class::Keyword(Keyword::Enum) => {
+        SignClass::Keyword(Keyword::Struct) => struct_ending(trees),
+        SignClass::Keyword(Keyword::Enum) => {
             let (where_clause, variants, semicolon) = braces_of(trees)?;
             Ok(Ending {
                 where_clause,
@@ -153,7 +154,7 @@ fn ending_of<'a>(keyword: Class, trees: &'a [TokenTree]) -> Result<Ending<'a>, F
 }
 
 fn struct_ending(trees: &[TokenTree]) -> Result<Ending<'_>, Fault>
-    requires { ReadsAll (IsFrom (behind_generics items.Struct)) trees.now }
+    requires { ReadsAll (IsFrom (after_generics_state items.Struct)) trees.now }
     ensures { MatchResult result (λ ending. HasEnding (classes.Keyword keywords.Struct) trees.now ending.body
         ending.where_clause.now ending.semicolon.now) (λ fault. ⊥) }
 {
@@ -172,7 +173,7 @@ fn struct_ending(trees: &[TokenTree]) -> Result<Ending<'_>, Fault>
 
 /// The end of a struct that has no fields in parentheses.
 fn plain_ending(trees: &[TokenTree]) -> Result<Ending<'_>, Fault>
-    requires left { ReadsAll (IsFrom (behind_generics items.Struct)) trees.now }
+    requires left { ReadsAll (IsFrom (after_generics_state items.Struct)) trees.now }
     requires plain { (group : Grouped) → (rest : List Tree) → trees.now ≡ trees_are.Group group ∷ rest
         → group.delimiter ≡ Delimiter.Parenthesis → ⊥ }
     ensures { MatchResult result (λ ending. HasEnding (classes.Keyword keywords.Struct) trees.now ending.body

@@ -2,7 +2,7 @@
 ghost use Rattle.std.specs.Prelude.{◌≡◌};
 ghost use Rattle.declarations.specs.Item.{is_keyword};
 
-use crate::class::Class;
+use crate::class::SignClass;
 use crate::signs::name_class;
 use pm_token::Ident;
 
@@ -15,7 +15,7 @@ pub fn is_keyword(ident: &Ident) -> bool
     ensures { result ≡ is_keyword ident.now }
 {
     match name_class(ident) {
-        Class::Word(_) => false,
+        SignClass::Word(_) => false,
         _ => true,
     }
 }

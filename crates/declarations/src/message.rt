@@ -2,7 +2,7 @@
 ghost use Rattle.std.specs.Prelude.{◌≡◌, IfOk};
 ghost use Rattle.std.specs.Str.{chars};
 ghost use Rattle.pm_stream.specs.Trees.{forest};
-ghost use Rattle.declarations.specs.CompileError.{compile_error, told_at};
+ghost use Rattle.declarations.specs.CompileError.{compile_error, span_or_call_site};
 ghost use Rattle.declarations.specs.Fault.{fault_text};
 
 use crate::fault::Fault;
@@ -19,7 +19,7 @@ impl Fault {
     /// missing. Fails if it runs out of memory.
     pub fn to_compile_error(&self, alloc: Global) -> Result<TokenStream, AllocError>
         ensures { IfOk result (λ stream.
-            stream ≡ forest (compile_error (fault_text self.now.span) (told_at self.now.span))) }
+            stream ≡ forest (compile_error (fault_text self.now.span) (span_or_call_site self.now.span))) }
     {
         match self.span {
             Some(span) => compile_error(alloc, "not expected here", span),

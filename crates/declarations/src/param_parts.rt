@@ -10,12 +10,12 @@ ghost use Rattle.declarations.specs.Param.{IsParamAt, IsPredicateAt, IsWord, May
 ghost use Rattle.declarations.specs.Param.{PredicateTrees, ReadsConstant, is_constant, param_trees, predicate_trees};
 ghost use Rattle.declarations.specs.Reading.{Reads};
 ghost use Rattle.declarations.specs.Signs.{BeginsWith};
-ghost use Rattle.declarations.specs.declared.class.Class.TheVariants as classes;
+ghost use Rattle.declarations.specs.declared.class.SignClass.TheVariants as classes;
 ghost use Rattle.declarations.specs.declared.generics.ParamKind.{ParamKind as Kind};
 
-use crate::class::{Class, Keyword};
+use crate::class::{Keyword, SignClass};
 use crate::generics::{Param, ParamKind, Predicate};
-use crate::parts::{split_attributes, split_bounds, split_type};
+use crate::part_splitting::{split_attributes, split_bounds, split_type};
 use crate::signs::first_sign;
 use pm_stream::TokenTree;
 
@@ -124,7 +124,7 @@ fn past_colon(trees: &[TokenTree]) -> Option<&[TokenTree]>
 {
     let (class, rest) = first_sign(trees)?;
     match class {
-        Class::Colon => Some(rest),
+        SignClass::Colon => Some(rest),
         _ => None,
     }
 }
@@ -136,7 +136,7 @@ fn past_equals(trees: &[TokenTree]) -> Option<&[TokenTree]>
 {
     let (class, rest) = first_sign(trees)?;
     match class {
-        Class::Equals => Some(rest),
+        SignClass::Equals => Some(rest),
         _ => None,
     }
 }
@@ -147,7 +147,7 @@ fn past_comma(trees: &[TokenTree]) -> Option<&[TokenTree]>
 {
     let (class, rest) = first_sign(trees)?;
     match class {
-        Class::Comma => Some(rest),
+        SignClass::Comma => Some(rest),
         _ => None,
     }
 }
@@ -159,7 +159,7 @@ fn past_literal(trees: &[TokenTree]) -> Option<&[TokenTree]>
 {
     let (class, rest) = first_sign(trees)?;
     match class {
-        Class::Literal => Some(rest),
+        SignClass::Literal => Some(rest),
         _ => None,
     }
 }
@@ -191,7 +191,7 @@ fn word_of<'a>(
         return Err(trees);
     };
     match class {
-        Class::Word(_) => Ok((before(trees, rest), rest)),
+        SignClass::Word(_) => Ok((before(trees, rest), rest)),
         _ => Err(trees),
     }
 }
@@ -207,9 +207,9 @@ fn name_of<'a>(
         return Err(trees);
     };
     match class {
-        Class::Lifetime => Ok((ParamKind::Lifetime, before(trees, rest), rest)),
-        Class::Word(_) => Ok((ParamKind::Type, before(trees, rest), rest)),
-        Class::Keyword(Keyword::Const) => {
+        SignClass::Lifetime => Ok((ParamKind::Lifetime, before(trees, rest), rest)),
+        SignClass::Word(_) => Ok((ParamKind::Type, before(trees, rest), rest)),
+        SignClass::Keyword(Keyword::Const) => {
             let (name, after) = word_of(rest)?;
             Ok((ParamKind::Const, name, after))
         }
@@ -281,11 +281,11 @@ fn none_of(trees: &[TokenTree]) -> &[TokenTree]
     trees.split_at(0).0
 }
 
-fn is_constant(class: Class) -> bool
+fn is_constant(class: SignClass) -> bool
     ensures { result ≡ is_constant class }
 {
     match class {
-        Class::Literal | Class::Braces | Class::Truth => true,
+        SignClass::Literal | SignClass::Braces | SignClass::Truth => true,
         _ => false,
     }
 }
@@ -304,7 +304,7 @@ fn constant_of<'a>(
         return Ok((before(trees, rest), rest));
     }
     match class {
-        Class::Minus => match past_literal(rest) {
+        SignClass::Minus => match past_literal(rest) {
             Some(after) => Ok((before(trees, after), after)),
             None => Err(rest),
         },

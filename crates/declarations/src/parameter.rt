@@ -14,15 +14,15 @@ ghost use Rattle.declarations.specs.rules.Names.{one};
 ghost use Rattle.declarations.specs.rules.Parameters.{after_and, after_and_mut, after_mut, continues, dots};
 ghost use Rattle.declarations.specs.rules.Parameters.{function_parameter, is_pattern, may_mutate, named_parameter};
 ghost use Rattle.declarations.specs.rules.Parameters.{parameter_rest, pattern, pattern_angle, pattern_rest};
-ghost use Rattle.declarations.specs.rules.Parameters.{pattern_sign, pattern_signs, receiver, referred};
-ghost use Rattle.declarations.specs.rules.Parameters.{self_type, two_dots, typed};
+ghost use Rattle.declarations.specs.rules.Parameters.{pattern_sign, pattern_signs, receiver, receiver_rest};
+ghost use Rattle.declarations.specs.rules.Parameters.{self_type, two_dots, pattern_parameter};
 ghost use Rattle.declarations.specs.rules.Parts.{attribute, attributes};
 ghost use Rattle.declarations.specs.rules.Pieces.{ByRule};
 ghost use Rattle.declarations.specs.rules.Types.{type};
-ghost use Rattle.declarations.specs.declared.class.Class.TheVariants as signs;
+ghost use Rattle.declarations.specs.declared.class.SignClass.TheVariants as signs;
 ghost use Rattle.declarations.specs.declared.parameter.Shape.TheVariants as shapes;
 
-use crate::class::{Class, Keyword};
+use crate::class::{Keyword, SignClass};
 use crate::fault::Fault;
 use crate::list::{fault_after, past_comma};
 use crate::range::past_range;
@@ -67,40 +67,47 @@ pub enum Shape {
 }
 
 /// Whether a pattern can begin with the sign, apart from angle brackets.
-fn is_pattern(class: Class) -> bool
+fn is_pattern(class: SignClass) -> bool
     ensures { result ≡ is_pattern class }
 {
     match class {
-        Class::Word(_) | Class::Keyword(Keyword::Mut | Keyword::Other) => true,
-        Class::SelfType | Class::Super | Class::Crate | Class::Underscore => true,
-        Class::Truth | Class::Literal | Class::PathSeparator => true,
-        Class::Restriction | Class::Parentheses | Class::Brackets | Class::Invisible => true,
-        Class::And | Class::Minus => true,
+        SignClass::Word(_) | SignClass::Keyword(Keyword::Mut | Keyword::Other) => true,
+        SignClass::SelfType | SignClass::Super | SignClass::Crate | SignClass::Underscore => true,
+        SignClass::Truth | SignClass::Literal | SignClass::PathSeparator => true,
+        SignClass::Restriction
+        | SignClass::Parentheses
+        | SignClass::Brackets
+        | SignClass::Invisible => true,
+        SignClass::And | SignClass::Minus => true,
         _ => false,
     }
 }
 
 /// Whether the sign can be in a pattern after its first sign.
-fn continues(class: Class) -> bool
+fn continues(class: SignClass) -> bool
     ensures { result ≡ continues class }
 {
     match class {
-        Class::Braces | Class::Exclamation | Class::Dot | Class::Equals | Class::Infix => true,
+        SignClass::Braces
+        | SignClass::Exclamation
+        | SignClass::Dot
+        | SignClass::Equals
+        | SignClass::Infix => true,
         _ => is_pattern(class),
     }
 }
 
-fn opens(class: Class) -> bool
+fn opens(class: SignClass) -> bool
     ensures { result ≡ opens class }
 {
     match class {
-        Class::Less | Class::LessJoint => true,
+        SignClass::Less | SignClass::LessJoint => true,
         _ => false,
     }
 }
 
 /// Whether a pattern can begin with the sign.
-fn may_begin(class: Class) -> bool
+fn may_begin(class: SignClass) -> bool
     ensures { result ≡ (is_pattern class || opens class) }
 {
     is_pattern(class) || opens(class)
@@ -134,7 +141,7 @@ fn begins_attribute(trees: &[TokenTree]) -> bool
     ensures { result ≡ heads attribute (classes_in trees.now) }
 {
     if begins_mark(trees) {
-        begins(trees, Class::Hash)
+        begins(trees, SignClass::Hash)
     } else {
         false
     }
@@ -145,7 +152,7 @@ fn begins_attribute(trees: &[TokenTree]) -> bool
 fn past_attribute(trees: &[TokenTree]) -> Result<&[TokenTree], &[TokenTree]>
     ensures { ReadsRule attribute trees.now result }
 {
-    past(past(trees, Class::Hash)?, Class::Brackets)
+    past(past(trees, SignClass::Hash)?, SignClass::Brackets)
 }
 
 /// Skips one more sign of a pattern, if one is next.
@@ -177,8 +184,8 @@ fn pattern_signs(trees: &[TokenTree]) -> &[TokenTree]
 fn braces(trees: &[TokenTree]) -> Result<&[TokenTree], &[TokenTree]>
     ensures { ReadsRule (perhaps (one signs.Braces)) trees.now result }
 {
-    if begins(trees, Class::Braces) {
-        past(trees, Class::Braces)
+    if begins(trees, SignClass::Braces) {
+        past(trees, SignClass::Braces)
     } else {
         Ok(trees)
     }
@@ -255,10 +262,13 @@ fn past_pattern(trees: &[TokenTree]) -> Result<&[TokenTree], &[TokenTree]>
 fn may_mutate(trees: &[TokenTree]) -> Result<&[TokenTree], &[TokenTree]>
     ensures { ReadsRule may_mutate trees.now result }
 {
-    if begins(trees, Class::Keyword(Keyword::Mut)) {
-        past(past(trees, Class::Keyword(Keyword::Mut))?, Class::SelfValue)
+    if begins(trees, SignClass::Keyword(Keyword::Mut)) {
+        past(
+            past(trees, SignClass::Keyword(Keyword::Mut))?,
+            SignClass::SelfValue,
+        )
     } else {
-        past(trees, Class::SelfValue)
+        past(trees, SignClass::SelfValue)
     }
 }
 
@@ -267,7 +277,7 @@ fn may_mutate(trees: &[TokenTree]) -> Result<&[TokenTree], &[TokenTree]>
 fn two_dots(trees: &[TokenTree]) -> Result<&[TokenTree], &[TokenTree]>
     ensures { ReadsRule (two_dots) trees.now result }
 {
-    past(past(trees, Class::Dot)?, Class::Dot)
+    past(past(trees, SignClass::Dot)?, SignClass::Dot)
 }
 
 /// Skips `...`.
@@ -275,7 +285,7 @@ fn two_dots(trees: &[TokenTree]) -> Result<&[TokenTree], &[TokenTree]>
 fn dots(trees: &[TokenTree]) -> Result<&[TokenTree], &[TokenTree]>
     ensures { ReadsRule dots trees.now result }
 {
-    two_dots(past(trees, Class::Dot)?)
+    two_dots(past(trees, SignClass::Dot)?)
 }
 
 /// What a parameter begins with after its `mut`, and the trees from the `:` or the end on.
@@ -285,7 +295,7 @@ fn after_mut(trees: &[TokenTree]) -> Result<(Shape, &[TokenTree]), &[TokenTree]>
 {
     match first_sign(trees) {
         Some((class, rest)) => {
-            if is(Class::SelfValue, class) {
+            if is(SignClass::SelfValue, class) {
                 Ok((Shape::Receiver, rest))
             } else {
                 pattern_shape(trees)
@@ -312,7 +322,7 @@ fn after_and_mut(trees: &[TokenTree]) -> Result<(Shape, &[TokenTree]), &[TokenTr
 {
     match first_sign(trees) {
         Some((class, rest)) => {
-            if is(Class::SelfValue, class) {
+            if is(SignClass::SelfValue, class) {
                 Ok((Shape::Reference, rest))
             } else {
                 pattern_shape(trees)
@@ -325,20 +335,20 @@ fn after_and_mut(trees: &[TokenTree]) -> Result<(Shape, &[TokenTree]), &[TokenTr
 /// What a parameter begins with after its `&`, and the trees from the `:` or the end on.
 #[tactic(auto, using(crate::proofs::ParameterLemmas::fronts))]
 fn after_and(trees: &[TokenTree]) -> Result<(Shape, &[TokenTree]), &[TokenTree]>
-    ensures { ReadsFront after_and referred trees.now result }
+    ensures { ReadsFront after_and receiver_rest trees.now result }
 {
     match first_sign(trees) {
         Some((class, rest)) => {
-            if is(Class::Lifetime, class) {
+            if is(SignClass::Lifetime, class) {
                 return match may_mutate(rest) {
                     Ok(after) => Ok((Shape::Reference, after)),
                     Err(left) => Err(left),
                 };
             }
-            if is(Class::Keyword(Keyword::Mut), class) {
+            if is(SignClass::Keyword(Keyword::Mut), class) {
                 return after_and_mut(rest);
             }
-            if is(Class::SelfValue, class) {
+            if is(SignClass::SelfValue, class) {
                 return Ok((Shape::Reference, rest));
             }
             pattern_shape(trees)
@@ -354,13 +364,13 @@ fn named_front(trees: &[TokenTree]) -> Result<(Shape, &[TokenTree]), &[TokenTree
 {
     match first_sign(trees) {
         Some((class, rest)) => {
-            if is(Class::SelfValue, class) {
+            if is(SignClass::SelfValue, class) {
                 return Ok((Shape::Receiver, rest));
             }
-            if is(Class::Keyword(Keyword::Mut), class) {
+            if is(SignClass::Keyword(Keyword::Mut), class) {
                 return after_mut(rest);
             }
-            if is(Class::And, class) {
+            if is(SignClass::And, class) {
                 return after_and(rest);
             }
             pattern_shape(trees)
@@ -376,7 +386,7 @@ fn self_type(trees: &[TokenTree]) -> Result<(ParameterKind<'_>, &[TokenTree]), &
 {
     match first_sign(trees) {
         Some((class, from_type)) => {
-            if is(Class::Colon, class) {
+            if is(SignClass::Colon, class) {
                 match past_type(from_type) {
                     Ok(rest) => Ok((ParameterKind::TypedReceiver(part(from_type, rest)), rest)),
                     Err(left) => Err(left),
@@ -394,7 +404,7 @@ fn self_type(trees: &[TokenTree]) -> Result<(ParameterKind<'_>, &[TokenTree]), &
 fn typed_end(trees: &[TokenTree]) -> Result<(ParameterKind<'_>, &[TokenTree]), &[TokenTree]>
     ensures { ReadsTyped trees.now result }
 {
-    if begins(trees, Class::Dot) {
+    if begins(trees, SignClass::Dot) {
         match dots(trees) {
             Ok(rest) => Ok((ParameterKind::Variadic, rest)),
             Err(left) => Err(left),
@@ -409,12 +419,12 @@ fn typed_end(trees: &[TokenTree]) -> Result<(ParameterKind<'_>, &[TokenTree]), &
 
 /// The form of a parameter with a pattern, from its `:` on, and the trees after it.
 #[tactic(auto, using(crate::proofs::ParameterLemmas::typeds))]
-fn typed(trees: &[TokenTree]) -> Result<(ParameterKind<'_>, &[TokenTree]), &[TokenTree]>
-    ensures { ReadsEnd typed shapes.Pattern trees.now result }
+fn pattern_parameter(trees: &[TokenTree]) -> Result<(ParameterKind<'_>, &[TokenTree]), &[TokenTree]>
+    ensures { ReadsEnd pattern_parameter shapes.Pattern trees.now result }
 {
     match first_sign(trees) {
         Some((class, from_end)) => {
-            if is(Class::Colon, class) {
+            if is(SignClass::Colon, class) {
                 typed_end(from_end)
             } else {
                 Err(trees)
@@ -433,7 +443,7 @@ fn end_of(
     ensures { ReadsEnd (left_of shape) shape trees.now result }
 {
     match shape {
-        Shape::Pattern => typed(trees),
+        Shape::Pattern => pattern_parameter(trees),
         Shape::Receiver => self_type(trees),
         Shape::Reference => Ok((ParameterKind::Receiver, trees)),
     }
@@ -470,7 +480,7 @@ fn named_of(trees: &[TokenTree]) -> Result<(Named<'_>, &[TokenTree]), &[TokenTre
 fn rest_of(trees: &[TokenTree]) -> Result<(Named<'_>, &[TokenTree]), &[TokenTree]>
     ensures { ReadsNamed parameter_rest trees.now result }
 {
-    if begins(trees, Class::Dot) {
+    if begins(trees, SignClass::Dot) {
         match dots(trees) {
             Ok(rest) => Ok((
                 Named {

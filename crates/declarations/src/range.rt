@@ -1,15 +1,15 @@
 //! The walk over a type or bounds alone.
 ghost use Rattle.std.specs.Prelude.{◌≡◌, ◌+◌, ◌≤◌, ◌<◌, ◌^◌, ◌==◌, ◌&&◌, IfNone, IfSome};
 ghost use Rattle.std.specs.Prelude.{MatchResult, None, Some, false, length, true};
-ghost use Rattle.declarations.specs.Grammar.{step, turned};
+ghost use Rattle.declarations.specs.Grammar.{step, depth_after};
 ghost use Rattle.declarations.specs.Range.{in_range};
 ghost use Rattle.declarations.specs.Reading.{StopsAt};
 ghost use Rattle.declarations.specs.Signs.{BeginsWith, classes_of, signs};
 ghost use Rattle.declarations.specs.TypeStep.{may_end};
 ghost use Rattle.declarations.specs.Walk.{Stops};
-ghost use Rattle.declarations.specs.declared.class.Class.{Class as ClassValue};
+ghost use Rattle.declarations.specs.declared.class.SignClass.{SignClass as ClassValue};
 
-use crate::class::Class;
+use crate::class::SignClass;
 use crate::signs::first_sign;
 use crate::types::{Turn, TypeState, may_end, type_step};
 use pm_stream::TokenTree;
@@ -64,20 +64,20 @@ fn next_range(
 
 /// The next state and the number of open angle brackets after a sign.
 #[tactic(auto, using(crate::proofs::RangeStepLemmas::range_steps))]
-fn range_step(state: TypeState, depth: usize, class: Class) -> Option<(TypeState, usize)>
+fn range_step(state: TypeState, depth: usize, class: SignClass) -> Option<(TypeState, usize)>
     requires { depth + 1 < 2 ^ 64 }
     ensures found { IfSome result (λ next. step (in_range state depth) class ≡ Some (in_range next.0 next.1)) }
     ensures most { IfSome result (λ next. next.1 ≤ depth + 1) }
     ensures none { IfNone result (step (in_range state depth) class ≡ None) }
 {
     let taken = type_step(state, class, depth == 0)?;
-    Some((taken.state, turned(taken.turn, depth)))
+    Some((taken.state, depth_after(taken.turn, depth)))
 }
 
 /// The number of open angle brackets after a sign.
-fn turned(turn: Turn, depth: usize) -> usize
+fn depth_after(turn: Turn, depth: usize) -> usize
     requires { depth + 1 < 2 ^ 64 }
-    ensures value { result ≡ turned turn depth }
+    ensures value { result ≡ depth_after turn depth }
     ensures most { result ≤ depth + 1 }
 {
     match turn {

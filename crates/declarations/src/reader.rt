@@ -7,12 +7,12 @@ ghost use Rattle.declarations.specs.Reader.{Remains, ReadsRule, classes_in};
 ghost use Rattle.declarations.specs.rules.Classes.{is};
 ghost use Rattle.declarations.specs.rules.Names.{one};
 
-use crate::class::{Class, code};
+use crate::class::{SignClass, code};
 use crate::signs::first_sign;
 use pm_stream::TokenTree;
 
 /// Whether a sign has this class.
-pub(crate) fn is(class: Class, found: Class) -> bool
+pub(crate) fn is(class: SignClass, found: SignClass) -> bool
     ensures { result ≡ is class found }
 {
     code(class) == code(found)
@@ -20,7 +20,7 @@ pub(crate) fn is(class: Class, found: Class) -> bool
 
 /// Whether a sign of this class is next.
 #[tactic(auto, using(crate::proofs::ReaderLemmas::steps))]
-pub(crate) fn begins(trees: &[TokenTree], class: Class) -> bool
+pub(crate) fn begins(trees: &[TokenTree], class: SignClass) -> bool
     ensures { result ≡ heads (one class) (classes_in trees.now) }
 {
     match first_sign(trees) {
@@ -69,7 +69,7 @@ fn is_identifier(tree: &TokenTree) -> bool
 
 /// Skips a sign of this class.
 #[tactic(auto, using(crate::proofs::ReaderLemmas::steps))]
-pub(crate) fn past(trees: &[TokenTree], class: Class) -> Result<&[TokenTree], &[TokenTree]>
+pub(crate) fn past(trees: &[TokenTree], class: SignClass) -> Result<&[TokenTree], &[TokenTree]>
     ensures { ReadsRule (one class) trees.now result }
 {
     match first_sign(trees) {

@@ -2,7 +2,7 @@
 ghost use Rattle.std.specs.Prelude.{◌≡◌, ◌<◌, IfErr, IfOk, MatchResult, false, length, true};
 ghost use Rattle.grammars.specs.First.{heads, may_begin};
 ghost use Rattle.grammars.specs.Grammar.{perhaps};
-ghost use Rattle.declarations.specs.Bare.{bared};
+ghost use Rattle.declarations.specs.Bare.{bare_trees};
 ghost use Rattle.declarations.specs.Fault.{extent_at};
 ghost use Rattle.declarations.specs.Reader.{Finds, ReadsRule, Sticks, classes_in};
 ghost use Rattle.declarations.specs.Reading.{FaultAt};
@@ -13,12 +13,12 @@ ghost use Rattle.declarations.specs.Whole.{IsWhole};
 ghost use Rattle.declarations.specs.rules.Classes.{is_round, opens};
 ghost use Rattle.declarations.specs.rules.Names.{AfterName, one};
 ghost use Rattle.declarations.specs.rules.Paths.{angle_rest, generic_argument, generic_arguments, is_segment, path};
-ghost use Rattle.declarations.specs.rules.Paths.{round_arguments, segment, separated, type_path};
+ghost use Rattle.declarations.specs.rules.Paths.{round_arguments, segment, further_segment, type_path};
 ghost use Rattle.declarations.specs.rules.Pieces.{ByRule};
-ghost use Rattle.declarations.specs.declared.class.Class.TheVariants as signs;
+ghost use Rattle.declarations.specs.declared.class.SignClass.TheVariants as signs;
 
-use crate::bare::bared;
-use crate::class::{Class, Keyword};
+use crate::bare::bare_trees;
+use crate::class::{Keyword, SignClass};
 use crate::fault::Fault;
 use crate::function::return_of;
 use crate::generic_argument::argument_of;
@@ -64,7 +64,7 @@ pub struct Segment<'a> {
 
 /// What comes after the name of a segment.
 #[derive(Clone, Copy)]
-pub struct Step<'a> {
+pub struct Transition<'a> {
     /// The arguments of the segment.
     pub arguments: PathArguments<'a>,
     /// The trees after the arguments.
@@ -101,11 +101,11 @@ pub struct Last<'a> {
 /// crates/declarations/README.md.
 #[tactic(auto, using(crate::proofs::TypePathLemmas::promises))]
 pub fn parse_type_path(trees: &[TokenTree]) -> Result<TypePath<'_>, Fault>
-    ensures ok { IfOk result (λ path. IsTypePath (bared trees.now) path) }
-    ensures fault { IfErr result (λ fault. FaultAt (IsWhole (ByRule type_path)) (bared trees.now) fault.at) }
-    ensures span { IfErr result (λ fault. fault.span ≡ extent_at (bared trees.now) fault.at) }
+    ensures ok { IfOk result (λ path. IsTypePath (bare_trees trees.now) path) }
+    ensures fault { IfErr result (λ fault. FaultAt (IsWhole (ByRule type_path)) (bare_trees trees.now) fault.at) }
+    ensures span { IfErr result (λ fault. fault.span ≡ extent_at (bare_trees trees.now) fault.at) }
 {
-    let inner = bared(trees);
+    let inner = bare_trees(trees);
     match path_of(inner) {
         Ok((path, rest)) => {
             if rest.is_empty() {
@@ -121,39 +121,46 @@ pub fn parse_type_path(trees: &[TokenTree]) -> Result<TypePath<'_>, Fault>
 // ---- arguments in angle brackets
 
 /// Whether the sign opens an angle bracket.
-pub(crate) fn opens(class: Class) -> bool
+pub(crate) fn opens(class: SignClass) -> bool
     ensures { result ≡ opens class }
 {
     match class {
-        Class::Less | Class::LessJoint => true,
+        SignClass::Less | SignClass::LessJoint => true,
         _ => false,
     }
 }
 
-fn is_round(class: Class) -> bool
+fn is_round(class: SignClass) -> bool
     ensures { result ≡ is_round class }
 {
     match class {
-        Class::Parentheses | Class::Restriction => true,
+        SignClass::Parentheses | SignClass::Restriction => true,
         _ => false,
     }
 }
 
 /// Whether a generic argument can begin with the sign.
-fn begins_argument(class: Class) -> bool
+fn begins_argument(class: SignClass) -> bool
     ensures { result ≡ may_begin generic_argument class }
 {
     match class {
-        Class::Word(_) | Class::Lifetime => true,
-        Class::Minus | Class::Literal | Class::Braces | Class::Truth => true,
-        Class::SelfValue | Class::SelfType | Class::Super | Class::Crate | Class::Underscore =>
+        SignClass::Word(_) | SignClass::Lifetime => true,
+        SignClass::Minus | SignClass::Literal | SignClass::Braces | SignClass::Truth => true,
+        SignClass::SelfValue
+        | SignClass::SelfType
+        | SignClass::Super
+        | SignClass::Crate
+        | SignClass::Underscore => true,
+        SignClass::Restriction
+        | SignClass::Parentheses
+        | SignClass::Brackets
+        | SignClass::Invisible => true,
+        SignClass::Exclamation | SignClass::PathSeparator | SignClass::And | SignClass::Question =>
             true,
-        Class::Restriction | Class::Parentheses | Class::Brackets | Class::Invisible => true,
-        Class::Exclamation | Class::PathSeparator | Class::And | Class::Question => true,
-        Class::Star | Class::Tilde | Class::Less | Class::LessJoint => true,
-        Class::Keyword(Keyword::Async | Keyword::Dyn | Keyword::Fn | Keyword::Impl) => true,
-        Class::Keyword(Keyword::Mut | Keyword::Unsafe | Keyword::Use) => true,
-        Class::Keyword(Keyword::Extern | Keyword::For) => true,
+        SignClass::Star | SignClass::Tilde | SignClass::Less | SignClass::LessJoint => true,
+        SignClass::Keyword(Keyword::Async | Keyword::Dyn | Keyword::Fn | Keyword::Impl) => true,
+        SignClass::Keyword(Keyword::Mut | Keyword::Unsafe | Keyword::Use) => true,
+        SignClass::Keyword(Keyword::Extern | Keyword::For) => true,
         _ => false,
     }
 }
@@ -180,7 +187,7 @@ fn element(trees: &[TokenTree]) -> Result<(bool, &[TokenTree]), &[TokenTree]>
         match argument_of(trees) {
             Ok((_, from_comma)) => match first_sign(from_comma) {
                 Some((class, rest)) => {
-                    if is(Class::Comma, class) {
+                    if is(SignClass::Comma, class) {
                         Ok((true, rest))
                     } else {
                         Ok((false, from_comma))
@@ -215,12 +222,12 @@ fn past_arguments(trees: &[TokenTree]) -> Result<&[TokenTree], &[TokenTree]>
 
 // ---- segments
 
-fn is_segment(class: Class) -> bool
+fn is_segment(class: SignClass) -> bool
     ensures { result ≡ is_segment class }
 {
     match class {
-        Class::Word(_) => true,
-        Class::SelfValue | Class::SelfType | Class::Super | Class::Crate => true,
+        SignClass::Word(_) => true,
+        SignClass::SelfValue | SignClass::SelfType | SignClass::Super | SignClass::Crate => true,
         _ => false,
     }
 }
@@ -252,12 +259,12 @@ fn segment_of(trees: &[TokenTree]) -> Result<Segment<'_>, &[TokenTree]>
 #[tactic(auto, using(crate::proofs::TypePathLemmas::nexts))]
 fn next_segment(trees: &[TokenTree]) -> Result<Option<Segment<'_>>, &[TokenTree]>
     ensures { MatchResult result
-        (λ next. Goes (perhaps separated) trees.now trees.now next × HasNext trees.now next)
-        (λ left. Sticks (perhaps separated) trees.now left.now) }
+        (λ next. Goes (perhaps further_segment) trees.now trees.now next × HasNext trees.now next)
+        (λ left. Sticks (perhaps further_segment) trees.now left.now) }
 {
     match first_sign(trees) {
         Some((class, from_name)) => {
-            if is(Class::PathSeparator, class) {
+            if is(SignClass::PathSeparator, class) {
                 match segment_of(from_name) {
                     Ok(segment) => Ok(Some(segment)),
                     Err(left) => Err(left),
@@ -272,17 +279,17 @@ fn next_segment(trees: &[TokenTree]) -> Result<Option<Segment<'_>>, &[TokenTree]
 
 /// Reads the arguments after a `<`. Returns them as a step, which may lead to a next segment.
 #[tactic(auto, using(crate::proofs::TypePathLemmas::angles))]
-fn angle_of(trees: &[TokenTree]) -> Result<Step<'_>, &[TokenTree]>
+fn angle_of(trees: &[TokenTree]) -> Result<Transition<'_>, &[TokenTree]>
     ensures { ReadsStep angle_rest HasAngle trees.now result }
 {
     match past_arguments(trees) {
         Ok(from_close) => match first_sign(from_close) {
             Some((class, rest)) => {
-                if is(Class::Greater, class) {
+                if is(SignClass::Greater, class) {
                     match next_segment(rest) {
                         Ok(next) => {
                             let arguments = PathArguments::AngleBracketed(part(trees, from_close));
-                            Ok(Step {
+                            Ok(Transition {
                                 arguments,
                                 rest,
                                 next,
@@ -302,14 +309,14 @@ fn angle_of(trees: &[TokenTree]) -> Result<Step<'_>, &[TokenTree]>
 
 /// Reads the arguments in parentheses. Returns them as a step, which may lead to a next segment.
 #[tactic(auto, using(crate::proofs::TypePathLemmas::rounds))]
-fn round_of(trees: &[TokenTree]) -> Result<Step<'_>, &[TokenTree]>
+fn round_of(trees: &[TokenTree]) -> Result<Transition<'_>, &[TokenTree]>
     ensures { ReadsStep round_arguments HasRound trees.now result }
 {
     match split_parentheses(trees) {
         Some((group, from_output)) => {
-            if begins(from_output, Class::Arrow) {
+            if begins(from_output, SignClass::Arrow) {
                 match return_of(from_output) {
-                    Ok((output, rest)) => Ok(Step {
+                    Ok((output, rest)) => Ok(Transition {
                         arguments: PathArguments::Parenthesized(group, output),
                         rest,
                         next: None,
@@ -318,7 +325,7 @@ fn round_of(trees: &[TokenTree]) -> Result<Step<'_>, &[TokenTree]>
                 }
             } else {
                 match next_segment(from_output) {
-                    Ok(next) => Ok(Step {
+                    Ok(next) => Ok(Transition {
                         arguments: PathArguments::Parenthesized(group, &[]),
                         rest: from_output,
                         next,
@@ -336,7 +343,7 @@ fn round_of(trees: &[TokenTree]) -> Result<Step<'_>, &[TokenTree]>
 fn separated_of<'a>(
     trees: &'a [TokenTree],
     from: &'a [TokenTree],
-) -> Result<Step<'a>, &'a [TokenTree]>
+) -> Result<Transition<'a>, &'a [TokenTree]>
     requires { BeginsWith trees.now signs.PathSeparator from.now }
     ensures { ReadsStep (path AfterName) HasArguments trees.now result }
 {
@@ -349,7 +356,7 @@ fn separated_of<'a>(
                 return round_of(from);
             }
             match segment_of(from) {
-                Ok(segment) => Ok(Step {
+                Ok(segment) => Ok(Transition {
                     arguments: PathArguments::None,
                     rest: trees,
                     next: Some(segment),
@@ -363,7 +370,7 @@ fn separated_of<'a>(
 
 /// Reads what comes after the name of a segment: its arguments, and `::` and the next segment.
 #[tactic(auto, using(crate::proofs::TypePathLemmas::steps))]
-fn step_of(trees: &[TokenTree]) -> Result<Step<'_>, &[TokenTree]>
+fn step_of(trees: &[TokenTree]) -> Result<Transition<'_>, &[TokenTree]>
     ensures { ReadsStep (path AfterName) HasArguments trees.now result }
 {
     match first_sign(trees) {
@@ -374,16 +381,16 @@ fn step_of(trees: &[TokenTree]) -> Result<Step<'_>, &[TokenTree]>
             if is_round(class) {
                 return round_of(trees);
             }
-            if is(Class::PathSeparator, class) {
+            if is(SignClass::PathSeparator, class) {
                 return separated_of(trees, rest);
             }
-            Ok(Step {
+            Ok(Transition {
                 arguments: PathArguments::None,
                 rest: trees,
                 next: None,
             })
         }
-        None => Ok(Step {
+        None => Ok(Transition {
             arguments: PathArguments::None,
             rest: trees,
             next: None,
@@ -429,7 +436,7 @@ fn past_separator(trees: &[TokenTree]) -> &[TokenTree]
 {
     match first_sign(trees) {
         Some((found, rest)) => {
-            if is(Class::PathSeparator, found) {
+            if is(SignClass::PathSeparator, found) {
                 rest
             } else {
                 trees

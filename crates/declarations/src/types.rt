@@ -4,7 +4,7 @@ ghost use Rattle.declarations.specs.TypeStep.{abi, after_lifetime, argument, bin
 ghost use Rattle.declarations.specs.TypeStep.{continuation, for_binder, front, macro_group, may_end, minus};
 ghost use Rattle.declarations.specs.TypeStep.{open_bracket, operand, pointer, stay, step_of, tilde};
 
-use crate::class::{Class, Keyword};
+use crate::class::{Keyword, SignClass};
 
 /// What may come next within a type.
 #[derive(Clone, Copy)]
@@ -114,157 +114,160 @@ fn front(keyword: Keyword) -> Option<TypeStep>
 }
 
 /// The step where an operand may come.
-fn operand(class: Class, outside: bool) -> Option<TypeStep>
+fn operand(class: SignClass, outside: bool) -> Option<TypeStep>
     ensures { result ≡ operand class outside }
 {
     match class {
-        Class::Word(_)
-        | Class::SelfValue
-        | Class::SelfType
-        | Class::Super
-        | Class::Crate
-        | Class::Underscore
-        | Class::Restriction
-        | Class::Parentheses
-        | Class::Brackets
-        | Class::Invisible
-        | Class::Exclamation => stay(TypeState::Whole),
-        Class::Truth | Class::Literal | Class::Braces if !outside => stay(TypeState::Whole),
-        Class::PathSeparator | Class::And | Class::Question => stay(TypeState::Wanted),
-        Class::Keyword(keyword) => front(keyword),
-        Class::Lifetime => stay(TypeState::Lifetime),
-        Class::Star => stay(TypeState::Pointer),
-        Class::Tilde => stay(TypeState::Tilde),
-        Class::Minus if !outside => stay(TypeState::Minus),
-        Class::Less | Class::LessJoint => open_bracket(),
+        SignClass::Word(_)
+        | SignClass::SelfValue
+        | SignClass::SelfType
+        | SignClass::Super
+        | SignClass::Crate
+        | SignClass::Underscore
+        | SignClass::Restriction
+        | SignClass::Parentheses
+        | SignClass::Brackets
+        | SignClass::Invisible
+        | SignClass::Exclamation => stay(TypeState::Whole),
+        SignClass::Truth | SignClass::Literal | SignClass::Braces if !outside => stay(
+            TypeState::Whole,
+        ),
+        SignClass::PathSeparator | SignClass::And | SignClass::Question => stay(TypeState::Wanted),
+        SignClass::Keyword(keyword) => front(keyword),
+        SignClass::Lifetime => stay(TypeState::Lifetime),
+        SignClass::Star => stay(TypeState::Pointer),
+        SignClass::Tilde => stay(TypeState::Tilde),
+        SignClass::Minus if !outside => stay(TypeState::Minus),
+        SignClass::Less | SignClass::LessJoint => open_bracket(),
         _ => None,
     }
 }
 
 /// The step after an operand.
-fn continuation(class: Class, outside: bool) -> Option<TypeStep>
+fn continuation(class: SignClass, outside: bool) -> Option<TypeStep>
     ensures { result ≡ continuation class outside }
 {
     match class {
-        Class::Restriction | Class::Parentheses => stay(TypeState::Whole),
-        Class::PathSeparator | Class::Arrow => stay(TypeState::Wanted),
-        Class::Plus => stay(TypeState::Bound),
-        Class::Exclamation => stay(TypeState::MacroGroup),
-        Class::As | Class::Equals if !outside => stay(TypeState::Wanted),
-        Class::Comma if !outside => stay(TypeState::Argument),
-        Class::Colon if !outside => stay(TypeState::Bound),
-        Class::Less | Class::LessJoint => open_bracket(),
-        Class::Greater => close_bracket(outside),
+        SignClass::Restriction | SignClass::Parentheses => stay(TypeState::Whole),
+        SignClass::PathSeparator | SignClass::Arrow => stay(TypeState::Wanted),
+        SignClass::Plus => stay(TypeState::Bound),
+        SignClass::Exclamation => stay(TypeState::MacroGroup),
+        SignClass::As | SignClass::Equals if !outside => stay(TypeState::Wanted),
+        SignClass::Comma if !outside => stay(TypeState::Argument),
+        SignClass::Colon if !outside => stay(TypeState::Bound),
+        SignClass::Less | SignClass::LessJoint => open_bracket(),
+        SignClass::Greater => close_bracket(outside),
         _ => None,
     }
 }
 
 /// The step before a bound, or at the end of bounds.
-fn bound(class: Class, outside: bool) -> Option<TypeStep>
+fn bound(class: SignClass, outside: bool) -> Option<TypeStep>
     ensures { result ≡ bound class outside }
 {
     match class {
-        Class::Comma if !outside => stay(TypeState::Argument),
-        Class::Greater => close_bracket(outside),
+        SignClass::Comma if !outside => stay(TypeState::Argument),
+        SignClass::Greater => close_bracket(outside),
         _ => operand(class, outside),
     }
 }
 
 /// The step after a lifetime.
-fn after_lifetime(class: Class, outside: bool) -> Option<TypeStep>
+fn after_lifetime(class: SignClass, outside: bool) -> Option<TypeStep>
     ensures { result ≡ after_lifetime class outside }
 {
     match class {
-        Class::Plus => stay(TypeState::Bound),
+        SignClass::Plus => stay(TypeState::Bound),
         _ => bound(class, outside),
     }
 }
 
 /// The step before an argument, or at the end of arguments.
-fn argument(class: Class, outside: bool) -> Option<TypeStep>
+fn argument(class: SignClass, outside: bool) -> Option<TypeStep>
     ensures { result ≡ argument class outside }
 {
     match class {
-        Class::Greater => close_bracket(outside),
+        SignClass::Greater => close_bracket(outside),
         _ => operand(class, outside),
     }
 }
 
 /// The step after a path and `!`.
-fn macro_group(class: Class) -> Option<TypeStep>
+fn macro_group(class: SignClass) -> Option<TypeStep>
     ensures { result ≡ macro_group class }
 {
     match class {
-        Class::Restriction | Class::Parentheses | Class::Brackets | Class::Braces => stay(
-            TypeState::Whole,
-        ),
+        SignClass::Restriction | SignClass::Parentheses | SignClass::Brackets | SignClass::Braces =>
+            stay(TypeState::Whole),
         _ => None,
     }
 }
 
 /// The step after `*`.
-fn pointer(class: Class) -> Option<TypeStep>
+fn pointer(class: SignClass) -> Option<TypeStep>
     ensures { result ≡ pointer class }
 {
     match class {
-        Class::Keyword(Keyword::Const | Keyword::Mut) => stay(TypeState::Wanted),
+        SignClass::Keyword(Keyword::Const | Keyword::Mut) => stay(TypeState::Wanted),
         _ => None,
     }
 }
 
 /// The step after `~`.
-fn tilde(class: Class) -> Option<TypeStep>
+fn tilde(class: SignClass) -> Option<TypeStep>
     ensures { result ≡ tilde class }
 {
     match class {
-        Class::Keyword(Keyword::Const) => stay(TypeState::Wanted),
+        SignClass::Keyword(Keyword::Const) => stay(TypeState::Wanted),
         _ => None,
     }
 }
 
 /// The step after `extern`.
-fn abi(class: Class, outside: bool) -> Option<TypeStep>
+fn abi(class: SignClass, outside: bool) -> Option<TypeStep>
     ensures { result ≡ abi class outside }
 {
     match class {
-        Class::Literal => stay(TypeState::Wanted),
+        SignClass::Literal => stay(TypeState::Wanted),
         _ => operand(class, outside),
     }
 }
 
 /// The step after the `-` of a constant argument.
-fn minus(class: Class) -> Option<TypeStep>
+fn minus(class: SignClass) -> Option<TypeStep>
     ensures { result ≡ minus class }
 {
     match class {
-        Class::Literal => stay(TypeState::Whole),
+        SignClass::Literal => stay(TypeState::Whole),
         _ => None,
     }
 }
 
 /// The step after `for`.
-fn for_binder(class: Class) -> Option<TypeStep>
+fn for_binder(class: SignClass) -> Option<TypeStep>
     ensures { result ≡ for_binder class }
 {
     match class {
-        Class::Less | Class::LessJoint => stay(TypeState::Binder),
+        SignClass::Less | SignClass::LessJoint => stay(TypeState::Binder),
         _ => None,
     }
 }
 
 /// The step within `for<..>`.
-fn binder(class: Class) -> Option<TypeStep>
+fn binder(class: SignClass) -> Option<TypeStep>
     ensures { result ≡ binder class }
 {
     match class {
-        Class::Lifetime | Class::Comma | Class::Colon | Class::Plus => stay(TypeState::Binder),
-        Class::Greater => stay(TypeState::Wanted),
+        SignClass::Lifetime | SignClass::Comma | SignClass::Colon | SignClass::Plus => stay(
+            TypeState::Binder,
+        ),
+        SignClass::Greater => stay(TypeState::Wanted),
         _ => None,
     }
 }
 
 /// The step from a state. `outside` says that no angle bracket is open.
-pub(crate) fn type_step(state: TypeState, class: Class, outside: bool) -> Option<TypeStep>
+pub(crate) fn type_step(state: TypeState, class: SignClass, outside: bool) -> Option<TypeStep>
     ensures { result ≡ step_of state class outside }
 {
     match state {

@@ -9,7 +9,7 @@ ghost use Rattle.declarations.specs.Whole.{ReadsAll};
 
 use crate::fault::Fault;
 use crate::item::{Fields, split_group, split_name};
-use crate::parts::{split_attributes, split_variant, split_visibility};
+use crate::part_splitting::{split_attributes, split_variant, split_visibility};
 use pm_stream::TokenTree;
 use pm_token::{Delimiter, Ident};
 

@@ -8,12 +8,12 @@ ghost use Rattle.declarations.specs.Reading.{FaultAt, IsOnly, Reads, StopsAt, Wa
 ghost use Rattle.declarations.specs.Signs.{BeginsWith, classes_of, signs};
 ghost use Rattle.declarations.specs.Walk.{Stops};
 ghost use Rattle.declarations.specs.Whole.{IsWhole, ReadsAll};
-ghost use Rattle.declarations.specs.declared.class.Class.{Class as ClassValue};
-ghost use Rattle.declarations.specs.declared.place.Place.{Place as PlaceValue};
+ghost use Rattle.declarations.specs.declared.class.SignClass.{SignClass as ClassValue};
+ghost use Rattle.declarations.specs.declared.walk_state.WalkState.{WalkState as PlaceValue};
 
 use crate::fault::Fault;
-use crate::place::{Item, Place};
 use crate::signs::first_sign;
+use crate::walk_state::{Item, WalkState};
 use pm_stream::TokenTree;
 
 /// The part that the walk read, and what the walk found out about it.
@@ -28,11 +28,11 @@ pub(crate) struct Split<'a> {
 }
 
 /// Reads a part from a state on. Returns the part and the trees after it.
-pub(crate) fn split_from<'a>(trees: &'a [TokenTree], start: Place) -> Result<Split<'a>, Fault>
+pub(crate) fn split_from<'a>(trees: &'a [TokenTree], start: WalkState) -> Result<Split<'a>, Fault>
     requires { start.depth ≡ 0 }
     ensures ok { IfOk result (λ found. Reads (IsFrom start) trees.now found.part.now found.rest.now) }
     ensures only { IfOk result (λ found. IsOnly (IsFrom start) trees.now found.part.now found.rest.now) }
-    ensures told { IfOk result (λ found. (last : PlaceValue)
+    ensures kind_and_name { IfOk result (λ found. (last : PlaceValue)
         × Walked start trees.now found.rest.now last (first_name found.named.now) × (found.last ≡ last.item)) }
     ensures fault { IfErr result (λ fault. FaultAt (IsFrom start) trees.now fault.at) }
     ensures span { IfErr result (λ fault. fault.span ≡ extent_at trees.now fault.at) }
@@ -53,7 +53,7 @@ pub(crate) fn split_from<'a>(trees: &'a [TokenTree], start: Place) -> Result<Spl
 }
 
 /// Reads all of the trees from a state on.
-pub(crate) fn read_whole(trees: &[TokenTree], start: Place) -> Result<(), Fault>
+pub(crate) fn read_whole(trees: &[TokenTree], start: WalkState) -> Result<(), Fault>
     requires { start.depth ≡ 0 }
     ensures ok { OnOk result (ReadsAll (IsFrom start) trees.now) }
     ensures fault { IfErr result (λ fault. FaultAt (IsWhole (IsFrom start)) trees.now fault.at) }
@@ -70,7 +70,7 @@ pub(crate) fn read_whole(trees: &[TokenTree], start: Place) -> Result<(), Fault>
 /// Skips what can be read from a state on. At an error it returns the trees after the longest prefix that can go on.
 pub(crate) fn walk_past<'a>(
     trees: &'a [TokenTree],
-    start: Place,
+    start: WalkState,
 ) -> Result<&'a [TokenTree], &'a [TokenTree]>
     requires { start.depth ≡ 0 }
     ensures { MatchResult result (λ rest. StopsAt start true trees.now rest.now)
@@ -87,7 +87,7 @@ pub(crate) fn walk_past<'a>(
 /// The state and the trees at which a walk stops.
 #[derive(Clone, Copy)]
 struct Stop<'a> {
-    place: Place,
+    place: WalkState,
     // The trees that are left.
     left: &'a [TokenTree],
     // The trees from the item's name on, or no trees if it has no name.
@@ -95,7 +95,7 @@ struct Stop<'a> {
 }
 
 /// Walks from a state on, as far as the signs are steps.
-fn walk_from<'a>(trees: &'a [TokenTree], start: Place) -> Stop<'a>
+fn walk_from<'a>(trees: &'a [TokenTree], start: WalkState) -> Stop<'a>
     requires { start.depth ≡ 0 }
     ensures walked { Walked start trees.now result.left.now result.place (first_name result.named.now) }
     ensures stops { Stops step result.place (classes_of (signs result.left.now)) }
@@ -119,7 +119,10 @@ fn later<'a>(begins: bool, trees: &'a [TokenTree], named: &'a [TokenTree]) -> &'
 }
 
 /// One step: the next state, the trees after the sign, and whether the sign is the item's name.
-fn next_place<'a>(place: Place, trees: &'a [TokenTree]) -> Option<(Place, &'a [TokenTree], bool)>
+fn next_place<'a>(
+    place: WalkState,
+    trees: &'a [TokenTree],
+) -> Option<(WalkState, &'a [TokenTree], bool)>
     requires { place.depth + length trees.now + 1 < 2 ^ 64 }
     ensures found { IfSome result (λ next. (class : ClassValue) × BeginsWith trees.now class next.1.now
         × (step place class ≡ Some next.0) × (next.2 ≡ names place class)

@@ -13,7 +13,7 @@ enum Args {
     Other(usize),
 }
 
-fn shown(args: AttributeArgs<'_>) -> Args {
+fn parts_of(args: AttributeArgs<'_>) -> Args {
     match args {
         AttributeArgs::Nothing => Args::Nothing,
         AttributeArgs::Group(group) => Args::Group(group.stream_ref().trees().len()),
@@ -36,7 +36,7 @@ fn check(
         match attributes.next() {
             Some(attribute) => {
                 assert_eq!(rt; attribute.path().len(), *path, "{text:?}");
-                assert_eq!(rt; shown(attribute.args()), *args, "{text:?}");
+                assert_eq!(rt; parts_of(attribute.args()), *args, "{text:?}");
                 assert_eq!(rt; attribute.is_inner(), *inner, "{text:?}");
                 assert_eq!(rt; attribute.doc().is_some(), *doc, "{text:?}");
             }
@@ -94,7 +94,11 @@ fn a_word_is_a_whole_path(rt: HostRuntime) -> Result<(), Fail> {
 }
 
 /// The attribute `#[..]` with this text in the brackets. The text is in so many groups without delimiters.
-fn held(rt: &(impl Abort + AllocGlobal), text: &str, groups: usize) -> Result<TokenStream, Fail> {
+fn in_groups(
+    rt: &(impl Abort + AllocGlobal),
+    text: &str,
+    groups: usize,
+) -> Result<TokenStream, Fail> {
     let mut map = SourceMap::new(rt.alloc());
     let mut inside = TokenStream::from_str(text, &mut map)?;
     for _ in 0..groups {
@@ -120,12 +124,12 @@ fn what_a_macro_passes_is_looked_through(rt: HostRuntime) -> Result<(), Fail> {
         ("doc(b) c", 2, 1, Args::Other(1), true, false),
         ("", 1, 0, Args::Nothing, false, false),
     ] {
-        let stream = held(&rt, text, groups)?;
+        let stream = in_groups(&rt, text, groups)?;
         let mut attributes = Attributes::new(stream.trees());
         match attributes.next() {
             Some(attribute) => {
                 assert_eq!(rt; attribute.path().len(), path, "{text:?}");
-                assert_eq!(rt; shown(attribute.args()), args, "{text:?}");
+                assert_eq!(rt; parts_of(attribute.args()), args, "{text:?}");
                 assert_eq!(rt; attribute.is("doc"), doc, "{text:?}");
                 assert_eq!(rt; attribute.doc().is_some(), comment, "{text:?}");
             }

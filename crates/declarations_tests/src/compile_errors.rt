@@ -46,7 +46,7 @@ fn check(
 }
 
 #[test]
-fn a_fault_is_told_at_its_tree(rt: HostRuntime) -> Result<(), Fail> {
+fn a_fault_is_reported_at_its_tree(rt: HostRuntime) -> Result<(), Fail> {
     let unexpected = ":: core :: compile_error ! { \"not expected here\" }";
     check(&rt, "struct S a_b;", unexpected, "bytes(10..13)")?;
     check(&rt, "fn f() {}", unexpected, "bytes(1..3)")?;
@@ -56,7 +56,7 @@ fn a_fault_is_told_at_its_tree(rt: HostRuntime) -> Result<(), Fail> {
 }
 
 #[test]
-fn a_text_of_ones_own_is_told_at_a_span(rt: HostRuntime) -> Result<(), Fail> {
+fn a_text_of_ones_own_is_reported_at_a_span(rt: HostRuntime) -> Result<(), Fail> {
     let stream = TokenStream::from_str("a skip", &mut SourceMap::new(rt.alloc()))?;
     if let [_, tree] = stream.trees() {
         let code = compile_error(rt.alloc(), "no \"skip\"\n\u{e9} \\", tree.span())?;

@@ -17,7 +17,7 @@ enum Parts {
     Fault(usize),
 }
 
-fn shown(entry: &Entry<'_>) -> Parts {
+fn parts_of(entry: &Entry<'_>) -> Parts {
     match entry.kind {
         EntryKind::Path => Parts::Path(entry.path.len()),
         EntryKind::List(group) => Parts::List(entry.path.len(), group.stream_ref().trees().len()),
@@ -35,7 +35,7 @@ fn check(rt: &(impl Abort + AllocGlobal), rows: &[(&str, &[Parts])]) -> Result<(
         };
         for one in *wanted {
             match list.next() {
-                Some(Ok(entry)) => assert_eq!(rt; shown(&entry), *one, "{text:?}"),
+                Some(Ok(entry)) => assert_eq!(rt; parts_of(&entry), *one, "{text:?}"),
                 Some(Err(fault)) => assert_eq!(rt; Parts::Fault(fault.at), *one, "{text:?}"),
                 None => assert!(rt; false, "{text:?}"),
             }
@@ -169,7 +169,7 @@ fn the_first_entry_leaves_the_rest(rt: HostRuntime) -> Result<(), Fail> {
     let stream = TokenStream::from_str("a::b = f(1) + 2, c", &mut SourceMap::new(rt.alloc()))?;
     match parse_entry(stream.trees()) {
         Ok((entry, rest)) => {
-            assert_eq!(rt; shown(&entry), Parts::Value(4, 4));
+            assert_eq!(rt; parts_of(&entry), Parts::Value(4, 4));
             assert!(rt; !entry.is("a"));
             assert_eq!(rt; rest.len(), 2);
         }
@@ -269,7 +269,7 @@ fn an_error_says_what_is_wrong(rt: HostRuntime) -> Result<(), Fail> {
 }
 
 #[test]
-fn names_are_told_where_none_or_one_is_known(rt: HostRuntime) -> Result<(), Fail> {
+fn names_are_listed_where_none_or_one_is_known(rt: HostRuntime) -> Result<(), Fail> {
     let stream = TokenStream::from_str("skip", &mut SourceMap::new(rt.alloc()))?;
     match check_entries(stream.trees(), &[]) {
         Ok(()) => assert!(rt; false),
@@ -304,7 +304,7 @@ fn check_attributes(
             match list.next() {
                 Some(attribute) => match attribute.entry() {
                     Ok(entry) => {
-                        assert_eq!(rt; shown(&entry), *one, "{text:?}");
+                        assert_eq!(rt; parts_of(&entry), *one, "{text:?}");
                         assert!(rt; entry.span().is_some(), "{text:?}");
                     }
                     Err(fault) => assert_eq!(rt; Parts::Fault(fault.at), *one, "{text:?}"),
@@ -343,7 +343,7 @@ fn an_attribute_is_one_entry(rt: HostRuntime) -> Result<(), Fail> {
 }
 
 /// The list that begins with a text in so many groups without delimiters, and goes on with another text.
-fn held(
+fn in_groups(
     rt: &(impl Abort + AllocGlobal),
     inside: &str,
     groups: usize,
@@ -392,13 +392,13 @@ fn an_entry_in_a_group_without_delimiters_is_read(rt: HostRuntime) -> Result<(),
         ("'a", 1, "", &[Parts::Fault(0)]),
     ];
     for (inside, groups, after, wanted) in rows {
-        let stream = held(&rt, inside, *groups, after)?;
+        let stream = in_groups(&rt, inside, *groups, after)?;
         let mut list = Entries {
             left: stream.trees(),
         };
         for one in *wanted {
             match list.next() {
-                Some(Ok(entry)) => assert_eq!(rt; shown(&entry), *one, "{inside:?} {after:?}"),
+                Some(Ok(entry)) => assert_eq!(rt; parts_of(&entry), *one, "{inside:?} {after:?}"),
                 Some(Err(fault)) => assert_eq!(rt;
                     Parts::Fault(fault.at),
                     *one,
@@ -433,7 +433,7 @@ fn a_path_in_a_group_without_delimiters_is_read_in_another(rt: HostRuntime) -> R
         ("a", 1, "(b)", 1, "(c)", &[Parts::Fault(1)]),
     ];
     for (path, groups, args, around, after, wanted) in rows {
-        let mut stream = held(&rt, path, *groups, args)?;
+        let mut stream = in_groups(&rt, path, *groups, args)?;
         for _ in 0..*around {
             let group = Group::new(Delimiter::None, stream);
             stream = TokenStream::from_tree(rt.alloc(), TokenTree::Group(group))?;
@@ -445,7 +445,7 @@ fn a_path_in_a_group_without_delimiters_is_read_in_another(rt: HostRuntime) -> R
         for one in *wanted {
             match list.next() {
                 Some(Ok(entry)) => assert_eq!(rt;
-                    shown(&entry),
+                    parts_of(&entry),
                     *one,
                     "{path:?} {args:?} {after:?}"
                 ),
@@ -463,7 +463,7 @@ fn a_path_in_a_group_without_delimiters_is_read_in_another(rt: HostRuntime) -> R
 // The span of an error is that of the wrong tree in the group, or that of the group if trees are missing.
 #[test]
 fn an_error_in_a_group_without_delimiters_has_a_span(rt: HostRuntime) -> Result<(), Fail> {
-    let stream = held(&rt, "a b", 2, ", c")?;
+    let stream = in_groups(&rt, "a b", 2, ", c")?;
     match parse_entry(stream.trees()) {
         Ok(_) => assert!(rt; false),
         Err(fault) => {
@@ -473,7 +473,7 @@ fn an_error_in_a_group_without_delimiters_has_a_span(rt: HostRuntime) -> Result<
             assert_eq!(rt; shown.as_str(), "Some(bytes(3..4))");
         }
     }
-    let stream = held(&rt, "a = ", 1, ", c")?;
+    let stream = in_groups(&rt, "a = ", 1, ", c")?;
     match parse_entry(stream.trees()) {
         Ok(_) => assert!(rt; false),
         Err(fault) => {
@@ -482,7 +482,7 @@ fn an_error_in_a_group_without_delimiters_has_a_span(rt: HostRuntime) -> Result<
             assert_eq!(rt; shown.as_str(), "Some(bytes(0..0))");
         }
     }
-    let stream = held(&rt, "a = 1", 1, ", b")?;
+    let stream = in_groups(&rt, "a = 1", 1, ", b")?;
     match check_entries(stream.trees(), &["b"]) {
         Ok(()) => assert!(rt; false),
         Err(error) => {

@@ -44,7 +44,7 @@ fn check(rt: &(impl Abort + AllocGlobal), rows: &[(&str, &[Parts])]) -> Result<(
 }
 
 #[test]
-fn each_kind_of_argument_is_told(rt: HostRuntime) -> Result<(), Fail> {
+fn each_kind_of_argument_is_named(rt: HostRuntime) -> Result<(), Fail> {
     check(
         &rt,
         &[

@@ -178,7 +178,11 @@ fn other_types_and_broken_paths_are_rejected(rt: HostRuntime) -> Result<(), Fail
 }
 
 // The trees in this many groups without delimiters.
-fn wrapped(rt: &(impl Abort + AllocGlobal), text: &str, times: usize) -> Result<TokenStream, Fail> {
+fn wrap_text(
+    rt: &(impl Abort + AllocGlobal),
+    text: &str,
+    times: usize,
+) -> Result<TokenStream, Fail> {
     let mut stream = TokenStream::from_str(text, &mut SourceMap::new(rt.alloc()))?;
     for _ in 0..times {
         let group = Group::new(Delimiter::None, stream);
@@ -190,11 +194,11 @@ fn wrapped(rt: &(impl Abort + AllocGlobal), text: &str, times: usize) -> Result<
 #[test]
 fn groups_without_delimiters_are_looked_through(rt: HostRuntime) -> Result<(), Fail> {
     for times in [0usize, 1usize, 2usize, 5usize] {
-        let stream = wrapped(&rt, "a::A<T>", times)?;
+        let stream = wrap_text(&rt, "a::A<T>", times)?;
         assert!(rt; read(stream.trees(), "A") == Angle(3, 1, 1));
-        let other = wrapped(&rt, "A + B", times)?;
+        let other = wrap_text(&rt, "A + B", times)?;
         assert!(rt; read(other.trees(), "A") == FaultAt(1));
-        let none = wrapped(&rt, "", times)?;
+        let none = wrap_text(&rt, "", times)?;
         assert!(rt; read(none.trees(), "A") == EndsAt(0));
     }
     Ok(())

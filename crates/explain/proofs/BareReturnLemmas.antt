@@ -16,11 +16,11 @@ use Rattle.lexical.specs.Mark.{comment_fronts}
 use Rattle.lexical.specs.Piece.{Kind}
 use Rattle.lexical.specs.PieceFinder.{comment_found, with_kind}
 use Rattle.lexical.specs.Rule.{Exactly, Run, find}
-use Rattle.lexical.specs.Step.{Passes}
+use Rattle.lexical.specs.RuleMatch.{Passes}
 use Rattle.lexical.specs.Text.{begins_any, begins_with, ends_with, first_passes}
-use Rattle.lexical.specs.declared.cursor.Cursor.{Cursor}
+use Rattle.lexical.specs.declared.cursor.TextCursor.{TextCursor}
 use Rattle.lexical.proofs.CommentKindLemmas.{clear_comment, closing_block, closing_none, doc_back, doc_front}
-use Rattle.lexical.proofs.RuleSteps.{lacks_text, passed}
+use Rattle.lexical.proofs.RuleSteps.{lacks_text, passes_piece}
 use Rattle.lexical.proofs.TextLemmas.{begins_more, seam_boundary, seam_drop, seam_take}
 use Rattle.explain.specs.Trouble.{IsTrouble}
 use Rattle.explain.specs.Walk.{IsFirstBare, IsPast}
@@ -45,14 +45,14 @@ none_feed (c ∷ []) q none all = grind (arith, none, none_plain q all)
 none_feed (c ∷ (d ∷ p)) q none all = grind (arith, none, none_feed (d ∷ p) q, all)
 
 -- the cursor is before the next CR or at the end, and none before it is bare
-pub record AtReturn (inside at : Cursor) : Type 0 where
+pub record AtReturn (inside at : TextCursor) : Type 0 where
   pub before : IsPast inside at
   pub none : has_bare_return before.part ≡ false
   pub stands : first_passes other (chars at.rest.now) ≡ false
 
-pub first_return : (inside at : Cursor) → Passes (Run other) inside at → AtReturn inside at
+pub first_return : (inside at : TextCursor) → Passes (Run other) inside at → AtReturn inside at
 first_return inside at h =
-    let is = passed (Run other) tt inside at h in
+    let is = passes_piece (Run other) tt inside at h in
     record {
       before = record { part = h.front; whole = is.0; count = h.count };
       none = none_plain h.front is.1.each;
@@ -70,12 +70,12 @@ feed_passes (d ∷ text) stops feed =
     let line : d ≡ 10 = sym (eqb-true 10 d (and_parts _ _ feed).0) in
     both_ways _ stops (ap other line)
 
-pub next_return : (inside at after to : Cursor) (c : ℕ) → AtReturn inside at
+pub next_return : (inside at after to : TextCursor) (c : ℕ) → AtReturn inside at
     → chars at.rest.now ≡ c ∷ chars after.rest.now → after.chars_before ≡ at.chars_before + 1
     → begins_with (codes "\n") (chars after.rest.now) ≡ true → Passes (Run other) after to → AtReturn inside to
 unfolding further
 next_return inside at after to c is split count feed h =
-    let run = passed (Run other) tt after to h in
+    let run = passes_piece (Run other) tt after to h in
     let same = return_is c _ _ split is.stands in
     let past : IsPast at to = record {
       part = c ∷ h.front;
@@ -100,7 +100,8 @@ next_return inside at after to c is split count feed h =
         (none_feed is.before.part front is.none (and_parts _ _ all).1))
 
 -- a CR with no LF after it is the first bare one
-pub first_bare : (inside at after : Cursor) (c : ℕ) → AtReturn inside at → chars at.rest.now ≡ c ∷ chars after.rest.now
+pub first_bare : (inside at after : TextCursor) (c : ℕ) → AtReturn inside at
+    → chars at.rest.now ≡ c ∷ chars after.rest.now
     → after.chars_before ≡ at.chars_before + 1 → begins_with (codes "\n") (chars after.rest.now) ≡ false
     → IsFirstBare inside at after
 first_bare inside at after c is split count bare = record {
@@ -112,7 +113,7 @@ first_bare inside at after c is split count bare = record {
 }
 
 -- at the end of the text, no CR is bare
-pub no_bare : (inside at : Cursor) → AtReturn inside at → chars at.rest.now ≡ []
+pub no_bare : (inside at : TextCursor) → AtReturn inside at → chars at.rest.now ≡ []
     → has_bare_return (chars inside.rest.now) ≡ false
 no_bare inside at is done =
     ap has_bare_return (is.before.whole ∙ (ap (λ t. is.before.part ++ t) done ∙ append-nil is.before.part)) ∙ is.none
@@ -173,7 +174,7 @@ within (c ∷ (d ∷ text)) rest (b ∷ before) after apart bare none e =
 -- ---- a doc comment with a bare CR, which is no comment
 
 -- a doc comment at a cursor: its text, what closes it, and what follows it
-pub record IsDocAt (at : Cursor) : Type 0 where
+pub record IsDocAt (at : TextCursor) : Type 0 where
   pub comment : List ℕ
   pub after : List ℕ
   pub whole : chars at.rest.now ≡ comment ++ after
@@ -193,10 +194,10 @@ untold : (x : List ℕ × List ℕ) (o : Option Kind) → with_kind x o ≡ None
 untold x None e = refl
 untold x (Some kind) e = absurd (cc)
 
-pub doc_at : (at end : Cursor) → Passes comment at end → comment_found (find comment (chars at.rest.now)) ≡ None
+pub doc_at : (at end : TextCursor) → Passes comment at end → comment_found (find comment (chars at.rest.now)) ≡ None
     → IsDocAt at
 doc_at at end h none =
-    let is = passed comment clear_comment at end h in
+    let is = passes_piece comment clear_comment at end h in
     let kind = kind_none h.front (chars end.rest.now)
     (untold (h.front, chars end.rest.now) (comment_kind h.front (chars end.rest.now))
     (sym (ap comment_found h.found) ∙ none)) in
@@ -230,7 +231,7 @@ text_apart p r h doc = by_closing (begins_with (codes "/*") p) refl
             ap (λ t. begins_with (codes "\n") (t ++ r)) none
             ∙ sym (sym other ∙ ap (λ b. b && begins_with (codes "\n") r) last)
 
-module _ (at inside : Cursor) (is : IsDocAt at) (rest : inside.rest.now ≡ drop 3 at.rest.now)
+module _ (at inside : TextCursor) (is : IsDocAt at) (rest : inside.rest.now ≡ drop 3 at.rest.now)
     (count : inside.chars_before ≡ at.chars_before + length (chars (take 3 at.rest.now))) where
   abbrev text : List ℕ
   text = doc_text is.comment is.after
@@ -241,12 +242,12 @@ module _ (at inside : Cursor) (is : IsDocAt at) (rest : inside.rest.now ≡ drop
   opening : List ℕ
   opening = (doc_front is.comment is.doc).front
 
-  said : drop 3 is.comment ≡ text ++ closes
-  said = doc_back is.comment is.after is.stands is.doc
+  doc_body : drop 3 is.comment ≡ text ++ closes
+  doc_body = doc_back is.comment is.after is.stands is.doc
 
   whole : is.comment ≡ opening ++ (text ++ closes)
   unfolding opening
-  whole = (doc_front is.comment is.doc).whole ∙ ap (λ t. opening ++ t) said
+  whole = (doc_front is.comment is.doc).whole ∙ ap (λ t. opening ++ t) doc_body
 
   three : length opening ≡ 3
   unfolding opening
@@ -279,7 +280,7 @@ module _ (at inside : Cursor) (is : IsDocAt at) (rest : inside.rest.now ≡ drop
   pub has_bare : has_bare_return (chars inside.rest.now) ≡ false → ⊥
   has_bare none = both_ways _ none (ap has_bare_return inside_is ∙ bare_more text (closes ++ is.after) apart is.bare)
 
-  pub bad_return : (cr after : Cursor) → IsFirstBare inside cr after
+  pub bad_return : (cr after : TextCursor) → IsFirstBare inside cr after
       → IsTrouble at (record { reason = BareReturnInDoc; at = cr; after = after })
   unfolding further past_front opening
   bad_return cr after first =
@@ -315,7 +316,7 @@ module _ (at inside : Cursor) (is : IsDocAt at) (rest : inside.rest.now ≡ drop
         };
       }
 
-pub front_fits : (at : Cursor) → IsDocAt at → IsCharBoundary at.rest.now 3
+pub front_fits : (at : TextCursor) → IsDocAt at → IsCharBoundary at.rest.now 3
 front_fits at is =
     let front = doc_front is.comment is.doc in
     seam_boundary at.rest.now front.front (drop 3 is.comment ++ is.after) 3 (IsUtf8-had at.rest.now at.text)

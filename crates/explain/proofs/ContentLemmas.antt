@@ -12,14 +12,14 @@ use Rattle.std.proofs.lemmas.Str.{IsUtf8-had, encodes-append}
 use Rattle.lexical.specs.Character.{double_quote}
 use Rattle.lexical.specs.Quoted.{unit}
 use Rattle.lexical.specs.Rule.{Stands, find}
-use Rattle.lexical.specs.Step.{Passes}
+use Rattle.lexical.specs.RuleMatch.{Passes}
 use Rattle.lexical.specs.Text.{begins_any, begins_with}
-use Rattle.lexical.specs.declared.cursor.Cursor.{Cursor}
+use Rattle.lexical.specs.declared.cursor.TextCursor.{TextCursor}
 use Rattle.lexical.specs.declared.quoted.StringKind.{StringKind}
 use Rattle.lexical.specs.declared.quoted.StringKind.TheVariants as kinds
 use Rattle.lexical.proofs.QuotedFinderLemmas.{clear_body}
 use Rattle.lexical.proofs.RuleLemmas.{exact}
-use Rattle.lexical.proofs.RuleSteps.{find_either, lacks_text, passed}
+use Rattle.lexical.proofs.RuleSteps.{find_either, lacks_text, passes_piece}
 use Rattle.lexical.proofs.TextLemmas.{ascii_bytes, begins_more, front_len, seam_boundary, seam_drop, seam_take}
 use Rattle.literal_escaper.specs.declared.errors.EscapeError.{EscapeError}
 use Rattle.literal_escaper.specs.declared.errors.EscapeError.TheVariants as errors
@@ -37,7 +37,7 @@ use Rattle.explain.proofs.EscapeLemmas.{Allows, IsRead, byte_allows, c_allows, e
 
 -- ---- the content in bytes
 
-module _ (at end : Cursor) (quote : ℕ) (left : List ℕ) (low : quote < 128) (is : IsLeft quote left at end) where
+module _ (at end : TextCursor) (quote : ℕ) (left : List ℕ) (low : quote < 128) (is : IsLeft quote left at end) where
   pub content_size : length (encode_utf8_all left) + 1 + length end.rest.now ≡ length at.rest.now
   content_size =
       omega (
@@ -163,11 +163,11 @@ module _ {U : Type 0} (kind : Kind U) (strings : StringKind) (are : Allows kind 
 -- ---- one step
 
 -- a cursor after what was read, `size` bytes further
-pub record IsAfter (at after : Cursor) (size : ℕ) : Type 0 where
+pub record IsAfter (at after : TextCursor) (size : ℕ) : Type 0 where
   pub rest : after.rest.now ≡ drop size at.rest.now
   pub count : after.chars_before ≡ at.chars_before + length (chars (take size at.rest.now))
 
-pub past_read : (at after : Cursor) (size : ℕ) (part rest : List ℕ) → IsAfter at after size
+pub past_read : (at after : TextCursor) (size : ℕ) (part rest : List ℕ) → IsAfter at after size
     → chars at.rest.now ≡ part ++ rest → size ≡ bytes part
     → (chars after.rest.now ≡ rest) × (after.chars_before ≡ at.chars_before + length part)
 past_read at after size part rest is whole e =
@@ -179,7 +179,8 @@ past_read at after size part rest is whole e =
 pub size_of : (text part rest : List ℕ) → text ≡ part ++ rest → bytes text - bytes rest ≡ bytes part
 size_of text part rest e = omega (arith, ap bytes e, bytes-append part rest)
 
-unit_found : (kind : StringKind) (at after : Cursor) (part : List ℕ) → chars at.rest.now ≡ part ++ chars after.rest.now
+unit_found : (kind : StringKind) (at after : TextCursor) (part : List ℕ)
+    → chars at.rest.now ≡ part ++ chars after.rest.now
     → after.chars_before ≡ at.chars_before + length part → Stands (unit kind) part (chars after.rest.now)
     → Passes (unit kind) at after
 unit_found kind at after part whole count stands = record {
@@ -189,7 +190,7 @@ unit_found kind at after part whole count stands = record {
   count = count;
 }
 
-module _ (at after end : Cursor) (x : Front) (is : IsAfter at after x.size) where
+module _ (at after end : TextCursor) (x : Front) (is : IsAfter at after x.size) where
   module _ {U : Type 0} (kind : Kind U) (strings : StringKind) (are : Allows kind strings) where
     unit_by : (left : List ℕ) → IsLeft double_quote left at end → GivesFront kind left x → x.error ≡ None
         → Passes (unit strings) at after × IsInside double_quote after end
@@ -308,10 +309,11 @@ line_unit kind front more (inr (inr return)) = inr (inr (record {
   second = inl (inr refl);
 }))
 
-pub step_line : (kind : StringKind) (at after end : Cursor) → Passes line_end at after → IsInside double_quote at end
+pub step_line : (kind : StringKind) (at after end : TextCursor) → Passes line_end at after
+    → IsInside double_quote at end
     → Passes (unit kind) at after × IsInside double_quote after end
 step_line kind at after end h inside =
-    let is = passed line_end (assumption) at after h in (
+    let is = passes_piece line_end (assumption) at after h in (
       unit_found kind at after h.front is.0 h.count (line_unit kind h.front (chars after.rest.now) is.1),
       inside_of h.front (chars after.rest.now) inside.0 (chars end.rest.now)
           (line_plain h.front (chars after.rest.now) is.1) (sym is.0 ∙ inside.1),
@@ -319,7 +321,7 @@ step_line kind at after end h inside =
 
 -- ---- what is read ends between two characters
 
-module _ (at end : Cursor) (x : Front) where
+module _ (at end : TextCursor) (x : Front) where
   boundary_by : {U : Type 0} (kind : Kind U) (left : List ℕ) → IsLeft double_quote left at end → GivesFront kind left x
       → IsCharBoundary at.rest.now x.size
   boundary_by kind [] whole given = absurd given

@@ -20,7 +20,7 @@ use Rattle.lexical.specs.Quoted.{letters}
 use Rattle.lexical.specs.declared.quoted.StringKind.{StringKind}
 use Rattle.lexical.specs.declared.quoted.StringKind.TheVariants as kinds
 use Rattle.literal_escaper.specs.declared.errors.EscapeError.{EscapeError}
-use Rattle.literal_escaper.specs.Escape.{Read, closed, code_unit, coded, escape, hex_escape, hex_number}
+use Rattle.literal_escaper.specs.Escape.{Read, read_closing, code_unit, read_code, escape, hex_escape, hex_number}
 use Rattle.literal_escaper.specs.Escape.{is_code_character, is_hex, letter, letter_unit, unicode_escape}
 use Rattle.literal_escaper.specs.declared.mixed_unit.MixedUnit.{MixedUnit}
 use Rattle.literal_escaper.specs.Kind.{Kind, byte_kind, c_code, c_kind, character, string_kind}
@@ -182,7 +182,7 @@ module _ {U : Type 0} (kind : Kind U) (strings : StringKind) (are : Allows kind 
   -- `u{`, digits of which the first is `x`, and `}` are an escape
   closed_is : (c d x : ℕ) (ds tail : List ℕ) → (c == 117) ≡ true → (d == 123) ≡ true → is_hex x ≡ true
       → list_all is_code_character (x ∷ ds) ≡ true
-      → Is (c ∷ d ∷ x ∷ (ds ++ tail)) (closed kind (filter is_hex (x ∷ ds)) tail)
+      → Is (c ∷ d ∷ x ∷ (ds ++ tail)) (read_closing kind (filter is_hex (x ∷ ds)) tail)
   closed_is c d x ds [] e f hex all = λ h. no_unit _ _ u h
   closed_is c d x ds (y ∷ tail) e f hex all =
       cond_both (y == 125) _ _ (Is (c ∷ d ∷ x ∷ (ds ++ (y ∷ tail))))
@@ -220,14 +220,14 @@ module _ {U : Type 0} (kind : Kind U) (strings : StringKind) (are : Allows kind 
       (λ brace h. no_unit _ _ u h)
 
   braced_is : (c d x : ℕ) (text : List ℕ) → (c == 117) ≡ true → (d == 123) ≡ true → is_hex x ≡ true
-      → Is (c ∷ d ∷ x ∷ text) (coded kind (x ∷ text))
-  unfolding coded
+      → Is (c ∷ d ∷ x ∷ text) (read_code kind (x ∷ text))
+  unfolding read_code
   braced_is c d x text e f hex =
       let passes : is_code_character x ≡ true = ap (λ b. b || (x == 95)) hex in
-      subst (λ t. Is (c ∷ d ∷ x ∷ t) (coded kind (x ∷ text))) (sym (code_whole text))
+      subst (λ t. Is (c ∷ d ∷ x ∷ t) (read_code kind (x ∷ text))) (sym (code_whole text))
       (subst (λ (read : Read U). Is (c ∷ d ∷ x ∷ (while_front is_code_character text
       ++ while_rest is_code_character text)) read)
-      (sym (ap₂ (λ p r. closed kind (filter is_hex p) r) (cond-true _ _ _ passes) (cond-true _ _ _ passes)))
+      (sym (ap₂ (λ p r. read_closing kind (filter is_hex p) r) (cond-true _ _ _ passes) (cond-true _ _ _ passes)))
       (closed_is c d x (while_front is_code_character text) (while_rest is_code_character text) e f hex
       (and_from _ _ passes (code_passes text))))
 
@@ -285,12 +285,12 @@ known_of true c d low e =
 known_of false c d past e = let clash : ◌≡◌ {A = Option ℕ} None (Some d) = sym (letter_past c past) ∙ e in absurd (cc)
 
 -- a letter that is an escape for a character is one of these
-known : (c d : ℕ) → letter c ≡ Some d → is_one_of (codes "nrt\\0'\"") c ≡ true
-known c d e = known_of (nat_lt c 128) c d refl e
+letter_known : (c d : ℕ) → letter c ≡ Some d → is_one_of (codes "nrt\\0'\"") c ≡ true
+letter_known c d e = known_of (nat_lt c 128) c d refl e
 
 -- a letter that is an escape for a character other than NUL is one of these
 known_some : (c d : ℕ) → letter c ≡ Some d → (d == 0) ≡ false → is_one_of (codes "nrt\\'\"") c ≡ true
-known_some c d e some = grind (arith, e, some, known c d e)
+known_some c d e some = grind (arith, e, some, letter_known c d e)
 
 -- a number that is a character is a scalar value
 scalar_of : (n m : ℕ) → character n ≡ Ok m → (is_scalar n ≡ true) × (m ≡ n)
@@ -311,7 +311,7 @@ hexdigit c h = sym (hex_same c) ∙ h
 
 pub string_allows : Allows string_kind kinds.Plain
 string_allows = record {
-  by_letter = λ c d u e h. known c d e;
+  by_letter = λ c d u e h. letter_known c d e;
   by_pair = λ a b u r high low. cond_both (is_ascii (16 * digit_value a + digit_value b)) _ _
       (λ o. o ≡ Ok u → Stands (rule.pair kinds.Plain) (a ∷ b ∷ []) r)
       (λ e h.
@@ -339,7 +339,7 @@ hex_pair_is a b r high low = record {
 
 pub byte_allows : Allows byte_kind kinds.Byte
 byte_allows = record {
-  by_letter = λ c d u e h. known c d e;
+  by_letter = λ c d u e h. letter_known c d e;
   by_pair = λ a b u r high low h. hex_pair_is a b r high low;
   by_code = λ n u h. no_unit _ _ u h;
   by_char = λ c u h quote backslash return. and_from _ _ (plain_is c quote backslash return) (ascii c u h);

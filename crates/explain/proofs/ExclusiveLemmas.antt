@@ -4,44 +4,47 @@ use Rattle.literal_escaper.specs.declared.errors.EscapeError.{EscapeError}
 use Rattle.explain.specs.Reason.{Holds}
 use Rattle.explain.specs.declared.reason.Reason.{Reason}
 use Rattle.explain.specs.declared.reason.Reason.TheVariants as reasons
-use Rattle.explain.proofs.Told.{one_sort, sort, told}
-use Rattle.explain.proofs.ToldNumberLemmas.{bad_digit_told, bad_end_told, no_digits_told}
-use Rattle.explain.proofs.ToldQuoteLemmas.{bad_single_told, digit_lifetime_told, hash_after_told, reserved_told}
-use Rattle.explain.proofs.ToldQuoteLemmas.{unclosed_character_told}
-use Rattle.explain.proofs.ToldTextLemmas.{bad_raw_told, bad_string_told, bare_return_told, misplaced_told}
-use Rattle.explain.proofs.ToldTextLemmas.{no_token_told}
-use Rattle.explain.proofs.ToldTextLemmas.{too_many_told, unclosed_comment_told, unclosed_raw_told, unclosed_string_told}
-use Rattle.explain.proofs.ToldTextLemmas.{without_quote_told}
+use Rattle.explain.proofs.MainReason.{one_sort, sort, main_reason}
+use Rattle.explain.proofs.NumberReasonLemmas.{bad_digit_reason, bad_end_reason, no_digits_reason}
+use Rattle.explain.proofs.QuoteReasonLemmas.{bad_single_reason, digit_lifetime_reason, hash_after_reason}
+use Rattle.explain.proofs.QuoteReasonLemmas.{reserved_reason}
+use Rattle.explain.proofs.QuoteReasonLemmas.{unclosed_character_reason}
+use Rattle.explain.proofs.TextReasonLemmas.{bad_raw_reason, bad_string_reason, bare_return_reason, misplaced_reason}
+use Rattle.explain.proofs.TextReasonLemmas.{no_token_reason}
+use Rattle.explain.proofs.TextReasonLemmas.{too_many_reason, unclosed_comment_reason, unclosed_raw_reason}
+use Rattle.explain.proofs.TextReasonLemmas.{unclosed_string_reason}
+use Rattle.explain.proofs.TextReasonLemmas.{without_quote_reason}
 use Rattle.explain.proofs.OneContentLemmas.{one_content}
 
--- a reason that holds is of the sort that `told` gives for the text
-pub told_is : (x : Reason) (f p r : List ℕ) → Holds x f p r → told (f ++ (p ++ r)) ≡ sort x
-told_is reasons.UnclosedComment f p r is = unclosed_comment_told f p r is.0 is.1
-told_is reasons.BareReturnInDoc f p r is = bare_return_told f p r is
-told_is reasons.UnclosedString f p r is = unclosed_string_told is.0 f p r is.1 is.2
-told_is reasons.UnclosedRawString f p r is = unclosed_raw_told is.0 f p r is.1 is.2
-told_is reasons.TooManyHashes f p r is = too_many_told is.0 f p r is.1 is.2
-told_is reasons.HashesWithoutQuote f p r is = without_quote_told is.0 f p r is.1 is.2
-told_is reasons.ReservedRawName f p r is = reserved_told f p r is
-told_is reasons.UnclosedCharacter f p r is = unclosed_character_told f p r is.0 is.1
-told_is (reasons.Content e) f p r (inl is) = bad_string_told is.0 e f p r is.1
-told_is (reasons.Content e) f p r (inr (inl is)) = bad_raw_told is.0 e f p r is.1
-told_is (reasons.Content e) f p r (inr (inr is)) = bad_single_told is.0 e f p r is.1
-told_is reasons.DigitLifetime f p r is = digit_lifetime_told f p r is
-told_is reasons.HashAfterLifetime f p r is = hash_after_told f p r is.0 is.1
-told_is reasons.NoDigits f p r is = no_digits_told is.0 f p r is.1
-told_is reasons.BadDigit f p r is = bad_digit_told is.0 f p r is.1
-told_is reasons.BadNumberEnd f p r is = bad_end_told f p r is
-told_is reasons.MisplacedMark f p r is = misplaced_told f p r is
-told_is reasons.NoToken f p r is = no_token_told f p r is
-told_is reasons.StrayCloser f p r is = absurd is
-told_is reasons.MismatchedCloser f p r is = absurd is
-told_is reasons.UnclosedOpener f p r is = absurd is
+-- a reason that holds is of the sort that `main_reason` gives for the text
+pub main_reason_is : (x : Reason) (f p r : List ℕ) → Holds x f p r → main_reason (f ++ (p ++ r)) ≡ sort x
+main_reason_is reasons.UnclosedComment f p r is = unclosed_comment_reason f p r is.0 is.1
+main_reason_is reasons.BareReturnInDoc f p r is = bare_return_reason f p r is
+main_reason_is reasons.UnclosedString f p r is = unclosed_string_reason is.0 f p r is.1 is.2
+main_reason_is reasons.UnclosedRawString f p r is = unclosed_raw_reason is.0 f p r is.1 is.2
+main_reason_is reasons.TooManyHashes f p r is = too_many_reason is.0 f p r is.1 is.2
+main_reason_is reasons.HashesWithoutQuote f p r is = without_quote_reason is.0 f p r is.1 is.2
+main_reason_is reasons.ReservedRawName f p r is = reserved_reason f p r is
+main_reason_is reasons.UnclosedCharacter f p r is = unclosed_character_reason f p r is.0 is.1
+main_reason_is (reasons.Content e) f p r (inl is) = bad_string_reason is.0 e f p r is.1
+main_reason_is (reasons.Content e) f p r (inr (inl is)) = bad_raw_reason is.0 e f p r is.1
+main_reason_is (reasons.Content e) f p r (inr (inr is)) = bad_single_reason is.0 e f p r is.1
+main_reason_is reasons.DigitLifetime f p r is = digit_lifetime_reason f p r is
+main_reason_is reasons.HashAfterLifetime f p r is = hash_after_reason f p r is.0 is.1
+main_reason_is reasons.NoDigits f p r is = no_digits_reason is.0 f p r is.1
+main_reason_is reasons.BadDigit f p r is = bad_digit_reason is.0 f p r is.1
+main_reason_is reasons.BadNumberEnd f p r is = bad_end_reason f p r is
+main_reason_is reasons.MisplacedMark f p r is = misplaced_reason f p r is
+main_reason_is reasons.NoToken f p r is = no_token_reason f p r is
+main_reason_is reasons.StrayCloser f p r is = absurd is
+main_reason_is reasons.MismatchedCloser f p r is = absurd is
+main_reason_is reasons.UnclosedOpener f p r is = absurd is
 
 -- two reasons that hold of the same text are of one sort
 pub same_sort : (x y : Reason) (f p r g q s : List ℕ) → Holds x f p r → Holds y g q s → f ++ (p ++ r) ≡ g ++ (q ++ s)
     → sort x ≡ sort y
-same_sort x y f p r g q s is other e = sym (told_is x f p r is) ∙ (ap told e ∙ told_is y g q s other)
+same_sort x y f p r g q s is other e =
+    sym (main_reason_is x f p r is) ∙ (ap main_reason e ∙ main_reason_is y g q s other)
 
 one_of_contents : (x y : Reason) (e o : EscapeError) (f p r g q s : List ℕ) → x ≡ reasons.Content e
     → y ≡ reasons.Content o → Holds x f p r → Holds y g q s → f ++ (p ++ r) ≡ g ++ (q ++ s) → x ≡ y

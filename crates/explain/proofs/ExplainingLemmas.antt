@@ -38,10 +38,10 @@ use Rattle.explain.proofs.OpenLemmas.{leaves_open}
 use Rattle.explain.proofs.StandLemmas.{AllStand, all_lost}
 
 -- the texts of the pieces, and then the rest
-onto_behind : (pieces : List Piece) (rest : List ℕ) → onto pieces rest ≡ onto pieces [] ++ rest
-onto_behind [] rest = refl
-onto_behind (x ∷ pieces) rest =
-    ap (λ t. x.1 ++ t) (onto_behind pieces rest) ∙ sym (append_assoc x.1 (onto pieces []) rest)
+onto_rest : (pieces : List Piece) (rest : List ℕ) → onto pieces rest ≡ onto pieces [] ++ rest
+onto_rest [] rest = refl
+onto_rest (x ∷ pieces) rest =
+    ap (λ t. x.1 ++ t) (onto_rest pieces rest) ∙ sym (append_assoc x.1 (onto pieces []) rest)
 
 onto_width : (pieces : List Piece) → length (onto pieces []) ≡ width pieces
 onto_width [] = refl
@@ -60,7 +60,7 @@ module _ (base : ℕ) (source rest : List ℕ) (at : ℕ) (first : Bool) (opener
   read = onto h.reads.pieces []
 
   pub read_whole : source ≡ read ++ rest
-  read_whole = h.reads.covers.whole ∙ onto_behind h.reads.pieces rest
+  read_whole = h.reads.covers.whole ∙ onto_rest h.reads.pieces rest
 
   pub read_at : at ≡ base + length read
   read_at = omega (arith, h.reads.position, onto_width h.reads.pieces)
@@ -71,18 +71,18 @@ module _ (base : ℕ) (source rest : List ℕ) (at : ℕ) (first : Bool) (opener
       (subst (LeavesOpen (unclosed_onto h.groups h.trees [])) (sym h.around) (leaves_open h.groups h.trees))
 
   pub stuck_explained : (x : Explained) → rest ≢ [] → HasNoPiece first rest
-      → ((base : ℕ) (behind : List ℕ) → source ≡ behind ++ rest → at ≡ base + length behind
-      → IsStuck base behind first rest x)
+      → ((base : ℕ) (text_before : List ℕ) → source ≡ text_before ++ rest → at ≡ base + length text_before
+      → IsStuck base text_before first rest x)
       → WaitsAs (waiting openers) x.innermost x.outer.items → AllStand base source x → IsExplained base source x
-  stuck_explained x more none stuck told stand = record {
+  stuck_explained x more none stuck waiting_openers stand = record {
     pieces = h.reads.pieces;
-    behind = read;
+    text_before = read;
     rest = rest;
     whole = read_whole;
     covers = h.reads.covers;
     waits = waiting openers;
     leaves = leaves;
-    told = told;
+    waiting_openers = waiting_openers;
     inmost = stand.0;
     others = stand.1;
     fault = subst (FaultAt base source)
@@ -103,20 +103,20 @@ module _ (base : ℕ) (source rest : List ℕ) (at : ℕ) (first : Bool) (opener
   -- if an opener is left open, the innermost one explains the fault
   pub left_explained : (x : Explained) → rest ≡ [] → SaysLeftOpen x
       → WaitsAs (waiting openers) x.innermost x.outer.items → AllStand base source x → IsExplained base source x
-  left_explained x done says told stand = record {
+  left_explained x done says waiting_openers stand = record {
     pieces = h.reads.pieces;
-    behind = read;
+    text_before = read;
     rest = rest;
     whole = read_whole;
     covers = h.reads.covers;
     waits = waiting openers;
     leaves = leaves;
-    told = told;
+    waiting_openers = waiting_openers;
     inmost = stand.0;
     others = stand.1;
     fault = subst (FaultAt base source) (sym (ap (λ s. s.span.lo) says.before))
         (by_groups h.groups h.reads (sym h.around ∙ subst (λ o. WaitsAs
-        (waiting openers) o x.outer.items) says.innermost told));
+        (waiting openers) o x.outer.items) says.innermost waiting_openers));
     because = inr (inr (record { done = done; says = says }));
   }
     where
@@ -134,18 +134,18 @@ module _ (base : ℕ) (source rest : List ℕ) (at : ℕ) (first : Bool) (opener
       → IsStray piece.kind h.groups → x.reason ≡ refusal x.innermost
       → WaitsAs (waiting openers) x.innermost x.outer.items → AllStand base source x
       → IsStretch base read [] x.before → IsStretch base read found.front x.at → IsExplained base source x
-  refused_explained x piece found stray reason told stand before here =
+  refused_explained x piece found stray reason waiting_openers stand before here =
       let closer = closer_of piece.kind stray in
       let stands = subst (λ k. IsPiece first (kind_of k found.front) found.front found.rest) closer.1 found.stands in
       record {
         pieces = h.reads.pieces;
-        behind = read;
+        text_before = read;
         rest = rest;
         whole = read_whole;
         covers = h.reads.covers;
         waits = waiting openers;
         leaves = leaves;
-        told = told;
+        waiting_openers = waiting_openers;
         inmost = stand.0;
         others = stand.1;
         fault = subst (FaultAt base source) (read_at ∙ (omega (arith) ∙ sym (ap (λ s. s.lo) before.span)))
@@ -159,7 +159,7 @@ module _ (base : ℕ) (source rest : List ℕ) (at : ℕ) (first : Bool) (opener
           stands = subst (λ b. IsPiece b (Close closer.0) found.front found.rest) (sym h.reads.begins) stands;
           refuses = subst (λ r. RefusesFor (delimiter_of closer.0) r x.innermost) (sym reason)
               (refuses_for (delimiter_of closer.0) x.innermost h.groups
-              (subst (λ w. WaitsAs w x.innermost x.outer.items) h.around told) closer.2);
+              (subst (λ w. WaitsAs w x.innermost x.outer.items) h.around waiting_openers) closer.2);
           before = before;
           at = here;
         }));
@@ -218,29 +218,29 @@ pub opener_is : (openers : Openers) (lexed : Lexed) (d : Delimiter) (can : CanOp
     → IsOpenerOf can.to.before.base can.to.before.source (record { delimiter = d; at = at })
 opener_is openers lexed d can at starts ends spans =
     let base = can.to.before.base in
-    let behind = can.to.before.passed in
+    let text_before = can.to.before.passed in
     let found = can.to.is.found in
     let one = one_opener d found.front can.front can.one in
     record {
-      behind = behind;
+      text_before = text_before;
       character = one.0;
       after = found.rest;
-      whole = can.to.source ∙ ap (λ t. behind ++ t) (found.whole ∙ ap (λ p. p ++ found.rest) one.1);
+      whole = can.to.source ∙ ap (λ t. text_before ++ t) (found.whole ∙ ap (λ p. p ++ found.rest) one.1);
       opens = one.2;
       delimiter = one.3;
-      at = subst (λ p. IsStretch base behind p at) one.1 (record {
+      at = subst (λ p. IsStretch base text_before p at) one.1 (record {
         start = starts;
         end = omega (
           arith,
           ends,
           starts,
           found.bytes,
-          ap length (encodes-append behind found.front),
-          length-append (encode_utf8_all behind) (encode_utf8_all found.front),
+          ap length (encodes-append text_before found.front),
+          length-append (encode_utf8_all text_before) (encode_utf8_all found.front),
         );
-        span = spans ∙ extent_of lexed.at (lexed.at + length found.front) (base + length behind)
-            (base + length (behind ++ found.front)) can.to.at
-            (omega (arith, can.to.at, length-append behind found.front));
+        span = spans ∙ extent_of lexed.at (lexed.at + length found.front) (base + length text_before)
+            (base + length (text_before ++ found.front)) can.to.at
+            (omega (arith, can.to.at, length-append text_before found.front));
       });
     }
 
@@ -273,9 +273,9 @@ pub left_answer : (base : ℕ) (source rest : List ℕ) (at : ℕ) (first : Bool
     → MatchOption answer (Parses base source) (IsExplained base source)
 left_answer base source rest at first openers h stand done None none =
     parsed base source rest at first openers h done none
-left_answer base source rest at first openers h stand done (Some x) told =
-    left_explained base source rest at first openers h x done told.0 told.1
-    (all_lost (IsOpenerOf base source) openers x.innermost x.outer.items told.2 stand)
+left_answer base source rest at first openers h stand done (Some x) waiting_openers =
+    left_explained base source rest at first openers h x done waiting_openers.0 waiting_openers.1
+    (all_lost (IsOpenerOf base source) openers x.innermost x.outer.items waiting_openers.2 stand)
 
 -- the answer for a text that begins at an equal position
 pub answer_at : (base begin : ℕ) (source : List ℕ) (answer : Option Explained) → base ≡ begin

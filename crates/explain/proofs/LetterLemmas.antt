@@ -5,14 +5,15 @@ use Rattle.std.specs.Str.{chars}
 use Rattle.std.proofs.lemmas.Bool.{both_ways, cond-false, cond-true, false_from_ne_true, or_from}
 use Rattle.std.proofs.lemmas.Bool.{true_from_ne_false}
 use Rattle.lexical.specs.Class.{is_ident_continue, is_ident_start}
-use Rattle.lexical.specs.Finder.{Answer, and_find, behind, find_run, if_passes, while_front, while_rest}
-use Rattle.lexical.specs.Identifier.{identifier, is_allowed, is_reserved, literal_prefixes, name, raw_name, written}
-use Rattle.lexical.specs.PieceFinder.{found_identifier, name_kind, tagged}
+use Rattle.lexical.specs.Finder.{Answer, and_find, prepend, find_run, if_passes, while_front, while_rest}
+use Rattle.lexical.specs.Identifier.{identifier, is_allowed, is_reserved, literal_prefixes, name, raw_name}
+use Rattle.lexical.specs.Identifier.{any_identifier}
+use Rattle.lexical.specs.PieceFinder.{found_identifier, name_kind, and_kind}
 use Rattle.lexical.specs.RawString.{raw_front}
 use Rattle.lexical.specs.Rule.{Exactly, One, Run, Then, find}
-use Rattle.lexical.specs.Step.{Passes}
+use Rattle.lexical.specs.RuleMatch.{Passes}
 use Rattle.lexical.specs.Text.{begins_any, begins_with, first_passes}
-use Rattle.lexical.specs.declared.cursor.Cursor.{Cursor}
+use Rattle.lexical.specs.declared.cursor.TextCursor.{TextCursor}
 use Rattle.lexical.specs.declared.quoted.StringKind.{StringKind}
 use Rattle.lexical.specs.declared.quoted.StringKind.TheVariants as kinds
 use Rattle.lexical.proofs.ClassLemmas.{ident_start_ascii}
@@ -81,20 +82,20 @@ named_starts (c ∷ text) p r e = true_from_ne_false _ (λ no.
     sym (ap (and_find (find_run is_ident_continue)) (cond-false _ _ _ no)) ∙ e in
     absurd (cc))
 
-pub raw_name_reserved : (at inner end : Cursor) → Passes (Exactly (codes "r#")) at inner
+pub raw_name_reserved : (at inner end : TextCursor) → Passes (Exactly (codes "r#")) at inner
     → (named : Passes name inner end) → found_identifier (chars at.rest.now) ≡ None → is_reserved named.front ≡ true
 unfolding find
 raw_name_reserved at inner end front named none = true_from_ne_false _ (λ plain.
     let raw : find raw_name (chars inner.rest.now) ≡ Some (named.front, chars end.rest.now) =
     ap (if_passes (λ p r. is_allowed true p)) named.found ∙ cond-true _ _ _ (ap not plain) in
     let split = (past_text (codes "r#") at inner front).0 in
-    let found : find (written true) (chars at.rest.now) ≡ Some (codes "r#" ++ named.front, chars end.rest.now) =
-    ap (find (written true)) split ∙ ap (λ o. behind (codes "r#") o) raw in
+    let found : find (any_identifier true) (chars at.rest.now) ≡ Some (codes "r#" ++ named.front, chars end.rest.now) =
+    ap (find (any_identifier true)) split ∙ ap (λ o. prepend (codes "r#") o) raw in
     let apart = subst (λ t. begins_any literal_prefixes t ≡ false) (sym split)
     (starts_with (chars inner.rest.now)
     (named_starts (chars inner.rest.now) named.front (chars end.rest.now) named.found)) in
     let lacks = untagged_by (name_kind true) (find (identifier true) (chars at.rest.now))
-    (sym (ap (λ b. tagged (name_kind b) (find (identifier b) (chars at.rest.now)))
+    (sym (ap (λ b. and_kind (name_kind b) (find (identifier b) (chars at.rest.now)))
     (ap (begins_with (codes "r#")) split)) ∙ none) in
     let clash : ◌≡◌ {A = Answer} (Some (codes "r#" ++ named.front, chars end.rest.now)) None =
     sym found ∙ (sym (cond-false _ _ _ apart) ∙ lacks) in
@@ -140,7 +141,7 @@ run_none (c ∷ text) p r none e =
     let both : ◌≡◌ {A = List ℕ × List ℕ} ([], c ∷ text) (p, r) = cc in
     ap (λ x. x.1) both
 
-pub hashes_here : (kind : StringKind) (at inside end : Cursor) → Passes (Exactly (raw_front kind)) at inside
+pub hashes_here : (kind : StringKind) (at inside end : TextCursor) → Passes (Exactly (raw_front kind)) at inside
     → Passes (Run is_hash) inside end → find (Exactly (codes "\"")) (chars end.rest.now) ≡ None
     → found_identifier (chars at.rest.now) ≡ None → Passes (Then (One is_hash) (Run is_hash)) inside end
 hashes_here kind at inside end letters run quote none =

@@ -15,10 +15,10 @@ pub mod StuckLemmas
 pub mod LetterLemmas
 pub mod StandLemmas
 pub mod ExplainingLemmas
-pub mod Told
-pub mod ToldTextLemmas
-pub mod ToldQuoteLemmas
-pub mod ToldNumberLemmas
+pub mod MainReason
+pub mod TextReasonLemmas
+pub mod QuoteReasonLemmas
+pub mod NumberReasonLemmas
 pub mod PairedLemmas
 pub mod TakenLemmas
 pub mod OneContentLemmas

@@ -7,17 +7,17 @@ use Rattle.std.specs.Str.{chars}
 use Rattle.std.proofs.lemmas.Bool.{both_ways, cond-false, cond-true, or_from, true_from_ne_false}
 use Rattle.lexical.specs.Character.{single_quote}
 use Rattle.lexical.specs.Class.{is_ident_continue}
-use Rattle.lexical.specs.Finder.{Answer, and_find, behind, find_run, if_passes, while_front, while_rest}
-use Rattle.lexical.specs.Identifier.{is_allowed, is_reserved, name, raw_name, written}
+use Rattle.lexical.specs.Finder.{Answer, and_find, prepend, find_run, if_passes, while_front, while_rest}
+use Rattle.lexical.specs.Identifier.{is_allowed, is_reserved, name, raw_name, any_identifier}
 use Rattle.lexical.specs.Mark.{bars_quote, follows_quote}
 use Rattle.lexical.specs.PieceFinder.{find_lone_quote}
 use Rattle.lexical.specs.Rule.{Either, Exactly, One, Run, Then, Stands, find}
-use Rattle.lexical.specs.Step.{Passes}
+use Rattle.lexical.specs.RuleMatch.{Passes}
 use Rattle.lexical.specs.Text.{begins_with, first_passes}
-use Rattle.lexical.specs.declared.cursor.Cursor.{Cursor}
+use Rattle.lexical.specs.declared.cursor.TextCursor.{TextCursor}
 use Rattle.lexical.proofs.ClassLemmas.{ident_continue_ascii, ident_start_ascii}
 use Rattle.lexical.proofs.NameFinderLemmas.{unbarred_found}
-use Rattle.lexical.proofs.RuleSteps.{lacks_text, passed, past_text, then_passes}
+use Rattle.lexical.proofs.RuleSteps.{lacks_text, passes_piece, past_text, then_passes}
 use Rattle.lexical.proofs.TextLemmas.{begins_splits}
 use Rattle.explain.specs.Shapes.{closed_character, closed_single, closed_single_body, single_opening}
 use Rattle.explain.specs.Walk.{IsInside, IsPast}
@@ -26,7 +26,7 @@ some_none : (b : Bool) (x : List ℕ × List ℕ) → ◌≡◌ {A = Answer} (co
 some_none true x e = absurd (cc)
 some_none false x e = refl
 
-pub lone_false : (at inside : Cursor) → Passes (Exactly (codes "'")) at inside
+pub lone_false : (at inside : TextCursor) → Passes (Exactly (codes "'")) at inside
     → find_lone_quote (chars at.rest.now) ≡ None → follows_quote (chars inside.rest.now) ≡ false
 lone_false at inside h none =
     some_none (follows_quote (chars inside.rest.now)) (h.front, chars inside.rest.now)
@@ -48,27 +48,28 @@ no_bar (c ∷ text) a b = grind (arith, a, b)
 
 -- ---- raw lifetimes
 
-after_quote : (at inside inner : Cursor) → Passes (Exactly (codes "'")) at inside
+after_quote : (at inside inner : TextCursor) → Passes (Exactly (codes "'")) at inside
     → Passes (Exactly (codes "'r#")) at inner → chars inside.rest.now ≡ codes "r#" ++ chars inner.rest.now
 after_quote at inside inner h j =
     let whole : 39 ∷ chars inside.rest.now ≡ 39 ∷ (codes "r#" ++ chars inner.rest.now) =
     sym (past_text (codes "'") at inside h).0 ∙ (past_text (codes "'r#") at inner j).0 in
     cc
 
-allowed : (b : Bool) → b ≡ false → not (true && b) ≡ true
-allowed b e = ap not e
+not_allowed : (b : Bool) → b ≡ false → not (true && b) ≡ true
+not_allowed b e = ap not e
 
-pub raw_reserved : (at inside inner end : Cursor) → Passes (Exactly (codes "'")) at inside
+pub raw_reserved : (at inside inner end : TextCursor) → Passes (Exactly (codes "'")) at inside
     → Passes (Exactly (codes "'r#")) at inner → (named : Passes name inner end)
     → find (Exactly (codes "'")) (chars end.rest.now) ≡ None → find_lone_quote (chars at.rest.now) ≡ None
     → is_reserved named.front ≡ true
 unfolding find
 raw_reserved at inside inner end quote front named closed lone = true_from_ne_false _ (λ plain.
     let raw : find raw_name (chars inner.rest.now) ≡ Some (named.front, chars end.rest.now) =
-    ap (if_passes (λ p r. is_allowed true p)) named.found ∙ cond-true _ _ _ (allowed _ plain) in
+    ap (if_passes (λ p r. is_allowed true p)) named.found ∙ cond-true _ _ _ (not_allowed _ plain) in
     let split = after_quote at inside inner quote front in
-    let found : find (written true) (chars inside.rest.now) ≡ Some (codes "r#" ++ named.front, chars end.rest.now) =
-    ap (find (written true)) split ∙ ap (λ o. behind (codes "r#") o) raw in
+    let found : find (any_identifier true) (chars inside.rest.now)
+    ≡ Some (codes "r#" ++ named.front, chars end.rest.now) =
+    ap (find (any_identifier true)) split ∙ ap (λ o. prepend (codes "r#") o) raw in
     both_ways _ (lone_false at inside quote lone)
     (unbarred_found true (chars inside.rest.now) _ _ (ap (begins_with (codes "r#")) split) found
     ∙ ap not (no_bar_raw (chars end.rest.now) (no_first 39 (chars end.rest.now) closed))))
@@ -93,7 +94,8 @@ rest_of text rest p r e found =
     let pair : ◌≡◌ {A = List ℕ × List ℕ} (codes "r", 35 ∷ rest) (p, r) = cc in
     sym (ap (λ x. x.1) pair)
 
-pub hash_follows : (at inside end : Cursor) → Passes (Exactly (codes "'")) at inside → (named : Passes name inside end)
+pub hash_follows : (at inside end : TextCursor) → Passes (Exactly (codes "'")) at inside
+    → (named : Passes name inside end)
     → find (Exactly (codes "'")) (chars end.rest.now) ≡ None → find (Exactly (codes "#")) (chars end.rest.now) ≡ None
     → find_lone_quote (chars at.rest.now) ≡ None → ⊥
 unfolding find
@@ -106,7 +108,7 @@ hash_follows at inside end quote named closed hash lone = by_raw (begins_with (c
         both_ways (first_passes (λ c. c == 35) (chars end.rest.now)) (no_first 35 (chars end.rest.now) hash)
         (ap (first_passes (λ c. c == 35)) rest)
     by_raw false begins =
-        let found : find (written false) (chars inside.rest.now) ≡ Some (named.front, chars end.rest.now) =
+        let found : find (any_identifier false) (chars inside.rest.now) ≡ Some (named.front, chars end.rest.now) =
         cond-false _ _ _ (or_from _ _ begins refl) ∙ named.found in
         both_ways _ (lone_false at inside quote lone)
         (unbarred_found false (chars inside.rest.now) _ _ begins found
@@ -114,7 +116,7 @@ hash_follows at inside end quote named closed hash lone = by_raw (begins_with (c
         (no_first 35 (chars end.rest.now) hash)))
 
 -- after the `'` of `'r#` a name begins
-pub name_here : (at inside inner : Cursor) → Passes (Exactly (codes "'")) at inside
+pub name_here : (at inside inner : TextCursor) → Passes (Exactly (codes "'")) at inside
     → Passes (Exactly (codes "'r#")) at inner → find name (chars inside.rest.now) ≡ None → ⊥
 name_here at inside inner quote front none =
     let split = after_quote at inside inner quote front in
@@ -124,19 +126,19 @@ name_here at inside inner quote front none =
 
 -- ---- characters that are closed
 
-abbrev pub EndsAt : Cursor → Cursor → Type 0
+abbrev pub EndsAt : TextCursor → TextCursor → Type 0
 EndsAt at end = (past : IsPast at end) × Stands closed_character past.part (chars end.rest.now)
 
-pub single_ends : (at inside end : Cursor) → Passes single_opening at inside → Passes closed_single_body inside end
+pub single_ends : (at inside end : TextCursor) → Passes single_opening at inside → Passes closed_single_body inside end
     → EndsAt at end
 single_ends at inside end opens body =
     let all = then_passes single_opening closed_single_body at inside end opens body in
-    let is = passed closed_single (assumption) at end all in
+    let is = passes_piece closed_single (assumption) at end all in
     (record { part = all.front; whole = is.0; count = all.count }, inl is.1)
 
-pub single_inside : (inside end : Cursor) → Passes closed_single_body inside end → IsInside single_quote inside end
+pub single_inside : (inside end : TextCursor) → Passes closed_single_body inside end → IsInside single_quote inside end
 single_inside inside end body =
-    let is = passed closed_single_body (assumption) inside end body in
+    let is = passes_piece closed_single_body (assumption) inside end body in
     let last = by_rule body.front is.1 in
     (last.0, is.0 ∙ (ap (λ t. t ++ chars end.rest.now) last.1 ∙ append_assoc last.0 (codes "'") (chars end.rest.now)))
   where
@@ -145,7 +147,7 @@ single_inside inside end body =
     by_rule p (inl alone) = (alone.front, alone.whole ∙ ap (λ t. alone.front ++ t) alone.second)
     by_rule p (inr more) = (more.1.front, more.1.whole ∙ ap (λ t. more.1.front ++ t) more.1.second)
 
-module _ (at inside mid end : Cursor) (quote : Passes (Exactly (codes "'")) at inside)
+module _ (at inside mid end : TextCursor) (quote : Passes (Exactly (codes "'")) at inside)
     (close : Passes (Exactly (codes "'")) mid end) where
   opening : (chars at.rest.now ≡ codes "'" ++ chars inside.rest.now) × (inside.chars_before ≡ at.chars_before + 1)
   opening = past_text (codes "'") at inside quote
@@ -187,26 +189,27 @@ module _ (at inside mid end : Cursor) (quote : Passes (Exactly (codes "'")) at i
 
   pub name_ends : (named : Passes name inside mid) → EndsAt at end × IsInside single_quote inside end
   name_ends named =
-      let is = passed name (assumption) inside mid named in (
+      let is = passes_piece name (assumption) inside mid named in (
         plain_ends named.front is.0 named.count (inl (subst (Stands name named.front) closing.0 is.1)),
         quoted_inside named.front is.0 named.count,
       )
 
-  pub digits_end : (first : Cursor) → Passes (One is_ascii_digit) inside first → Passes (Run is_ident_continue) first
+  pub digits_end : (first : TextCursor) → Passes (One is_ascii_digit) inside first
+      → Passes (Run is_ident_continue) first
       mid
       → EndsAt at end × IsInside single_quote inside end
   digits_end first digit run =
       let rule = Then (One is_ascii_digit) (Run is_ident_continue) in
       let all = then_passes (One is_ascii_digit) (Run is_ident_continue) inside first mid digit run in
-      let is = passed rule (assumption) inside mid all in (
+      let is = passes_piece rule (assumption) inside mid all in (
         plain_ends all.front is.0 all.count (inr (subst (Stands rule all.front) closing.0 is.1)),
         quoted_inside all.front is.0 all.count,
       )
 
-  pub raw_ends : (inner : Cursor) → Passes (Exactly (codes "'r#")) at inner → (named : Passes name inner mid)
+  pub raw_ends : (inner : TextCursor) → Passes (Exactly (codes "'r#")) at inner → (named : Passes name inner mid)
       → EndsAt at end × IsInside single_quote inside end
   raw_ends inner front named =
-      let is = passed name (assumption) inner mid named in
+      let is = passes_piece name (assumption) inner mid named in
       let split = after_quote at inside inner quote front in
       let start = past_text (codes "'r#") at inner front in
       let part : List ℕ = codes "r#" ++ named.front in

@@ -8,10 +8,10 @@ use Rattle.std.specs.Str.{chars}
 use Rattle.std.proofs.lemmas.Bool.{and_parts, both_ways, cond_both, leb-false, leb-true, or_from}
 use Rattle.lexical.specs.Form.{Each, HasNone}
 use Rattle.lexical.specs.Rule.{Exactly, Run, Stands, find}
-use Rattle.lexical.specs.Step.{Passes}
+use Rattle.lexical.specs.RuleMatch.{Passes}
 use Rattle.lexical.specs.Text.{begins_with, first_passes}
-use Rattle.lexical.specs.declared.cursor.Cursor.{Cursor}
-use Rattle.lexical.proofs.RuleSteps.{lacks_text, passed, past_text, run_goes_on}
+use Rattle.lexical.specs.declared.cursor.TextCursor.{TextCursor}
+use Rattle.lexical.proofs.RuleSteps.{lacks_text, passes_piece, past_text, run_goes_on}
 use Rattle.lexical.proofs.TextLemmas.{begins_front}
 use Rattle.explain.specs.HintWalk.{CameNearest, longer}
 use Rattle.explain.specs.Shapes.{closed_raw_body, is_hash, raw_unit}
@@ -87,10 +87,10 @@ singles : List ℕ → List (List ℕ)
 singles [] = []
 singles (c ∷ p) = (c ∷ []) ∷ singles p
 
-unfoldable joined : (p : List ℕ) → concat (singles p) ≡ p
+unfoldable concat_singles : (p : List ℕ) → concat (singles p) ≡ p
 unfolding singles
-joined [] = refl
-joined (c ∷ p) = ap (λ t. c ∷ t) (joined p)
+concat_singles [] = refl
+concat_singles (c ∷ p) = ap (λ t. c ∷ t) (concat_singles p)
 
 each_of : (signs p r : List ℕ) → Bare (34 ∷ signs) p r → Each (Stands (raw_unit signs)) (singles p) r
 unfolding singles
@@ -98,7 +98,7 @@ each_of signs [] r h = tt
 each_of signs (c ∷ p) r h = (
   (
     (c, refl, refl),
-    or_from _ _ (subst (λ t. begins_with (34 ∷ signs) (c ∷ (t ++ r)) ≡ false) (sym (joined p)) h.0) refl,
+    or_from _ _ (subst (λ t. begins_with (34 ∷ signs) (c ∷ (t ++ r)) ≡ false) (sym (concat_singles p)) h.0) refl,
   ),
   each_of signs p r h.1,
 )
@@ -111,7 +111,7 @@ closes_of signs p r h = record {
   whole = refl;
   first = record {
     units = singles p;
-    whole = sym (joined p);
+    whole = sym (concat_singles p);
     each = each_of signs p ((34 ∷ signs) ++ r) h;
   };
   second = refl;
@@ -133,7 +133,7 @@ none_of signs text h = λ p r e is.
 -- ---- the loop
 
 -- a quote and its hash signs, and no quote before it has so many
-pub record Found (inside from to : Cursor) : Type 0 where
+pub record Found (inside from to : TextCursor) : Type 0 where
   pub before : IsPast inside from
   pub signs : List ℕ
   pub quote : chars from.rest.now ≡ (34 ∷ signs) ++ chars to.rest.now
@@ -142,25 +142,25 @@ pub record Found (inside from to : Cursor) : Type 0 where
   pub first : Bare (34 ∷ signs) before.part (chars from.rest.now)
 
 -- no quote that was read has more hash signs
-abbrev pub Best : Cursor → List ℕ → List ℕ → Option (Cursor × Cursor) → Type 0
+abbrev pub Best : TextCursor → List ℕ → List ℕ → Option (TextCursor × TextCursor) → Type 0
 Best inside part rest None = Bare (34 ∷ []) part rest
 Best inside part rest (Some x) = (found : Found inside x.0 x.1) × Bare (34 ∷ (35 ∷ found.signs)) part rest
 
-pub record Sought (inside at : Cursor) (found : Option (Cursor × Cursor)) : Type 0 where
+pub record Sought (inside at : TextCursor) (found : Option (TextCursor × TextCursor)) : Type 0 where
   pub past : IsPast inside at
   pub best : Best inside past.part (chars at.rest.now) found
   pub stops : first_passes no_quote (chars at.rest.now) ≡ false
 
-best_plain : (inside : Cursor) (part run rest : List ℕ) (best : Option (Cursor × Cursor))
+best_plain : (inside : TextCursor) (part run rest : List ℕ) (best : Option (TextCursor × TextCursor))
     → Best inside part (run ++ rest) best → list_all no_quote run ≡ true → Best inside (part ++ run) rest best
 best_plain inside part run rest None h all = bare_join (34 ∷ []) part run rest h (bare_plain [] run rest all)
 best_plain inside part run rest (Some x) h all =
     let need = 35 ∷ h.0.signs in
     (h.0, bare_join (34 ∷ need) part run rest h.1 (bare_plain need run rest all))
 
-pub sought_first : (inside at : Cursor) → Passes (Run (λ c. not (c == 34))) inside at → Sought inside at None
+pub sought_first : (inside at : TextCursor) → Passes (Run (λ c. not (c == 34))) inside at → Sought inside at None
 sought_first inside at h =
-    let is = passed (Run no_quote) tt inside at h in
+    let is = passes_piece (Run no_quote) tt inside at h in
     record {
       past = record { part = h.front; whole = is.0; count = h.count };
       best = bare_plain [] h.front (chars at.rest.now) is.1.each;
@@ -168,7 +168,7 @@ sought_first inside at h =
     }
 
 -- one more quote, with these hash signs
-module _ (inside at to : Cursor) (signs : List ℕ) (past : IsPast inside at)
+module _ (inside at to : TextCursor) (signs : List ℕ) (past : IsPast inside at)
     (quote : chars at.rest.now ≡ (34 ∷ signs) ++ chars to.rest.now)
     (count : to.chars_before ≡ at.chars_before + length (34 ∷ signs))
     (run : Stands (Run is_hash) signs (chars to.rest.now)) where
@@ -182,7 +182,7 @@ module _ (inside at to : Cursor) (signs : List ℕ) (past : IsPast inside at)
         (bare_quote (35 ∷ signs) signs (chars to.rest.now) run.each run (omega arith)),
   )
 
-  best_more : (best : Option (Cursor × Cursor)) → Best inside past.part (chars at.rest.now) best
+  best_more : (best : Option (TextCursor × TextCursor)) → Best inside past.part (chars at.rest.now) best
       → Best inside (past.part ++ (34 ∷ signs)) (chars to.rest.now) (longer best at to)
   best_more None h = here (bare_more [] signs past.part (chars at.rest.now) refl run.each (omega arith) h)
   best_more (Some x) h =
@@ -197,14 +197,15 @@ module _ (inside at to : Cursor) (signs : List ℕ) (past : IsPast inside at)
       (λ many. here (bare_more (35 ∷ h.0.signs) signs past.part (chars at.rest.now) h.0.run.each run.each
       (omega (arith, leb-false _ _ many, count, h.0.count)) h.1))
 
-pub sought_more : (inside at after to next : Cursor) (best : Option (Cursor × Cursor)) → Sought inside at best
+pub sought_more : (inside at after to next : TextCursor) (best : Option (TextCursor × TextCursor))
+    → Sought inside at best
     → Passes (Exactly (codes "\"")) at after → Passes (Run is_hash) after to
     → Passes (Run (λ c. not (c == 34))) to next → Sought inside next (longer best at to)
 unfolding further
 sought_more inside at after to next best h opens run more =
     let one = past_text (codes "\"") at after opens in
-    let signs = passed (Run is_hash) tt after to run in
-    let gap = passed (Run no_quote) tt to next more in
+    let signs = passes_piece (Run is_hash) tt after to run in
+    let gap = passes_piece (Run no_quote) tt to next more in
     let quote : chars at.rest.now ≡ (34 ∷ run.front) ++ chars to.rest.now =
     one.0 ∙ ap (λ t. 34 ∷ t) signs.0 in
     let step : IsPast at to = record {
@@ -221,7 +222,7 @@ sought_more inside at after to next best h opens run more =
       stops = gap.1.stops;
     }
 
-pub sought_shorter : (at after to next : Cursor) → Passes (Exactly (codes "\"")) at after
+pub sought_shorter : (at after to next : TextCursor) → Passes (Exactly (codes "\"")) at after
     → Passes (Run is_hash) after to → Passes (Run (λ c. not (c == 34))) to next
     → length (chars next.rest.now) < length (chars at.rest.now)
 sought_shorter at after to next opens run more =
@@ -233,7 +234,7 @@ sought_shorter at after to next opens run more =
     )
 
 -- the quote that was found is between its two cursors
-pub best_ordered : (inside at : Cursor) (best : Option (Cursor × Cursor)) → Sought inside at best
+pub best_ordered : (inside at : TextCursor) (best : Option (TextCursor × TextCursor)) → Sought inside at best
     → IfSome best (λ x. x.0.chars_before ≤ x.1.chars_before)
 best_ordered inside at None h = tt
 best_ordered inside at (Some x) h = omega (arith, h.best.0.count)
@@ -246,7 +247,8 @@ at_end (c ∷ text) stops none =
     let lacks = lacks_text (codes "\"") (c ∷ text) none in
     absurd (grind (arith, stops, lacks))
 
-nearest_is : (inside at : Cursor) (best : Option (Cursor × Cursor)) → Best inside (chars inside.rest.now) [] best
+nearest_is : (inside at : TextCursor) (best : Option (TextCursor × TextCursor))
+    → Best inside (chars inside.rest.now) [] best
     → MatchOption best (HasNone (Stands (closed_raw_body [])) (chars inside.rest.now))
     (λ x. CameNearest inside x.0 x.1)
 nearest_is inside at None h = none_of [] (chars inside.rest.now) h
@@ -261,7 +263,7 @@ nearest_is inside at (Some x) h = record {
   most = none_of (35 ∷ h.0.signs) (chars inside.rest.now) h.1;
 }
 
-pub nearest_found : (inside at : Cursor) (best : Option (Cursor × Cursor)) → Sought inside at best
+pub nearest_found : (inside at : TextCursor) (best : Option (TextCursor × TextCursor)) → Sought inside at best
     → find (Exactly (codes "\"")) (chars at.rest.now) ≡ None
     → MatchOption best (HasNone (Stands (closed_raw_body [])) (chars inside.rest.now))
     (λ x. CameNearest inside x.0 x.1)

@@ -6,7 +6,7 @@ use Rattle.lexical.specs.Class.{is_white, is_ident_start}
 use Rattle.lexical.specs.Finder.{Answer}
 use Rattle.lexical.specs.Mark.{is_mark}
 use Rattle.lexical.specs.Piece.{FrontMark, IsPiece, Kind}
-use Rattle.lexical.specs.PieceFinder.{Found, find_front_mark, found, front_mark_kind, piece_start, tagged}
+use Rattle.lexical.specs.PieceFinder.{Found, find_front_mark, find_piece, front_mark_kind, piece_start, and_kind}
 use Rattle.lexical.specs.Rule.{One, Exactly}
 use Rattle.lexical.specs.declared.class.PieceStart.TheVariants as starts
 use Rattle.lexical.proofs.AnswerLemmas.{at_start}
@@ -16,7 +16,7 @@ use Rattle.explain.specs.Reason.{Begins, Holds}
 use Rattle.explain.specs.Shapes.{begins_nothing}
 use Rattle.explain.specs.declared.reason.Reason.{Reason}
 use Rattle.explain.specs.declared.reason.Reason.TheVariants as reasons
-use Rattle.explain.proofs.ToldTextLemmas.{at_front}
+use Rattle.explain.proofs.TextReasonLemmas.{at_front}
 use Rattle.explain.proofs.UnfoundLemmas.{bad_digit_unfound, bad_end_unfound, bare_return_unfound, no_digits_unfound}
 use Rattle.explain.proofs.UnfoundLemmas.{unclosed_comment_unfound}
 use Rattle.explain.proofs.UnfoundQuoteLemmas.{bad_single_unfound, digit_lifetime_unfound, hash_after_unfound}
@@ -50,7 +50,7 @@ other_start c is =
     ∙ cond-false _ _ _ mark.1))))))))
 
 no_token_unfound : (first : Bool) (f p r : List ℕ) → Begins (One begins_nothing) f p r
-    → found first (f ++ (p ++ r)) ≡ None
+    → find_piece first (f ++ (p ++ r)) ≡ None
 no_token_unfound first f p r is =
     let one = is.1 in
     at_start first starts.Other (at_front f p r is.0 ∙ ap (λ t. t ++ r) one.1) (sym (other_start one.0 one.2))
@@ -63,13 +63,13 @@ Only x kind = (kind ≡ FrontMark) × (x ≡ reasons.MisplacedMark)
 
 module _ (first : Bool) (kind : Kind) (q s : List ℕ) (piece : IsPiece first kind q s) where
   -- if no piece is found, none begins there
-  not_found : (x : Reason) (text : List ℕ) → text ≡ q ++ s → found first text ≡ None → Only x kind
+  not_found : (x : Reason) (text : List ℕ) → text ≡ q ++ s → find_piece first text ≡ None → Only x kind
   not_found x text e none =
       let clash : ◌≡◌ {A = Found} None (Some (kind, q, s)) =
-      sym none ∙ (ap (found first) e ∙ found_complete first kind q s piece) in
+      sym none ∙ (ap (find_piece first) e ∙ found_complete first kind q s piece) in
       absurd (cc)
 
-  mark_kind : (o : Answer) → tagged front_mark_kind o ≡ Some (kind, q, s) → kind ≡ FrontMark
+  mark_kind : (o : Answer) → and_kind front_mark_kind o ≡ Some (kind, q, s) → kind ≡ FrontMark
   mark_kind None e = absurd (cc)
   mark_kind (Some x) e =
       let parts : ◌≡◌ {A = Kind × List ℕ × List ℕ} (FrontMark, x.0, x.1) (kind, q, s) = cc in
@@ -82,7 +82,7 @@ module _ (first : Bool) (kind : Kind) (q s : List ℕ) (piece : IsPiece first ki
       let whole : text ≡ 0xFEFF ∷ r = at_front f p r is.0 ∙ ap (λ t. t ++ r) is.1 in (
         mark_kind (find_front_mark first text)
             (sym (at_start first starts.FrontMark whole (sym start_front_mark))
-            ∙ (ap (found first) e ∙ found_complete first kind q s piece)),
+            ∙ (ap (find_piece first) e ∙ found_complete first kind q s piece)),
         refl,
       )
 

@@ -17,7 +17,7 @@ use Rattle.lexical.specs.Text.{begins_any, begins_with}
 use Rattle.lexical.specs.declared.quoted.StringKind.{StringKind}
 use Rattle.lexical.specs.declared.quoted.StringKind.TheVariants as kinds
 use Rattle.lexical.proofs.QuotedFinderLemmas.{clear_body, clear_raw_body}
-use Rattle.lexical.proofs.RuleLemmas.{Clear, barred, one_split}
+use Rattle.lexical.proofs.RuleLemmas.{Clear, bars_sound, one_split}
 use Rattle.literal_escaper.specs.declared.errors.EscapeError.{EscapeError}
 use Rattle.literal_escaper.specs.Escape.{Read, fault}
 use Rattle.literal_escaper.specs.Items.{unit_front}
@@ -31,10 +31,11 @@ use Rattle.explain.specs.declared.quotes.SingleKind.{SingleKind}
 use Rattle.explain.specs.declared.quotes.SingleKind.TheVariants as singles
 use Rattle.explain.proofs.PairedLemmas.{Paired, paired_of, past_units}
 use Rattle.explain.proofs.TakenLemmas.{no_unit_at}
-use Rattle.explain.proofs.Told.{Front, Quotes, Letters, Bytes, Lone, digit_named, front_of, letters_front, plain_named}
-use Rattle.explain.proofs.Told.{quotes_front, raw_named}
-use Rattle.explain.proofs.ToldQuoteLemmas.{name_first, named_bars, named_is, no_both, no_opening, stops_at_hash}
-use Rattle.explain.proofs.ToldTextLemmas.{IsSigned, closed_whole, one_signed}
+use Rattle.explain.proofs.MainReason.{Front, Quotes, Letters, Bytes, Lone, digit_named, front_of, letters_front}
+use Rattle.explain.proofs.MainReason.{plain_named}
+use Rattle.explain.proofs.MainReason.{quotes_front, raw_named}
+use Rattle.explain.proofs.QuoteReasonLemmas.{name_first, named_bars, named_is, no_both, no_opening, stops_at_hash}
+use Rattle.explain.proofs.TextReasonLemmas.{IsSigned, closed_whole, one_signed}
 
 -- ---- units up to where there is none
 
@@ -422,7 +423,8 @@ one_character text rest p q r s lone e o (inr is) (inr other) =
 pub byte_single : (text rest p r : List ℕ) → text ≡ codes "b'" ++ rest → text ≡ p ++ r → Stands closed_character p r
     → Stands closed_single p r
 byte_single text rest p r byte e (inl is) = is
-byte_single text rest p r byte e (inr is) = absurd (barred (codes "b'") closed_named refl rest p r is (sym e ∙ byte))
+byte_single text rest p r byte e (inr is) =
+    absurd (bars_sound (codes "b'") closed_named refl rest p r is (sym e ∙ byte))
 
 -- the text begins with a character literal that is closed, with an error in its content
 pub record IsSinglePlace (kind : SingleKind) (e : EscapeError) (text : List ℕ) : Type 0 where

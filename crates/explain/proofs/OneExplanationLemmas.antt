@@ -28,10 +28,10 @@ use Rattle.explain.specs.declared.explained.Stretch.{Stretch}
 use Rattle.explain.specs.declared.reason.Reason.{Reason}
 use Rattle.explain.specs.declared.reason.Reason.TheVariants as reasons
 use Rattle.explain.specs.Shapes.{begins_nothing}
-use Rattle.explain.proofs.ExclusiveLemmas.{one_reason, told_is}
+use Rattle.explain.proofs.ExclusiveLemmas.{one_reason, main_reason_is}
 use Rattle.explain.proofs.OnePlaceLemmas.{one_place, same_size}
-use Rattle.explain.proofs.Told.{content, sort, sort_is, told}
-use Rattle.explain.proofs.ToldTextLemmas.{at_front}
+use Rattle.explain.proofs.MainReason.{content, sort, sort_is, main_reason}
+use Rattle.explain.proofs.TextReasonLemmas.{at_front}
 
 -- ---- one position
 
@@ -82,9 +82,9 @@ no_token x e = elim (sort_is x) [
 no_opener : (c : ℕ) (after : List ℕ) → is_opener c ≡ true → (x : Reason) (f p r : List ℕ) → Holds x f p r
     → f ++ (p ++ r) ≡ c ∷ after → ⊥
 no_opener c after opens x f p r holds e =
-    let none : told (c ∷ after) ≡ reasons.NoToken =
-    any_of (λ d. told (d ∷ after) ≡ reasons.NoToken) (codes "([{") c (refl, (refl, (refl, tt))) opens in
-    let same : x ≡ reasons.NoToken = no_token x (sym (told_is x f p r holds) ∙ (ap told e ∙ none)) in
+    let none : main_reason (c ∷ after) ≡ reasons.NoToken =
+    any_of (λ d. main_reason (d ∷ after) ≡ reasons.NoToken) (codes "([{") c (refl, (refl, (refl, tt))) opens in
+    let same : x ≡ reasons.NoToken = no_token x (sym (main_reason_is x f p r holds) ∙ (ap main_reason e ∙ none)) in
     let is : Holds reasons.NoToken f p r = subst (λ z. Holds z f p r) same holds in
     let one = is.1 in
     let front : one.0 ∷ r ≡ c ∷ after = sym (at_front f p r is.0 ∙ ap (λ t. t ++ r) one.1) ∙ e in
@@ -127,8 +127,9 @@ module _ (base : ℕ) (source : List ℕ) (x y : Explained) (g : IsExplained bas
     place : x.before.span.lo ≡ y.before.span.lo
     place = one_fault base source x.before.span.lo y.before.span.lo g.fault h.fault
 
-    rests : x.before.span.lo ≡ base + length g.behind → y.before.span.lo ≡ base + length h.behind → g.rest ≡ h.rest
-    rests a b = one_front g.behind h.behind g.rest h.rest (sym g.whole ∙ h.whole) (omega (arith, a, b, place))
+    rests : x.before.span.lo ≡ base + length g.text_before → y.before.span.lo ≡ base + length h.text_before
+        → g.rest ≡ h.rest
+    rests a b = one_front g.text_before h.text_before g.rest h.rest (sym g.whole ∙ h.whole) (omega (arith, a, b, place))
 
     -- if an opener is left open, the fault is where it begins
     record IsOpened (rest : List ℕ) : Type 0 where
@@ -137,28 +138,28 @@ module _ (base : ℕ) (source : List ℕ) (x y : Explained) (g : IsExplained bas
       opens : is_opener character ≡ true
       whole : rest ≡ character ∷ after
 
-    opened : x.before.span.lo ≡ base + length g.behind → IsLeftOpen h.rest y → IsOpened g.rest
+    opened : x.before.span.lo ≡ base + length g.text_before → IsLeftOpen h.rest y → IsOpened g.rest
     opened a left =
         let says = left.says in
         let stands : IsOpenerOf base source says.opener =
         subst (λ o. IfSome o (IsOpenerOf base source)) says.innermost h.inmost in
-        let lo : says.opener.at.span.lo ≡ base + length stands.behind = ap (λ s. s.lo) stands.at.span in
+        let lo : says.opener.at.span.lo ≡ base + length stands.text_before = ap (λ s. s.lo) stands.at.span in
         let begin : y.before.span.lo ≡ says.opener.at.span.lo = ap (λ s. s.span.lo) says.before in
         record {
           character = stands.character;
           after = stands.after;
           opens = stands.opens;
-          whole = one_front g.behind stands.behind g.rest (stands.character ∷ stands.after)
+          whole = one_front g.text_before stands.text_before g.rest (stands.character ∷ stands.after)
               (sym g.whole ∙ stands.whole) (omega (arith, a, lo, begin, place));
         }
 
-    not_stuck_open : IsStuck base g.behind (is_first g.pieces) g.rest x → IsLeftOpen h.rest y → ⊥
+    not_stuck_open : IsStuck base g.text_before (is_first g.pieces) g.rest x → IsLeftOpen h.rest y → ⊥
     not_stuck_open stuck left =
         let at = opened (ap (λ s. s.lo) stuck.before.span) left in
         no_opener at.character at.after at.opens x.reason stuck.front stuck.part stuck.after stuck.holds
         (sym stuck.split ∙ at.whole)
 
-    not_refused_open : IsRefused base g.behind (is_first g.pieces) g.rest x → IsLeftOpen h.rest y → ⊥
+    not_refused_open : IsRefused base g.text_before (is_first g.pieces) g.rest x → IsLeftOpen h.rest y → ⊥
     not_refused_open refused left =
         let at = opened (ap (λ s. s.lo) refused.before.span) left in
         let one = refused.stands in
@@ -167,21 +168,21 @@ module _ (base : ℕ) (source : List ℕ) (x y : Explained) (g : IsExplained bas
         let first : at.character ≡ one.0 = cc in
         no_both one.0 (ap is_opener (sym first) ∙ at.opens) (and_parts (is_closer one.0) _ one.2).0
 
-    not_stuck_refused : IsStuck base g.behind (is_first g.pieces) g.rest x
-        → IsRefused base h.behind (is_first h.pieces) h.rest y → ⊥
+    not_stuck_refused : IsStuck base g.text_before (is_first g.pieces) g.rest x
+        → IsRefused base h.text_before (is_first h.pieces) h.rest y → ⊥
     not_stuck_refused stuck refused =
         stuck.none (Close refused.closer) refused.part refused.after
         (rests (ap (λ s. s.lo) stuck.before.span) (ap (λ s. s.lo) refused.before.span) ∙ refused.split) refused.stands
 
-    both_stuck : IsStuck base g.behind (is_first g.pieces) g.rest x
-        → IsStuck base h.behind (is_first h.pieces) h.rest y → x.reason ≡ y.reason
+    both_stuck : IsStuck base g.text_before (is_first g.pieces) g.rest x
+        → IsStuck base h.text_before (is_first h.pieces) h.rest y → x.reason ≡ y.reason
     both_stuck stuck other =
         one_reason x.reason y.reason stuck.front stuck.part stuck.after other.front other.part other.after stuck.holds
         other.holds
         (sym stuck.split ∙ (rests (ap (λ s. s.lo) stuck.before.span) (ap (λ s. s.lo) other.before.span) ∙ other.split))
 
-    both_refused : IsRefused base g.behind (is_first g.pieces) g.rest x
-        → IsRefused base h.behind (is_first h.pieces) h.rest y → x.reason ≡ y.reason
+    both_refused : IsRefused base g.text_before (is_first g.pieces) g.rest x
+        → IsRefused base h.text_before (is_first h.pieces) h.rest y → x.reason ≡ y.reason
     both_refused refused other =
         let rest = rests (ap (λ s. s.lo) refused.before.span) (ap (λ s. s.lo) other.before.span) in
         let pieces : g.pieces ≡ h.pieces =
@@ -193,12 +194,14 @@ module _ (base : ℕ) (source : List ℕ) (x y : Explained) (g : IsExplained bas
           | inl stray ↦ elim (refused_for (delimiter_of other.closer) y.reason y.innermost other.refuses) [
             | inl also ↦ stray.0 ∙ sym also.0
             | inr mismatched ↦ absurd (not_both_open (expansion base h.pieces) g.waits h.waits y.innermost x.outer.items
-                y.outer.items leaves h.leaves (subst (λ o. WaitsAs g.waits o x.outer.items) stray.1 g.told) h.told
+                y.outer.items leaves h.leaves (subst (λ o. WaitsAs g.waits o x.outer.items) stray.1 g.waiting_openers)
+                h.waiting_openers
                 mismatched.1.0 mismatched.1.1)
           ]
           | inr mismatched ↦ elim (refused_for (delimiter_of other.closer) y.reason y.innermost other.refuses) [
             | inl stray ↦ absurd (not_both_open (expansion base h.pieces) h.waits g.waits x.innermost y.outer.items
-                x.outer.items h.leaves leaves (subst (λ o. WaitsAs h.waits o y.outer.items) stray.1 h.told) g.told
+                x.outer.items h.leaves leaves (subst (λ o. WaitsAs h.waits o y.outer.items) stray.1 h.waiting_openers)
+                g.waiting_openers
                 mismatched.1.0 mismatched.1.1)
             | inr also ↦ mismatched.0 ∙ sym also.0
           ]
@@ -206,59 +209,61 @@ module _ (base : ℕ) (source : List ℕ) (x y : Explained) (g : IsExplained bas
 
 -- ---- the parts of the text in two explanations
 
-abbrev made : ℕ → ℕ → Extent → Stretch
-made start end span = record { start = start; end = end; span = span }
+abbrev make_stretch : ℕ → ℕ → Extent → Stretch
+make_stretch start end span = record { start = start; end = end; span = span }
 
 -- the `Stretch` of a part of the text is determined
-one_stretch : (base : ℕ) (behind part : List ℕ) (s t : Stretch) → IsStretch base behind part s
-    → IsStretch base behind part t
+one_stretch : (base : ℕ) (text_before part : List ℕ) (s t : Stretch) → IsStretch base text_before part s
+    → IsStretch base text_before part t
     → s ≡ t
-one_stretch base behind part s t is other =
-    ap (λ n. made n s.end s.span) (is.start ∙ sym other.start)
-    ∙ (ap (λ n. made t.start n s.span) (is.end ∙ sym other.end)
-    ∙ ap (λ e. made t.start t.end e) (is.span ∙ sym other.span))
+one_stretch base text_before part s t is other =
+    ap (λ n. make_stretch n s.end s.span) (is.start ∙ sym other.start)
+    ∙ (ap (λ n. make_stretch t.start n s.span) (is.end ∙ sym other.end)
+    ∙ ap (λ e. make_stretch t.start t.end e) (is.span ∙ sym other.span))
 
 same_stretch : (base : ℕ) (a b p q : List ℕ) (s t : Stretch) → a ≡ b → p ≡ q → IsStretch base a p s
     → IsStretch base b q t
     → s ≡ t
-same_stretch base a b p q s t behind part is other =
-    one_stretch base b q s t (subst (λ v. IsStretch base b v s) part (subst (λ v. IsStretch base v p s) behind is))
+same_stretch base a b p q s t text_before part is other =
+    one_stretch base b q s t (subst (λ v. IsStretch base b v s) part (subst (λ v. IsStretch base v p s) text_before is))
     other
 
-abbrev SameTold : Explained → Explained → Type 0
-SameTold x y = (x.reason ≡ y.reason) × (x.before ≡ y.before) × (x.at ≡ y.at)
+abbrev SameReason : Explained → Explained → Type 0
+SameReason x y = (x.reason ≡ y.reason) × (x.before ≡ y.before) × (x.at ≡ y.at)
 
 module _ (base : ℕ) (source : List ℕ) (x y : Explained) (g : IsExplained base source x) (h : IsExplained base source y)
   where
-    behinds : x.before.span.lo ≡ base + length g.behind → y.before.span.lo ≡ base + length h.behind
-        → g.behind ≡ h.behind
-    behinds a b =
-        (same_size g.behind h.behind g.rest h.rest (sym g.whole ∙ h.whole)
+    text_befores : x.before.span.lo ≡ base + length g.text_before → y.before.span.lo ≡ base + length h.text_before
+        → g.text_before ≡ h.text_before
+    text_befores a b =
+        (same_size g.text_before h.text_before g.rest h.rest (sym g.whole ∙ h.whole)
         (omega (arith, a, b, place base source x y g h))).0
 
-    told_stuck : IsStuck base g.behind (is_first g.pieces) g.rest x
-        → IsStuck base h.behind (is_first h.pieces) h.rest y → SameTold x y
-    told_stuck stuck other =
+    reason_stuck : IsStuck base g.text_before (is_first g.pieces) g.rest x
+        → IsStuck base h.text_before (is_first h.pieces) h.rest y → SameReason x y
+    reason_stuck stuck other =
         let a = ap (λ s. s.lo) stuck.before.span in
         let b = ap (λ s. s.lo) other.before.span in
-        let behind = behinds a b in
+        let text_before = text_befores a b in
         let text = sym stuck.split ∙ (rests base source x y g h a b ∙ other.split) in
         let reason = both_stuck base source x y g h stuck other in
         let at = one_place y.reason stuck.front stuck.part stuck.after other.front other.part other.after
         (subst (λ z. Holds z stuck.front stuck.part stuck.after) reason stuck.holds) other.holds text in (
           reason,
-          same_stretch base g.behind h.behind stuck.front other.front x.before y.before behind at.0 stuck.before
+          same_stretch base g.text_before h.text_before stuck.front other.front x.before y.before text_before at.0
+              stuck.before
               other.before,
-          same_stretch base (g.behind ++ stuck.front) (h.behind ++ other.front) stuck.part other.part x.at y.at
-              (ap₂ (λ v w. v ++ w) behind at.0) at.1 stuck.at other.at,
+          same_stretch base (g.text_before ++ stuck.front) (h.text_before ++ other.front) stuck.part other.part x.at
+              y.at
+              (ap₂ (λ v w. v ++ w) text_before at.0) at.1 stuck.at other.at,
         )
 
-    told_refused : IsRefused base g.behind (is_first g.pieces) g.rest x
-        → IsRefused base h.behind (is_first h.pieces) h.rest y → SameTold x y
-    told_refused refused other =
+    reason_refused : IsRefused base g.text_before (is_first g.pieces) g.rest x
+        → IsRefused base h.text_before (is_first h.pieces) h.rest y → SameReason x y
+    reason_refused refused other =
         let a = ap (λ s. s.lo) refused.before.span in
         let b = ap (λ s. s.lo) other.before.span in
-        let behind = behinds a b in
+        let text_before = text_befores a b in
         let one = refused.stands in
         let two = other.stands in
         let front : one.0 ∷ refused.after ≡ two.0 ∷ other.after =
@@ -267,39 +272,42 @@ module _ (base : ℕ) (source : List ℕ) (x y : Explained) (g : IsExplained bas
         let first : one.0 ≡ two.0 = cc in
         let part : refused.part ≡ other.part = one.1 ∙ (ap (λ c. c ∷ []) first ∙ sym two.1) in (
           both_refused base source x y g h refused other,
-          same_stretch base g.behind h.behind [] [] x.before y.before behind refl refused.before other.before,
-          same_stretch base g.behind h.behind refused.part other.part x.at y.at behind part refused.at other.at,
+          same_stretch base g.text_before h.text_before [] [] x.before y.before text_before refl refused.before
+              other.before,
+          same_stretch base g.text_before h.text_before refused.part other.part x.at y.at text_before part refused.at
+              other.at,
         )
 
-    told_open : IsLeftOpen g.rest x → IsLeftOpen h.rest y → SameTold x y
-    told_open left other =
+    reason_open : IsLeftOpen g.rest x → IsLeftOpen h.rest y → SameReason x y
+    reason_open left other =
         let mine = left.says in
-        let said = other.says in
+        let doc_body = other.says in
         let is : IsOpenerOf base source mine.opener =
         subst (λ o. IfSome o (IsOpenerOf base source)) mine.innermost g.inmost in
-        let also : IsOpenerOf base source said.opener =
-        subst (λ o. IfSome o (IsOpenerOf base source)) said.innermost h.inmost in
-        let a : mine.opener.at.span.lo ≡ base + length is.behind = ap (λ s. s.lo) is.at.span in
-        let b : said.opener.at.span.lo ≡ base + length also.behind = ap (λ s. s.lo) also.at.span in
+        let also : IsOpenerOf base source doc_body.opener =
+        subst (λ o. IfSome o (IsOpenerOf base source)) doc_body.innermost h.inmost in
+        let a : mine.opener.at.span.lo ≡ base + length is.text_before = ap (λ s. s.lo) is.at.span in
+        let b : doc_body.opener.at.span.lo ≡ base + length also.text_before = ap (λ s. s.lo) also.at.span in
         let c : x.before.span.lo ≡ mine.opener.at.span.lo = ap (λ s. s.span.lo) mine.before in
-        let d : y.before.span.lo ≡ said.opener.at.span.lo = ap (λ s. s.span.lo) said.before in
-        let both = same_size is.behind also.behind (is.character ∷ is.after) (also.character ∷ also.after)
+        let d : y.before.span.lo ≡ doc_body.opener.at.span.lo = ap (λ s. s.span.lo) doc_body.before in
+        let both = same_size is.text_before also.text_before (is.character ∷ is.after) (also.character ∷ also.after)
         (sym is.whole ∙ also.whole) (omega (arith, a, b, c, d, place base source x y g h)) in
         let rest : is.character ∷ is.after ≡ also.character ∷ also.after = both.1 in
         let first : is.character ≡ also.character = cc in
-        let same = same_stretch base is.behind also.behind (is.character ∷ []) (also.character ∷ []) mine.opener.at
-        said.opener.at both.0 (ap (λ v. v ∷ []) first) is.at also.at in (
-          mine.reason ∙ sym said.reason,
-          mine.before ∙ (ap front_of same ∙ sym said.before),
-          mine.at ∙ (same ∙ sym said.at),
+        let same = same_stretch base is.text_before also.text_before (is.character ∷ []) (also.character ∷ [])
+        mine.opener.at
+        doc_body.opener.at both.0 (ap (λ v. v ∷ []) first) is.at also.at in (
+          mine.reason ∙ sym doc_body.reason,
+          mine.before ∙ (ap front_of same ∙ sym doc_body.before),
+          mine.at ∙ (same ∙ sym doc_body.at),
         )
 
 -- two explanations have the same reason and the same parts of the text
 pub one_explanation : (base : ℕ) (source : List ℕ) (x y : Explained) → IsExplained base source x
-    → IsExplained base source y → SameTold x y
+    → IsExplained base source y → SameReason x y
 one_explanation base source x y g h = elim g.because [
   | inl stuck ↦ elim h.because [
-    | inl also ↦ told_stuck base source x y g h stuck also
+    | inl also ↦ reason_stuck base source x y g h stuck also
     | inr other ↦ elim other [
       | inl refused ↦ absurd (not_stuck_refused base source x y g h stuck refused)
       | inr left ↦ absurd (not_stuck_open base source x y g h stuck left)
@@ -309,7 +317,7 @@ one_explanation base source x y g h = elim g.because [
     | inl refused ↦ elim h.because [
       | inl stuck ↦ absurd (not_stuck_refused base source y x h g stuck refused)
       | inr other ↦ elim other [
-        | inl also ↦ told_refused base source x y g h refused also
+        | inl also ↦ reason_refused base source x y g h refused also
         | inr left ↦ absurd (not_refused_open base source x y g h refused left)
       ]
     ]
@@ -317,7 +325,7 @@ one_explanation base source x y g h = elim g.because [
       | inl stuck ↦ absurd (not_stuck_open base source y x h g stuck left)
       | inr other ↦ elim other [
         | inl refused ↦ absurd (not_refused_open base source y x h g refused left)
-        | inr also ↦ told_open base source x y g h left also
+        | inr also ↦ reason_open base source x y g h left also
       ]
     ]
   ]

@@ -34,9 +34,9 @@ use Rattle.explain.proofs.OneContentLemmas.{IsPlace, IsRawPlace, IsSinglePlace, 
 use Rattle.explain.proofs.OneContentLemmas.{not_quotes_single, one_raw_rest, one_rest, one_single_content, place_front}
 use Rattle.explain.proofs.OneContentLemmas.{place_of, raw_place_front, raw_place_of, same_letters, same_quotes}
 use Rattle.explain.proofs.OneContentLemmas.{same_singles, single_place_front, single_place_of}
-use Rattle.explain.proofs.Told.{Letters, Quotes, front_of, letters_front, quotes_front}
-use Rattle.explain.proofs.ToldNumberLemmas.{bad_digit_whole, no_digits_whole, same_base}
-use Rattle.explain.proofs.ToldTextLemmas.{at_front, hashed_signed, long_opens, opening_signed}
+use Rattle.explain.proofs.MainReason.{Letters, Quotes, front_of, letters_front, quotes_front}
+use Rattle.explain.proofs.NumberReasonLemmas.{bad_digit_whole, no_digits_whole, same_base}
+use Rattle.explain.proofs.TextReasonLemmas.{at_front, hashed_signed, long_opens, opening_signed}
 
 -- ---- wrong parts at the start of the text
 
@@ -149,10 +149,10 @@ bare_place : (f p r g q s : List ℕ) → IsBareReturn f p r → IsBareReturn g 
 bare_place f p r g q s is other e =
     let one = one_split comment (assumption) is.comment other.comment is.after other.after is.stands.0 other.stands.0
     (sym is.whole ∙ (e ∙ other.whole)) in
-    let said : is.opening ++ ((is.before ++ (p ++ is.more)) ++ closing is.comment is.after)
+    let doc_body : is.opening ++ ((is.before ++ (p ++ is.more)) ++ closing is.comment is.after)
     ≡ other.opening ++ ((other.before ++ (q ++ other.more)) ++ closing other.comment other.after) =
     sym is.text ∙ (one.0 ∙ other.text) in
-    let opening = same_size is.opening other.opening _ _ said (is.three ∙ sym other.three) in
+    let opening = same_size is.opening other.opening _ _ doc_body (is.three ∙ sym other.three) in
     let inner : is.before ++ (p ++ is.more) ≡ other.before ++ (q ++ other.more) =
     append_cancel_right _ _ (closing other.comment other.after)
     (ap (λ t. (is.before ++ (p ++ is.more)) ++ t) (ap₂ closing (sym one.0) (sym one.1)) ∙ opening.1) in

@@ -9,7 +9,7 @@ use Rattle.lexical.specs.Comment.{BlockComment}
 use Rattle.lexical.specs.Form.{HasNone, Many}
 use Rattle.lexical.specs.Rule.{Stands}
 use Rattle.lexical.specs.Text.{begins_any}
-use Rattle.lexical.specs.declared.cursor.Cursor.{Cursor}
+use Rattle.lexical.specs.declared.cursor.TextCursor.{TextCursor}
 use Rattle.explain.specs.Hint.{AreOpen, no_end, open_unit}
 use Rattle.explain.specs.HintWalk.{EndedLast, IsSign, LeftComments}
 use Rattle.explain.specs.Walk.{IsPast}
@@ -36,42 +36,42 @@ body_join : (a b after : List ℕ) → BlockBody a (b ++ after) → BlockBody b 
 body_join a b after is h = join_at a b after (b ++ after) refl is h
 
 -- a comment begins at the first cursor, and hasn't ended at the second
-pub record Inside (x at : Cursor) : Type 0 where
+pub record Inside (x at : TextCursor) : Type 0 where
   pub body : List ℕ
   pub whole : chars x.rest.now ≡ (codes "/*" ++ body) ++ chars at.rest.now
   pub is : BlockBody body (chars at.rest.now)
   pub count : at.chars_before ≡ x.chars_before + (2 + length body)
 
 -- the comments that are open at the cursor, the innermost first
-abbrev pub Chain : Cursor → List Cursor → Cursor → Type 0
+abbrev pub Chain : TextCursor → List TextCursor → TextCursor → Type 0
 Chain start [] at = at ≡ start
 Chain start (x ∷ outer) at = Inside x at × Chain start outer x
 
 -- ---- the comment that ended last
 
 -- no comment ends between the two cursors
-pub record Plain (from at : Cursor) : Type 0 where
+pub record Plain (from at : TextCursor) : Type 0 where
   pub past : IsPast from at
   pub many : Many (Stands open_unit) past.part (chars at.rest.now)
 
 -- a comment ended, which is between the cursors `from` and `to`
-pub record Ended (start from to : Cursor) : Type 0 where
-  pub outer : List Cursor
+pub record Ended (start from to : TextCursor) : Type 0 where
+  pub outer : List TextCursor
   pub chain : Chain start outer from
   pub comment : IsPast from to
   pub stands : BlockComment comment.part (chars to.rest.now)
 
-abbrev pub Told : Cursor → Cursor → Option (Cursor × Cursor) → Type 0
-Told start at None = Plain start at
-Told start at (Some x) = Ended start x.0 x.1 × Plain x.1 at
+abbrev pub CommentState : TextCursor → TextCursor → Option (TextCursor × TextCursor) → Type 0
+CommentState start at None = Plain start at
+CommentState start at (Some x) = Ended start x.0 x.1 × Plain x.1 at
 
-plain_here : (at : Cursor) → Plain at at
+plain_here : (at : TextCursor) → Plain at at
 plain_here at = record {
   past = record { part = []; whole = refl; count = omega arith };
   many = record { units = []; whole = refl; each = tt };
 }
 
-plain_more : (from at to : Cursor) → Plain from at → (past : IsPast at to)
+plain_more : (from at to : TextCursor) → Plain from at → (past : IsPast at to)
     → Stands open_unit past.part (chars to.rest.now) → Plain from to
 unfolding further
 plain_more from at to h past is = record {
@@ -80,34 +80,36 @@ plain_more from at to h past is = record {
       (subst (Many (Stands open_unit) h.past.part) past.whole h.many) is;
 }
 
-told_more : (start at to : Cursor) (closed : Option (Cursor × Cursor)) → Told start at closed → (past : IsPast at to)
-    → Stands open_unit past.part (chars to.rest.now) → Told start to closed
-told_more start at to None h past is = plain_more start at to h past is
-told_more start at to (Some x) h past is = (h.0, plain_more x.1 at to h.1 past is)
+comment_state_more : (start at to : TextCursor) (closed : Option (TextCursor × TextCursor))
+    → CommentState start at closed → (past : IsPast at to)
+    → Stands open_unit past.part (chars to.rest.now) → CommentState start to closed
+comment_state_more start at to None h past is = plain_more start at to h past is
+comment_state_more start at to (Some x) h past is = (h.0, plain_more x.1 at to h.1 past is)
 
 -- ---- the whole loop
 
-pub record Walked (start at : Cursor) (opened : List Cursor) (closed : Option (Cursor × Cursor)) : Type 0 where
+pub record Walked (start at : TextCursor) (opened : List TextCursor) (closed : Option (TextCursor × TextCursor)) : Type
+    0 where
   pub chain : Chain start (reverse opened) at
-  pub told : Told start at closed
+  pub comment_state : CommentState start at closed
 
-pub walk_begins : (start : Cursor) (opened : List Cursor) → opened ≡ [] → Walked start start opened None
+pub walk_begins : (start : TextCursor) (opened : List TextCursor) → opened ≡ [] → Walked start start opened None
 walk_begins start opened e =
-    record { chain = subst (λ xs. Chain start (reverse xs) start) (sym e) refl; told = plain_here start }
+    record { chain = subst (λ xs. Chain start (reverse xs) start) (sym e) refl; comment_state = plain_here start }
 
-pub walk_opens : (start at to : Cursor) (old new : List Cursor) (closed : Option (Cursor × Cursor))
+pub walk_opens : (start at to : TextCursor) (old new : List TextCursor) (closed : Option (TextCursor × TextCursor))
     → Walked start at old closed → IsSign Opens at to → new ≡ old ++ at ∷ [] → Walked start to new closed
 walk_opens start at to old new closed h sign e =
     let inside : Inside at to =
     record { body = []; whole = sign.0; is = Empty refl; count = omega (arith, sign.1) } in
     record {
       chain = subst (λ xs. Chain start xs to) (sym (ap reverse e ∙ reverse-append old (at ∷ []))) (inside, h.chain);
-      told = told_more start at to closed h.told
+      comment_state = comment_state_more start at to closed h.comment_state
           (record { part = codes "/*"; whole = sign.0; count = omega (arith, sign.1) }) (inl refl);
     }
 
-module _ (start : Cursor) (more : List ℕ) (begins : chars start.rest.now ≡ codes "/*" ++ more) where
-  other_chain : (xs : List Cursor) (at to : Cursor) → Chain start xs at → IsSign Other at to → Chain start xs to
+module _ (start : TextCursor) (more : List ℕ) (begins : chars start.rest.now ≡ codes "/*" ++ more) where
+  other_chain : (xs : List TextCursor) (at to : TextCursor) → Chain start xs at → IsSign Other at to → Chain start xs to
   other_chain [] at to e sign =
       let clash : begins_any block_signs (codes "/*" ++ more) ≡ false =
       ap (begins_any block_signs) (sym (ap (λ c. chars c.rest.now) e ∙ begins)) ∙ sign.3 in
@@ -125,17 +127,17 @@ module _ (start : Cursor) (more : List ℕ) (begins : chars start.rest.now ≡ c
         h.1,
       )
 
-  pub walk_passes : (at to : Cursor) (opened : List Cursor) (closed : Option (Cursor × Cursor))
+  pub walk_passes : (at to : TextCursor) (opened : List TextCursor) (closed : Option (TextCursor × TextCursor))
       → Walked start at opened closed → IsSign Other at to → Walked start to opened closed
   walk_passes at to opened closed h sign = record {
     chain = other_chain (reverse opened) at to h.chain sign;
-    told = told_more start at to closed h.told
+    comment_state = comment_state_more start at to closed h.comment_state
         (record { part = sign.0 ∷ []; whole = sign.1; count = omega (arith, sign.2) })
         (inr ((sign.0, refl, refl), ap (begins_any block_signs) (sym sign.1) ∙ sign.3));
   }
 
   -- if a comment ends, one was open
-  pub walk_has_open : (at to : Cursor) (opened : List Cursor) (closed : Option (Cursor × Cursor))
+  pub walk_has_open : (at to : TextCursor) (opened : List TextCursor) (closed : Option (TextCursor × TextCursor))
       → Walked start at opened closed → IsSign Closes at to → opened ≡ [] → ⊥
   walk_has_open at to opened closed h sign e =
       let same : at ≡ start = subst (λ xs. Chain start (reverse xs) at) e h.chain in
@@ -145,7 +147,7 @@ module _ (start : Cursor) (more : List ℕ) (begins : chars start.rest.now ≡ c
       absurd (omega (arith, one))
 
   module _ (none : HasNone BlockComment (chars start.rest.now)) where
-    abbrev ended : (from at to : Cursor) → Inside from at → IsSign Closes at to → IsPast from to
+    abbrev ended : (from at to : TextCursor) → Inside from at → IsSign Closes at to → IsPast from to
     ended from at to h sign = record {
       part = codes "/*" ++ (h.body ++ codes "*/");
       whole = h.whole ∙ (ap (λ t. (codes "/*" ++ h.body) ++ t) sign.0
@@ -153,7 +155,7 @@ module _ (start : Cursor) (more : List ℕ) (begins : chars start.rest.now ≡ c
       count = omega (arith, h.count, sign.1, length-append h.body (codes "*/"));
     }
 
-    ended_stands : (from at to : Cursor) (h : Inside from at) (sign : IsSign Closes at to)
+    ended_stands : (from at to : TextCursor) (h : Inside from at) (sign : IsSign Closes at to)
         → BlockComment (codes "/*" ++ (h.body ++ codes "*/")) (chars to.rest.now)
     ended_stands from at to h sign = record {
       front = codes "/*";
@@ -169,7 +171,7 @@ module _ (start : Cursor) (more : List ℕ) (begins : chars start.rest.now ≡ c
       };
     }
 
-    closed_chain : (xs : List Cursor) (from at to : Cursor) → Chain start xs from → Inside from at
+    closed_chain : (xs : List TextCursor) (from at to : TextCursor) → Chain start xs from → Inside from at
         → IsSign Closes at to → Chain start xs to
     closed_chain [] from at to e h sign =
         let comment = ended from at to h sign in
@@ -189,7 +191,7 @@ module _ (start : Cursor) (more : List ℕ) (begins : chars start.rest.now ≡ c
           is.1,
         )
 
-    pub walk_closes : (at to from : Cursor) (old new : List Cursor) (closed : Option (Cursor × Cursor))
+    pub walk_closes : (at to from : TextCursor) (old new : List TextCursor) (closed : Option (TextCursor × TextCursor))
         → Walked start at old closed → IsSign Closes at to → old ≡ new ++ from ∷ []
         → Walked start to new (Some (from, to))
     walk_closes at to from old new closed h sign e =
@@ -198,7 +200,7 @@ module _ (start : Cursor) (more : List ℕ) (begins : chars start.rest.now ≡ c
         let comment = ended from at to chain.0 sign in
         record {
           chain = closed_chain (reverse new) from at to chain.1 chain.0 sign;
-          told = (
+          comment_state = (
             record {
               outer = reverse new;
               chain = chain.1;
@@ -211,11 +213,11 @@ module _ (start : Cursor) (more : List ℕ) (begins : chars start.rest.now ≡ c
 
 -- ---- the end of the text
 
-record Open (start at : Cursor) (depth : ℕ) : Type 0 where
+record Open (start at : TextCursor) (depth : ℕ) : Type 0 where
   past : IsPast start at
   is : AreOpen depth past.part (chars at.rest.now)
 
-are_open : (start : Cursor) (xs : List Cursor) (at : Cursor) → Chain start xs at → Open start at (length xs)
+are_open : (start : TextCursor) (xs : List TextCursor) (at : TextCursor) → Chain start xs at → Open start at (length xs)
 are_open start [] at e = record {
   past = record {
     part = [];
@@ -243,7 +245,7 @@ are_open start (x ∷ outer) at h =
       };
     }
 
-no_end_of : (from at : Cursor) → Plain from at → chars at.rest.now ≡ [] → Stands no_end (chars from.rest.now) []
+no_end_of : (from at : TextCursor) → Plain from at → chars at.rest.now ≡ [] → Stands no_end (chars from.rest.now) []
 no_end_of from at h done =
     let all : chars from.rest.now ≡ h.past.part =
     h.past.whole ∙ (ap (λ t. h.past.part ++ t) done ∙ append-nil h.past.part) in
@@ -256,10 +258,11 @@ no_end_of from at h done =
       second = refl;
     }
 
-told_left : (start at : Cursor) (closed : Option (Cursor × Cursor)) → Told start at closed → chars at.rest.now ≡ []
+comment_state_left : (start at : TextCursor) (closed : Option (TextCursor × TextCursor)) → CommentState start at closed
+    → chars at.rest.now ≡ []
     → MatchOption closed (Stands no_end (chars start.rest.now) []) (λ x. EndedLast start x.0 x.1)
-told_left start at None h done = no_end_of start at h done
-told_left start at (Some x) h done =
+comment_state_left start at None h done = no_end_of start at h done
+comment_state_left start at (Some x) h done =
     let around = are_open start h.0.outer x.0 h.0.chain in
     record {
       before = around.past;
@@ -270,7 +273,8 @@ told_left start at (Some x) h done =
       last = no_end_of x.1 at h.1 done;
     }
 
-pub walk_ends : (start at : Cursor) (opened : List Cursor) (depth : ℕ) (closed : Option (Cursor × Cursor))
+pub walk_ends : (start at : TextCursor) (opened : List TextCursor) (depth : ℕ)
+    (closed : Option (TextCursor × TextCursor))
     → Walked start at opened closed → chars at.rest.now ≡ [] → depth ≡ length opened → LeftComments start depth closed
 walk_ends start at opened depth closed h done same =
     let all = are_open start (reverse opened) at h.chain in
@@ -279,5 +283,5 @@ walk_ends start at opened depth closed h done same =
       subst (λ n. AreOpen n (chars start.rest.now) []) (length-reverse opened ∙ sym same)
           (subst (λ t. AreOpen (length (reverse opened)) t []) (sym text)
           (subst (AreOpen (length (reverse opened)) all.past.part) done all.is)),
-      told_left start at closed h.told done,
+      comment_state_left start at closed h.comment_state done,
     )

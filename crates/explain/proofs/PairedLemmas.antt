@@ -6,7 +6,7 @@ use Rattle.std.specs.List.{concat, list_all}
 use Rattle.std.proofs.lemmas.Bool.{and_parts, both_ways, false_from_ne_true, or_from, lt-ltb}
 use Rattle.lexical.specs.Form.{Each, Many}
 use Rattle.lexical.specs.Quoted as rule
-use Rattle.lexical.specs.Quoted.{escaped, hex_pair, is_code_digit, is_octal_digit, is_one_of, is_plain, unit}
+use Rattle.lexical.specs.Quoted.{escape_or_line_end, hex_pair, is_code_digit, is_octal_digit, is_one_of, is_plain, unit}
 use Rattle.lexical.specs.Rule.{Stands}
 use Rattle.lexical.specs.declared.quoted.StringKind.{StringKind}
 use Rattle.lexical.specs.declared.quoted.StringKind.TheVariants as kinds
@@ -125,7 +125,7 @@ pair_of kinds.C ds r is = hex_pair_of ds r is.0
 -- ---- a unit among pairs
 
 module _ (kind : StringKind) (r text : List ℕ) where
-  past_escaped : (v : List ℕ) → Stands (escaped kind) v r → Paired (92 ∷ (v ++ text)) → Paired text
+  past_escaped : (v : List ℕ) → Stands (escape_or_line_end kind) v r → Paired (92 ∷ (v ++ text)) → Paired text
   past_escaped v (inl (inl feed)) is = past_two 10 text (subst (λ t. Paired (92 ∷ (t ++ text))) feed is)
   past_escaped v (inl (inr return)) is =
       past_alone 10 text refl (past_two 13 (10 ∷ text) (subst (λ t. Paired (92 ∷ (t ++ text))) return is))
@@ -178,7 +178,7 @@ more_all (c ∷ cs) text all is =
     more_alone c (cs ++ text) parts.0 (more_all cs text parts.1 is)
 
 module _ (kind : StringKind) (r text : List ℕ) (is : Paired text) where
-  pub more_escaped : (v : List ℕ) → Stands (escaped kind) v r → Paired (92 ∷ (v ++ text))
+  pub more_escaped : (v : List ℕ) → Stands (escape_or_line_end kind) v r → Paired (92 ∷ (v ++ text))
   more_escaped v (inl (inl feed)) = subst (λ t. Paired (92 ∷ (t ++ text))) (sym feed) (inr (refl, is))
   more_escaped v (inl (inr return)) =
       subst (λ t. Paired (92 ∷ (t ++ text))) (sym return) (inr (refl, more_alone 10 text refl is))

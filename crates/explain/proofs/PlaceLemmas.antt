@@ -2,16 +2,16 @@
 use Rattle.std.proofs.Common.{◌≡◌, ℕ, ◌+◌, ◌<◌, ◌≤◌, true, false, List, [], ◌∷◌, ◌++◌, length, refl, sym, ap, ◌∙◌}
 use Rattle.std.proofs.Common.{subst, append_assoc, arith, length-append}
 use Rattle.std.specs.Str.{chars}
-use Rattle.lexical.specs.declared.cursor.Cursor.{Cursor}
+use Rattle.lexical.specs.declared.cursor.TextCursor.{TextCursor}
 use Rattle.literal_escaper.specs.declared.errors.EscapeError.{EscapeError}
 use Rattle.explain.specs.Content.{IsPart, is_of_last}
 use Rattle.explain.specs.Walk.{IsFaulty, IsLast, IsPast}
 use Rattle.explain.specs.declared.reason.Reason.TheVariants.{Content}
 
-unfoldable pub stays : (at : Cursor) → IsPast at at
+unfoldable pub stays : (at : TextCursor) → IsPast at at
 stays at = record { part = []; whole = refl; count = omega arith }
 
-unfoldable pub further : (at mid to : Cursor) → IsPast at mid → IsPast mid to → IsPast at to
+unfoldable pub further : (at mid to : TextCursor) → IsPast at mid → IsPast mid to → IsPast at to
 further at mid to a b = record {
   part = a.part ++ b.part;
   whole = a.whole ∙ (ap (λ t. a.part ++ t) b.whole ∙ sym (append_assoc a.part b.part (chars to.rest.now)));
@@ -21,12 +21,12 @@ further at mid to a b = record {
 -- ---- the last character
 
 -- a cursor before the end
-pub record IsOnWay (at last end : Cursor) : Type 0 where
+pub record IsOnWay (at last end : TextCursor) : Type 0 where
   pub before : IsPast at last
   pub after : IsPast last end
   pub some : 1 ≤ length after.part
 
-past_one : (last next end : Cursor) (c : ℕ) (part : List ℕ) → chars last.rest.now ≡ part ++ chars end.rest.now
+past_one : (last next end : TextCursor) (c : ℕ) (part : List ℕ) → chars last.rest.now ≡ part ++ chars end.rest.now
     → 1 ≤ length part → chars last.rest.now ≡ c ∷ chars next.rest.now
     → (more : List ℕ) × (part ≡ c ∷ more) × (chars next.rest.now ≡ more ++ chars end.rest.now)
 past_one last next end c [] whole some split = absurd (omega arith)
@@ -34,7 +34,8 @@ past_one last next end c (d ∷ part) whole some split =
     let both : d ∷ (part ++ chars end.rest.now) ≡ c ∷ chars next.rest.now = sym whole ∙ split in
     (part, ap (λ x. x ∷ part) (cc), cc)
 
-pub on_way : (at last next end : Cursor) (c : ℕ) → IsOnWay at last end → chars last.rest.now ≡ c ∷ chars next.rest.now
+pub on_way : (at last next end : TextCursor) (c : ℕ) → IsOnWay at last end
+    → chars last.rest.now ≡ c ∷ chars next.rest.now
     → next.chars_before ≡ last.chars_before + 1 → last.chars_before + 1 < end.chars_before → IsOnWay at next end
 on_way at last next end c is split count before =
     let more = past_one last next end c is.after.part is.after.whole is.some split in
@@ -50,7 +51,7 @@ one_of text [] rest e long = absurd (omega arith)
 one_of text (c ∷ []) rest e long = (c, e)
 one_of text (c ∷ (d ∷ part)) rest e long = absurd (omega arith)
 
-pub last_is : (at last end : Cursor) → IsOnWay at last end → end.chars_before ≤ last.chars_before + 1
+pub last_is : (at last end : TextCursor) → IsOnWay at last end → end.chars_before ≤ last.chars_before + 1
     → IsLast at end last
 last_is at last end is near =
     let one = one_of (chars last.rest.now) is.after.part (chars end.rest.now) is.after.whole
@@ -64,7 +65,7 @@ last_is at last end is near =
 
 -- ---- the wrong part
 
-pub faulty_last : (at after last : Cursor) (e : EscapeError) → is_of_last e ≡ true → IsLast at after last
+pub faulty_last : (at after last : TextCursor) (e : EscapeError) → is_of_last e ≡ true → IsLast at after last
     → IsFaulty e at after (record { reason = Content e; at = last; after = after })
 faulty_last at after last e of_last is = record {
   start = is.before;
@@ -74,7 +75,7 @@ faulty_last at after last e of_last is = record {
   fault = subst (λ b. IsPart b is.before.part (is.character ∷ [])) (sym of_last) (is.character, refl);
 }
 
-pub faulty_all : (at after : Cursor) (e : EscapeError) → is_of_last e ≡ false → IsPast at after
+pub faulty_all : (at after : TextCursor) (e : EscapeError) → is_of_last e ≡ false → IsPast at after
     → IsFaulty e at after (record { reason = Content e; at = at; after = after })
 unfolding stays
 faulty_all at after e whole past = record {

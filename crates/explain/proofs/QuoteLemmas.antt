@@ -9,17 +9,18 @@ use Rattle.std.proofs.Common.{length-append}
 use Rattle.std.proofs.lemmas.Bool.{both_ways, eq-eqb, and_from, or_from, false_from_ne_true, lt-ltb}
 use Rattle.std.proofs.lemmas.List.{append_cancel_right}
 use Rattle.lexical.specs.Class.{is_ident_start, is_ident_continue}
-use Rattle.lexical.specs.Finder.{Answer, and_find, and_next, behind, find_run, find_one}
+use Rattle.lexical.specs.Finder.{Answer, and_find, and_next, prepend, find_run, find_one}
 use Rattle.lexical.specs.Identifier.{name, is_reserved}
 use Rattle.lexical.specs.Quoted.{front as string_front}
 use Rattle.lexical.specs.RawString.{raw_front}
 use Rattle.lexical.specs.Rule.{Rule, One, Run, Exactly, Then, Next, NotBefore, find}
-use Rattle.lexical.specs.Step.{Passes}
+use Rattle.lexical.specs.RuleMatch.{Passes}
 use Rattle.lexical.specs.Text.{begins_with, first_passes}
-use Rattle.lexical.specs.declared.cursor.Cursor.{Cursor}
+use Rattle.lexical.specs.declared.cursor.TextCursor.{TextCursor}
 use Rattle.lexical.specs.declared.quoted.StringKind.{StringKind}
 use Rattle.lexical.proofs.RuleLemmas.{Clear}
-use Rattle.lexical.proofs.RuleSteps.{passed, past_text, then_passes, then_reads, then_lacks, text_lacks, lacks_text}
+use Rattle.lexical.proofs.RuleSteps.{passes_piece, past_text, then_passes, then_reads, then_lacks, text_lacks}
+use Rattle.lexical.proofs.RuleSteps.{lacks_text}
 use Rattle.lexical.proofs.RuleSteps.{either_first, either_reads, before_passes, where_passes, find_not_before}
 use Rattle.explain.specs.Shapes.{bars_character, closed_body, closed_raw, closed_raw_body, closed_single}
 use Rattle.explain.specs.Shapes.{closed_single_body}
@@ -36,7 +37,7 @@ use Rattle.explain.proofs.TroubleLemmas.{trouble, trouble_here}
 
 -- ---- strings
 
-pub unclosed_string : (kind : StringKind) (at inside : Cursor) → Passes (Exactly (string_front kind)) at inside
+pub unclosed_string : (kind : StringKind) (at inside : TextCursor) → Passes (Exactly (string_front kind)) at inside
     → find closed_body (chars inside.rest.now) ≡ None
     → IsTrouble at (record { reason = UnclosedString; at = at; after = inside })
 unclosed_string kind at inside h none =
@@ -56,18 +57,18 @@ quotes hashes = Then (Exactly (codes "\"")) (closed_raw_body hashes)
 pub clear_closed : (kind : StringKind) → Clear (closed_raw kind)
 clear_closed kind = (tt, (tt, λ hashes. (tt, clear_raw hashes)))
 
-next_passes : (rule : List ℕ → Rule) (at mid to : Cursor) (run : Passes (Run is_hash) at mid)
+next_passes : (rule : List ℕ → Rule) (at mid to : TextCursor) (run : Passes (Run is_hash) at mid)
     → Passes (rule run.front) mid to → Passes (Next (Run is_hash) rule) at to
 unfolding find
 next_passes rule at mid to run j =
     let long = length-append run.front j.front in
     record {
       front = run.front ++ j.front;
-      found = ap (and_next (λ hashes. find (rule hashes))) run.found ∙ ap (behind run.front) j.found;
+      found = ap (and_next (λ hashes. find (rule hashes))) run.found ∙ ap (prepend run.front) j.found;
       count = omega (arith, run.count, j.count);
     }
 
-module _ (kind : StringKind) (at inside quote body : Cursor) (letters : Passes (Exactly (raw_front kind)) at inside)
+module _ (kind : StringKind) (at inside quote body : TextCursor) (letters : Passes (Exactly (raw_front kind)) at inside)
     (run : Passes (Run is_hash) inside quote) (opens : Passes (Exactly (codes "\"")) quote body) where
   raw_none : find (closed_raw_body run.front) (chars body.rest.now) ≡ None
       → find (closed_raw kind) (chars at.rest.now) ≡ None
@@ -75,10 +76,10 @@ module _ (kind : StringKind) (at inside quote body : Cursor) (letters : Passes (
   raw_none none =
       then_reads (Exactly (raw_front kind)) (Next (Run is_hash) quotes) at inside None letters
       (ap (and_next (λ hashes. find (quotes hashes))) run.found
-      ∙ ap (behind run.front) (then_reads (Exactly (codes "\""))
+      ∙ ap (prepend run.front) (then_reads (Exactly (codes "\""))
       (closed_raw_body run.front) quote body None opens none))
 
-  pub raw_some : (end : Cursor) → Passes (closed_raw_body run.front) body end → Passes (closed_raw kind) at end
+  pub raw_some : (end : TextCursor) → Passes (closed_raw_body run.front) body end → Passes (closed_raw kind) at end
   raw_some end h =
       then_passes (Exactly (raw_front kind)) (Next (Run is_hash) quotes) at inside end letters
       (next_passes quotes inside quote end run (then_passes (Exactly (codes "\""))
@@ -96,7 +97,7 @@ module _ (kind : StringKind) (at inside quote body : Cursor) (letters : Passes (
             (raw_none (subst (λ h. find (closed_raw_body h) (chars body.rest.now) ≡ None) same none)) whole,
       ))
 
-  pub too_many : (hashes : List ℕ) (end : Cursor) → hashes ≡ run.front → 255 < length hashes
+  pub too_many : (hashes : List ℕ) (end : TextCursor) → hashes ≡ run.front → 255 < length hashes
       → Passes (closed_raw_body hashes) body end
       → IsTrouble at (record { reason = TooManyHashes; at = at; after = body })
   too_many hashes end same many h =
@@ -104,18 +105,18 @@ module _ (kind : StringKind) (at inside quote body : Cursor) (letters : Passes (
       (then_passes _ _ at inside body letters (then_passes _ _ inside quote body
       (where_passes (λ hashes. nat_lt 255 (length hashes)) (Run is_hash) tt inside quote run.front run
       (λ front e. append_cancel_right run.front front (chars quote.rest.now)
-      (sym (passed (Run is_hash) tt inside quote run).0 ∙ e))
+      (sym (passes_piece (Run is_hash) tt inside quote run).0 ∙ e))
       (lt-ltb 255 (length run.front) (omega (arith, ap length same, many)))) opens))
       (λ front part whole is. (
         kind,
         is,
         λ none.
-            let all = passed (closed_raw kind) (clear_closed kind) at end
+            let all = passes_piece (closed_raw kind) (clear_closed kind) at end
             (raw_some end (subst (λ h. Passes (closed_raw_body h) body end) same h)) in
             none _ _ (sym whole ∙ all.0) all.1,
       ))
 
-pub without_quote : (kind : StringKind) (at inside end after : Cursor)
+pub without_quote : (kind : StringKind) (at inside end after : TextCursor)
     → Passes (Exactly (raw_front kind)) at inside → Passes (Then (One is_hash) (Run is_hash)) inside end
     → Passes no_double_quote end after → find raw_name_start (chars at.rest.now) ≡ None
     → IsTrouble at (record { reason = HashesWithoutQuote; at = end; after = after })
@@ -134,17 +135,18 @@ name_none text e = by_first (find_one is_ident_start text) e
     by_first None e = refl
     by_first (Some x) e = absurd (cc)
 
-pub no_raw_name : (at inner : Cursor) → Passes (Exactly (codes "r#")) at inner → find name (chars inner.rest.now) ≡ None
+pub no_raw_name : (at inner : TextCursor) → Passes (Exactly (codes "r#")) at inner
+    → find name (chars inner.rest.now) ≡ None
     → find raw_name_start (chars at.rest.now) ≡ None
 no_raw_name at inner h none =
     then_reads (Exactly (codes "r#")) (One is_ident_start) at inner None h (name_none _ none)
 
-pub no_raw_lifetime : (at inner : Cursor) → Passes (Exactly (codes "'r#")) at inner
+pub no_raw_lifetime : (at inner : TextCursor) → Passes (Exactly (codes "'r#")) at inner
     → find name (chars inner.rest.now) ≡ None → find raw_lifetime_start (chars at.rest.now) ≡ None
 no_raw_lifetime at inner h none =
     then_reads (Exactly (codes "'r#")) (One is_ident_start) at inner None h (name_none _ none)
 
-pub reserved_name : (at inner end : Cursor) → Passes (Exactly (codes "r#")) at inner
+pub reserved_name : (at inner end : TextCursor) → Passes (Exactly (codes "r#")) at inner
     → (named : Passes name inner end) → is_reserved named.front ≡ true
     → IsTrouble at (record { reason = ReservedRawName; at = at; after = end })
 reserved_name at inner end h named reserved =
@@ -152,7 +154,7 @@ reserved_name at inner end h named reserved =
     (either_first _ _ at end (then_passes _ _ at inner end h
     (where_passes is_reserved name (assumption) inner end named.front named
     (λ front e. append_cancel_right named.front front (chars end.rest.now)
-    (sym (passed name (assumption) inner end named).0 ∙ e)) reserved)))
+    (sym (passes_piece name (assumption) inner end named).0 ∙ e)) reserved)))
     (λ front part whole is. is)
 
 quote_none : (text : List ℕ) → find (Exactly (codes "'")) text ≡ None → first_passes is_quote text ≡ false
@@ -160,7 +162,7 @@ quote_none [] e = refl
 quote_none (c ∷ text) e = false_from_ne_true _ (λ is.
     both_ways _ (lacks_text (codes "'") (c ∷ text) e) (and_from _ _ (eq-eqb 39 c (sym (eqb-true c 39 is))) refl))
 
-pub reserved_lifetime : (at inner end : Cursor) → Passes (Exactly (codes "'r#")) at inner
+pub reserved_lifetime : (at inner end : TextCursor) → Passes (Exactly (codes "'r#")) at inner
     → (named : Passes name inner end) → is_reserved named.front ≡ true
     → find (Exactly (codes "'")) (chars end.rest.now) ≡ None
     → IsTrouble at (record { reason = ReservedRawName; at = at; after = end })
@@ -172,12 +174,12 @@ reserved_lifetime at inner end h named reserved none =
     (before_passes is_quote _ at end (then_passes _ _ at inner end h
     (where_passes is_reserved name (assumption) inner end named.front named
     (λ front e. append_cancel_right named.front front (chars end.rest.now)
-    (sym (passed name (assumption) inner end named).0 ∙ e)) reserved)) (quote_none _ none)))
+    (sym (passes_piece name (assumption) inner end named).0 ∙ e)) reserved)) (quote_none _ none)))
     (λ front part whole is. is)
 
 -- ---- characters and lifetimes
 
-pub hash_after : (at inside end after : Cursor) → Passes (Exactly (codes "'")) at inside → Passes name inside end
+pub hash_after : (at inside end after : TextCursor) → Passes (Exactly (codes "'")) at inside → Passes name inside end
     → Passes (Exactly (codes "#")) end after → find raw_lifetime_start (chars at.rest.now) ≡ None
     → IsTrouble at (record { reason = HashAfterLifetime; at = end; after = after })
 hash_after at inside end after h named hash none =
@@ -185,7 +187,7 @@ hash_after at inside end after h named hash none =
     (then_passes _ _ at inside end h named) hash
     (λ front part whole is. (is, none_stands raw_lifetime_start (assumption) _ front part _ none whole))
 
-pub from_digit : (at inside first end : Cursor) → Passes (Exactly (codes "'")) at inside
+pub from_digit : (at inside first end : TextCursor) → Passes (Exactly (codes "'")) at inside
     → Passes (One is_ascii_digit) inside first → Passes (Run is_ident_continue) first end
     → find (Exactly (codes "'")) (chars end.rest.now) ≡ None
     → IsTrouble at (record { reason = DigitLifetime; at = at; after = end })
@@ -195,7 +197,7 @@ from_digit at inside first end h digit run none =
     (quote_none _ none))
     (λ front part whole is. is)
 
-pub opens_single : (at inside : Cursor) → Passes (Exactly (codes "'")) at inside
+pub opens_single : (at inside : TextCursor) → Passes (Exactly (codes "'")) at inside
     → find name (chars inside.rest.now) ≡ None → find (One is_ascii_digit) (chars inside.rest.now) ≡ None
     → Passes single_opening at inside
 opens_single at inside h named digit =
@@ -208,7 +210,7 @@ opens_single at inside h named digit =
     both_none [] a b = refl
     both_none (c ∷ text) a b = or_from _ _ a b
 
-pub opens_byte : (at inside : Cursor) → Passes (Exactly (codes "b'")) at inside → Passes single_opening at inside
+pub opens_byte : (at inside : TextCursor) → Passes (Exactly (codes "b'")) at inside → Passes single_opening at inside
 opens_byte at inside h =
     either_reads _ _ at (Some inside)
     (before_none _ _ (text_lacks (codes "'") _
@@ -219,7 +221,7 @@ opens_byte at inside h =
         → find (NotBefore passes (Exactly (codes "'"))) text ≡ None
     before_none passes text none = rw (find_not_before, none)
 
-pub unclosed_single : (at inside : Cursor) → Passes single_opening at inside
+pub unclosed_single : (at inside : TextCursor) → Passes single_opening at inside
     → find closed_single_body (chars inside.rest.now) ≡ None
     → IsTrouble at (record { reason = UnclosedCharacter; at = at; after = inside })
 unclosed_single at inside h none =

@@ -8,10 +8,10 @@ use Rattle.std.proofs.lemmas.Bool.{both_ways, and_parts, or_left, false_from_ne_
 use Rattle.lexical.specs.Ascii.{all_ascii}
 use Rattle.lexical.specs.Form.{HasNone}
 use Rattle.lexical.specs.Rule.{Rule, One, Stands, find}
-use Rattle.lexical.specs.Step.{Leads, Passes, Reads}
+use Rattle.lexical.specs.RuleMatch.{Leads, Passes, Reads}
 use Rattle.lexical.specs.Text.{begins_with}
-use Rattle.lexical.specs.declared.cursor.Cursor.{Cursor}
-use Rattle.lexical.proofs.BlockLemmas.{behind_nothing}
+use Rattle.lexical.specs.declared.cursor.TextCursor.{TextCursor}
+use Rattle.lexical.proofs.BlockLemmas.{prepend_nothing}
 use Rattle.lexical.proofs.FinderLemmas.{none_is}
 use Rattle.lexical.proofs.RuleLemmas.{Clear, exact}
 use Rattle.lexical.proofs.RuleSteps.{one_passes, apart_passes}
@@ -19,10 +19,10 @@ use Rattle.lexical.proofs.UnitSteps.{leads_passes, leads_fails}
 use Rattle.lexical.proofs.TextLemmas.{begins_self}
 use Rattle.explain.specs.Shapes.{any, closed_raw_body, is_hash, pair, raw_unit}
 
-pub leads_self : (rule : Rule) (at : Cursor) → Leads rule at rule at
-leads_self rule at = record { front = []; found = sym (behind_nothing _); count = omega arith }
+pub leads_self : (rule : Rule) (at : TextCursor) → Leads rule at rule at
+leads_self rule at = record { front = []; found = sym (prepend_nothing _); count = omega arith }
 
-pub reads_last : (rule rest : Rule) (at mid : Cursor) (result : Option Cursor) → Leads rule at rest mid
+pub reads_last : (rule rest : Rule) (at mid : TextCursor) (result : Option TextCursor) → Leads rule at rest mid
     → Reads rest mid result → Reads rule at result
 reads_last rule rest at mid None h none = leads_fails rule rest at mid None refl h none
 reads_last rule rest at mid (Some to) h j = leads_passes rule rest at mid to h j
@@ -50,7 +50,7 @@ pub raw_alone : (hashes : List ℕ) (c : ℕ) (text : List ℕ) → no_quote c �
 unfolding find
 raw_alone hashes c text e = grind (arith, e)
 
-pub raw_any : (hashes : List ℕ) (c : ℕ) (at after : Cursor) → chars at.rest.now ≡ c ∷ chars after.rest.now
+pub raw_any : (hashes : List ℕ) (c : ℕ) (at after : TextCursor) → chars at.rest.now ≡ c ∷ chars after.rest.now
     → after.chars_before ≡ at.chars_before + 1 → (c ≡ 34 → begins_with hashes (chars after.rest.now) ≡ false)
     → Passes (raw_unit hashes) at after
 raw_any hashes c at after split count apart =

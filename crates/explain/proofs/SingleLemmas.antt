@@ -16,8 +16,8 @@ use Rattle.lexical.specs.Quoted.{close, escape as escape_rule}
 use Rattle.lexical.specs.Rule.{Rule, Exactly, Then, Stands, find}
 use Rattle.lexical.specs.SingleQuoted.{is_byte_char_plain, is_char_plain, single as single_quoted}
 use Rattle.lexical.specs.SingleQuoted.{unit as unit_of}
-use Rattle.lexical.specs.Step.{Passes}
-use Rattle.lexical.specs.declared.cursor.Cursor.{Cursor}
+use Rattle.lexical.specs.RuleMatch.{Passes}
+use Rattle.lexical.specs.declared.cursor.TextCursor.{TextCursor}
 use Rattle.lexical.specs.declared.quoted.StringKind.{StringKind}
 use Rattle.lexical.specs.declared.quoted.StringKind.TheVariants as kinds
 use Rattle.lexical.proofs.RuleLemmas.{Clear, exact}
@@ -42,7 +42,7 @@ use Rattle.explain.specs.declared.reason.Reason.TheVariants.{Content}
 use Rattle.explain.specs.declared.trouble.Trouble.{Trouble}
 use Rattle.explain.proofs.ContentLemmas.{past_read, size_of}
 use Rattle.explain.proofs.EscapeLemmas.{Allows, byte_allows, escape_is, string_allows}
-use Rattle.explain.proofs.NumberLemmas.{none_after, none_behind}
+use Rattle.explain.proofs.NumberLemmas.{none_after, none_of_rest}
 use Rattle.explain.proofs.RawLemmas.{closes_text}
 
 -- ---- what the escaper returns
@@ -133,12 +133,12 @@ module _ {U : Type 0} (kind : Kind U) (strings : StringKind) (are : Allows kind 
 
 -- a closed literal whose content is one unit is found
 module _ (front : List ℕ) (plain : ℕ → Bool) (escapes : Rule) (clear : Clear (unit_of plain escapes)) where
-  found_single : (at inside : Cursor) (text more : List ℕ) → Passes (Exactly front) at inside
+  found_single : (at inside : TextCursor) (text more : List ℕ) → Passes (Exactly front) at inside
       → chars inside.rest.now ≡ text ++ (39 ∷ more) → Stands (unit_of plain escapes) text (39 ∷ more)
       → find (single_quoted front plain escapes) (chars at.rest.now) ≡ None → ⊥
   found_single at inside text more opens whole stands none =
       let unit = unit_of plain escapes in
-      let inner = none_behind (Exactly front) (Then unit (close (codes "'"))) at inside opens none in
+      let inner = none_of_rest (Exactly front) (Then unit (close (codes "'"))) at inside opens none in
       let found = ap (find unit) whole ∙ (exact unit clear).complete text (39 ∷ more) stands in
       let last = none_after text (find (close (codes "'")) (39 ∷ more))
       (sym (find_then unit (close (codes "'")) (chars inside.rest.now)
@@ -149,7 +149,7 @@ byte_bare : (c u : ℕ) → byte_kind.of_char c ≡ Ok u → is_char_plain c ≡
 byte_bare c u = cond_both (is_ascii c) _ _ (λ o. o ≡ Ok u → is_char_plain c ≡ true → is_byte_char_plain c ≡ true)
     (λ e h plain. and_from _ _ plain e) (λ e h. absurd (cc))
 
-pub not_right : (kind : SingleKind) (at inside end : Cursor) (text : List ℕ) → Passes (Exactly (single_front kind))
+pub not_right : (kind : SingleKind) (at inside end : TextCursor) (text : List ℕ) → Passes (Exactly (single_front kind))
     at inside
     → IsLeft single_quote text inside end → IsSingleFault kind text None
     → find (single_rule kind) (chars at.rest.now) ≡ None → ⊥
@@ -240,7 +240,7 @@ read_for singles.Byte e text size given =
 
 -- ---- the wrong part
 
-module _ (kind : SingleKind) (e : EscapeError) (at inside end : Cursor) (text : List ℕ) (size : ℕ)
+module _ (kind : SingleKind) (e : EscapeError) (at inside end : TextCursor) (text : List ℕ) (size : ℕ)
     (opens : Passes (Exactly (single_front kind)) at inside) (past : IsPast at end)
     (closed : Stands closed_character past.part (chars end.rest.now)) (left : IsLeft single_quote text inside end)
     (read : IsReadFor kind e text size) where
@@ -253,7 +253,7 @@ module _ (kind : SingleKind) (e : EscapeError) (at inside end : Cursor) (text : 
       seam_boundary inside.rest.now read.part (read.rest ++ (39 ∷ chars end.rest.now)) size
       (IsUtf8-had inside.rest.now inside.text) split read.long
 
-  pub single_past : (after : Cursor) → after.rest.now ≡ drop size inside.rest.now
+  pub single_past : (after : TextCursor) → after.rest.now ≡ drop size inside.rest.now
       → after.chars_before ≡ inside.chars_before + length (chars (take size inside.rest.now))
       → (to : IsPast inside after) × (to.part ≡ read.part)
       × (chars after.rest.now ≡ read.rest ++ (39 ∷ chars end.rest.now))
@@ -302,7 +302,8 @@ module _ (kind : SingleKind) (e : EscapeError) (at inside end : Cursor) (text : 
     ));
   }
 
-  pub bad_part : (after : Cursor) (x : Trouble) → is_of_literal e ≡ false → after.rest.now ≡ drop size inside.rest.now
+  pub bad_part : (after : TextCursor) (x : Trouble) → is_of_literal e ≡ false
+      → after.rest.now ≡ drop size inside.rest.now
       → after.chars_before ≡ inside.chars_before + length (chars (take size inside.rest.now))
       → IsFaulty e inside after x → IsTrouble at x
   bad_part after x partly rest count is =

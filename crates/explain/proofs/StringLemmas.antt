@@ -5,19 +5,19 @@ use Rattle.std.specs.List.{concat}
 use Rattle.std.specs.Str.{chars}
 use Rattle.std.proofs.lemmas.List.{append_cancel_right}
 use Rattle.lexical.specs.Character.{double_quote}
-use Rattle.lexical.specs.Finder.{Answer, and_find, behind, or_find}
+use Rattle.lexical.specs.Finder.{Answer, and_find, prepend, or_find}
 use Rattle.lexical.specs.Form.{Each, Form, Many}
 use Rattle.lexical.specs.Identifier.{name}
-use Rattle.lexical.specs.Quoted.{body, close, cooked, unit, front as string_front}
+use Rattle.lexical.specs.Quoted.{body, close, cooked_string, unit, front as string_front}
 use Rattle.lexical.specs.Rule.{Exactly, Stands, find}
-use Rattle.lexical.specs.Step.{Leads, Passes}
+use Rattle.lexical.specs.RuleMatch.{Leads, Passes}
 use Rattle.lexical.specs.Text.{begins_any}
-use Rattle.lexical.specs.declared.cursor.Cursor.{Cursor}
+use Rattle.lexical.specs.declared.cursor.TextCursor.{TextCursor}
 use Rattle.lexical.specs.declared.quoted.StringKind.{StringKind}
 use Rattle.lexical.specs.declared.quoted.StringKind.TheVariants as kinds
 use Rattle.lexical.proofs.QuotedFinderLemmas.{clear_body}
 use Rattle.lexical.proofs.RuleLemmas.{exact, some_holds}
-use Rattle.lexical.proofs.RuleSteps.{passed, past_text, then_passes}
+use Rattle.lexical.proofs.RuleSteps.{passes_piece, past_text, then_passes}
 use Rattle.lexical.proofs.UnitSteps.{leads_then, leads_unit, unit_shortens}
 use Rattle.lexical.proofs.WordLemmas.{many_ends}
 use Rattle.literal_escaper.specs.declared.errors.EscapeError.{EscapeError}
@@ -51,12 +51,12 @@ module _ (A : Form) where
   }
 
 -- the units that were read
-pub record ReadUnits (kind : StringKind) (at place : Cursor) : Type 0 where
+pub record ReadUnits (kind : StringKind) (at place : TextCursor) : Type 0 where
   pub past : IsPast at place
   pub units : Stands (string_units kind) past.part (chars place.rest.now)
-  pub leads : Leads (cooked kind) at (body (unit kind) (codes "\"")) place
+  pub leads : Leads (cooked_string kind) at (body (unit kind) (codes "\"")) place
 
-pub read_opening : (kind : StringKind) (at inside : Cursor) → Passes (Exactly (string_front kind)) at inside
+pub read_opening : (kind : StringKind) (at inside : TextCursor) → Passes (Exactly (string_front kind)) at inside
     → ReadUnits kind at inside
 read_opening kind at inside h =
     let is = past_text (string_front kind) at inside h in
@@ -78,10 +78,11 @@ read_opening kind at inside h =
       leads = leads_then (Exactly (string_front kind)) (body (unit kind) (codes "\"")) at inside h;
     }
 
-pub read_unit : (kind : StringKind) (at place after : Cursor) → ReadUnits kind at place → Passes (unit kind) place after
+pub read_unit : (kind : StringKind) (at place after : TextCursor) → ReadUnits kind at place
+    → Passes (unit kind) place after
     → ReadUnits kind at after
 read_unit kind at place after h j =
-    let is = passed (unit kind) (clear_body kind).0 place after j in
+    let is = passes_piece (unit kind) (clear_body kind).0 place after j in
     let past : IsPast place after = record { part = j.front; whole = is.0; count = j.count } in
     let opens = h.units in
     let inner = opens.second in
@@ -111,10 +112,11 @@ read_unit kind at place after h j =
           second = refl;
         };
       };
-      leads = leads_unit (unit kind) (close (codes "\"")) (clear_body kind) (cooked kind) at place after h.leads j;
+      leads = leads_unit (unit kind) (close (codes "\"")) (clear_body kind) (cooked_string kind) at place after h.leads
+          j;
     }
 
-pub unit_shorter : (kind : StringKind) (place after : Cursor) → Passes (unit kind) place after
+pub unit_shorter : (kind : StringKind) (place after : TextCursor) → Passes (unit kind) place after
     → length (chars after.rest.now) < length (chars place.rest.now)
 unit_shorter kind = unit_shortens (unit kind) (close (codes "\"")) (clear_body kind)
 
@@ -124,7 +126,7 @@ closes : (text : List ℕ) → find (close (codes "\"")) (34 ∷ text) ≡ None 
 unfolding find
 closes text none = by_suffix (find name text) none
   where
-    by_suffix : (o : Answer) → behind (34 ∷ []) (or_find o (Some ([], text))) ≡ None → ⊥
+    by_suffix : (o : Answer) → prepend (34 ∷ []) (or_find o (Some ([], text))) ≡ None → ⊥
     by_suffix None e = let clash : ◌≡◌ {A = Answer} (Some (34 ∷ [], text)) None = e in absurd (cc)
     by_suffix (Some x) e = let clash : ◌≡◌ {A = Answer} (Some (34 ∷ x.0, x.1)) None = e in absurd (cc)
 
@@ -134,9 +136,9 @@ no_unit kinds.Plain text = refl
 no_unit kinds.Byte text = refl
 no_unit kinds.C text = refl
 
-pub behind_none : (front : List ℕ) (o : Answer) → behind front o ≡ None → o ≡ None
-behind_none front None e = refl
-behind_none front (Some x) e = absurd (cc)
+pub prepend_none : (front : List ℕ) (o : Answer) → prepend front o ≡ None → o ≡ None
+prepend_none front None e = refl
+prepend_none front (Some x) e = absurd (cc)
 
 body_closes : (kind : StringKind) (text : List ℕ) → find (body (unit kind) (codes "\"")) (34 ∷ text) ≡ None → ⊥
 unfolding find
@@ -144,20 +146,21 @@ body_closes kind text none =
     let clear = clear_body kind in
     let ended = many_ends _ _ (exact (unit kind) clear.0) (some_holds (unit kind) clear.2) (34 ∷ text)
     (no_unit kind text) in
-    closes text (behind_none [] (find (close (codes "\"")) (34 ∷ text))
+    closes text (prepend_none [] (find (close (codes "\"")) (34 ∷ text))
     (sym (ap (and_find (find (close (codes "\"")))) ended) ∙ none))
 
-pub not_whole : (kind : StringKind) (at place end : Cursor) → ReadUnits kind at place → IsLeft double_quote [] place end
-    → find (cooked kind) (chars at.rest.now) ≡ None → ⊥
+pub not_whole : (kind : StringKind) (at place end : TextCursor) → ReadUnits kind at place
+    → IsLeft double_quote [] place end
+    → find (cooked_string kind) (chars at.rest.now) ≡ None → ⊥
 not_whole kind at place end h whole none =
     body_closes kind (chars end.rest.now)
     (subst (λ t. find (body (unit kind) (codes "\"")) t ≡ None) whole
-    (behind_none h.leads.front (find (body (unit kind) (codes "\"")) (chars place.rest.now))
+    (prepend_none h.leads.front (find (body (unit kind) (codes "\"")) (chars place.rest.now))
     (sym h.leads.found ∙ none)))
 
 -- ---- the error
 
-pub bad_string : (kind : StringKind) (e : EscapeError) (at inside place after end : Cursor) (x : Trouble)
+pub bad_string : (kind : StringKind) (e : EscapeError) (at inside place after end : TextCursor) (x : Trouble)
     → Passes (Exactly (string_front kind)) at inside → Passes closed_body inside end → ReadUnits kind at place
     → IsFaultAt kind e place after end → IsFaulty e place after x → IsTrouble at x
 bad_string kind e at inside place after end x opens closed h fault is =
@@ -176,7 +179,7 @@ bad_string kind e at inside place after end x opens closed h fault is =
     ∙ ap (λ c. (start ++ part) ++ chars c.rest.now) is.ends))) in
     let whole : chars at.rest.now ≡ (units ++ start) ++ (part ++ r) =
     h.past.whole ∙ (ap (λ t. units ++ t) here ∙ sym (append_assoc units start (part ++ r))) in
-    let all = passed (closed_string kind) (assumption) at end
+    let all = passes_piece (closed_string kind) (assumption) at end
     (then_passes (Exactly (string_front kind)) closed_body at inside end opens closed) in
     let joined : (units ++ start) ++ (part ++ r) ≡ ((units ++ start) ++ (part ++ (left ++ codes "\""))) ++ tail =
     ap (λ t. (units ++ start) ++ (part ++ t)) (back ∙ sym (append_assoc left (codes "\"") tail))
@@ -208,9 +211,9 @@ bad_string kind e at inside place after end x opens closed h fault is =
       holds = subst (λ reason. Holds reason (units ++ start) part r) (sym is.reason) (inl (kind, bad));
     }
 
-pub closed_inside : (inside end : Cursor) → Passes closed_body inside end → IsInside double_quote inside end
+pub closed_inside : (inside end : TextCursor) → Passes closed_body inside end → IsInside double_quote inside end
 closed_inside inside end h =
-    let is = passed closed_body (assumption) inside end h in
+    let is = passes_piece closed_body (assumption) inside end h in
     let last : h.front ≡ is.1.front ++ codes "\"" = is.1.whole ∙ ap (λ t. is.1.front ++ t) is.1.second in (
       is.1.front,
       is.0 ∙ (ap (λ t. t ++ chars end.rest.now) last ∙ append_assoc is.1.front (codes "\"") (chars end.rest.now)),

@@ -15,19 +15,19 @@ use Rattle.lexical.specs.Literal.{quoted_literal}
 use Rattle.lexical.specs.Mark.{comment_fronts, is_mark, mark}
 use Rattle.lexical.specs.Number.{number}
 use Rattle.lexical.specs.Piece.{HasNoPiece, IsPiece, Kind}
-use Rattle.lexical.specs.PieceFinder.{Found, comment_found, find_lone_quote, found, found_identifier, literal_kind}
+use Rattle.lexical.specs.PieceFinder.{Found, comment_found, find_lone_quote, find_piece, found_identifier, literal_kind}
 use Rattle.lexical.specs.PieceFinder.{closer_kind, gap_kind, mark_kind, name_kind, opener_kind, or_found}
 use Rattle.lexical.specs.PieceFinder.{piece_start, quote_kind}
-use Rattle.lexical.specs.PieceFinder.{tagged}
-use Rattle.lexical.specs.Quoted.{cooked}
+use Rattle.lexical.specs.PieceFinder.{and_kind}
+use Rattle.lexical.specs.Quoted.{cooked_string}
 use Rattle.lexical.specs.RawString.{raw_string}
 use Rattle.lexical.specs.SingleQuoted.{byte, character}
 use Rattle.lexical.specs.Rule.{One, Exactly, find}
-use Rattle.lexical.specs.Step.{Passes}
+use Rattle.lexical.specs.RuleMatch.{Passes}
 use Rattle.lexical.specs.Text.{begins_any, begins_with, first_passes}
 use Rattle.lexical.specs.declared.class.PieceStart.{PieceStart}
 use Rattle.lexical.specs.declared.class.PieceStart.TheVariants as starts
-use Rattle.lexical.specs.declared.cursor.Cursor.{Cursor}
+use Rattle.lexical.specs.declared.cursor.TextCursor.{TextCursor}
 use Rattle.lexical.proofs.AnswerLemmas.{at_start, one_found_not_at}
 use Rattle.lexical.proofs.ClassLemmas.{of_start, start_white, start_letter, start_digit, start_opener, start_closer}
 use Rattle.lexical.proofs.ClassLemmas.{start_mark, start_quote, start_double_quote, start_front_mark}
@@ -45,9 +45,9 @@ use Rattle.explain.proofs.ScanLemmas.{none_stands}
 use Rattle.explain.proofs.TroubleLemmas.{trouble_here}
 
 -- where no piece begins, none is found
-pub none_found : (first : Bool) (text : List ℕ) → HasNoPiece first text → found first text ≡ None
+pub none_found : (first : Bool) (text : List ℕ) → HasNoPiece first text → find_piece first text ≡ None
 none_found first text none =
-    (elim (found first text) as (λ o. IfSome o (λ x. (text ≡ x.1 ++ x.2) × IsPiece first x.0 x.1 x.2) → o ≡ None) [
+    (elim (find_piece first text) as (λ o. IfSome o (λ x. (text ≡ x.1 ++ x.2) × IsPiece first x.0 x.1 x.2) → o ≡ None) [
       | None ↦ λ h. refl
       | Some x ↦ λ h. absurd (none x.0 x.1 x.2 h.0 h.1)
     ]) (found_sound first text)
@@ -56,13 +56,13 @@ pub digit_first : (c : ℕ) (text rest : List ℕ) → text ≡ c ∷ rest → s
     → first_passes is_ascii_digit text ≡ true
 digit_first c text rest e s = ap (first_passes is_ascii_digit) e ∙ of_start starts.Digit c s
 
-untagged : (o : Answer) → tagged literal_kind o ≡ None → o ≡ None
-untagged None e = refl
-untagged (Some x) e = absurd (cc)
+no_kind_none : (o : Answer) → and_kind literal_kind o ≡ None → o ≡ None
+no_kind_none None e = refl
+no_kind_none (Some x) e = absurd (cc)
 
 pub no_number : (first : Bool) (c : ℕ) (text rest : List ℕ) → text ≡ c ∷ rest → starts.Digit ≡ piece_start c
-    → found first text ≡ None → find number text ≡ None
-no_number first c text rest e s none = untagged (find number text) (sym (at_start first starts.Digit e s) ∙ none)
+    → find_piece first text ≡ None → find number text ≡ None
+no_number first c text rest e s none = no_kind_none (find number text) (sym (at_start first starts.Digit e s) ∙ none)
 
 -- ---- pieces that are not found
 
@@ -70,35 +70,35 @@ or_found_none : (o u : Found) → or_found o u ≡ None → (o ≡ None) × (u �
 or_found_none None u e = (refl, e)
 or_found_none (Some x) u e = absurd (cc)
 
-pub untagged_by : (kind : List ℕ → List ℕ → Kind) (o : Answer) → tagged kind o ≡ None → o ≡ None
+pub untagged_by : (kind : List ℕ → List ℕ → Kind) (o : Answer) → and_kind kind o ≡ None → o ≡ None
 untagged_by kind None e = refl
 untagged_by kind (Some x) e = absurd (cc)
 
 pub letter_none : (first : Bool) (c : ℕ) (text rest : List ℕ) → text ≡ c ∷ rest → starts.Letter ≡ piece_start c
-    → found first text ≡ None → (found_identifier text ≡ None) × (find quoted_literal text ≡ None)
+    → find_piece first text ≡ None → (found_identifier text ≡ None) × (find quoted_literal text ≡ None)
 letter_none first c text rest e s none =
     let both = or_found_none _ _ (sym (at_start first starts.Letter e s) ∙ none) in
-    (both.0, untagged (find quoted_literal text) both.1)
+    (both.0, no_kind_none (find quoted_literal text) both.1)
 
 pub quote_none : (first : Bool) (c : ℕ) (text rest : List ℕ) → text ≡ c ∷ rest → starts.Quote ≡ piece_start c
-    → found first text ≡ None → (find_lone_quote text ≡ None) × (find quoted_literal text ≡ None)
+    → find_piece first text ≡ None → (find_lone_quote text ≡ None) × (find quoted_literal text ≡ None)
 quote_none first c text rest e s none =
     let both = or_found_none _ _ (sym (at_start first starts.Quote e s) ∙ none) in
-    (untagged_by quote_kind (find_lone_quote text) both.0, untagged (find quoted_literal text) both.1)
+    (untagged_by quote_kind (find_lone_quote text) both.0, no_kind_none (find quoted_literal text) both.1)
 
 pub string_none : (first : Bool) (c : ℕ) (text rest : List ℕ) → text ≡ c ∷ rest → starts.DoubleQuote ≡ piece_start c
-    → found first text ≡ None → find quoted_literal text ≡ None
+    → find_piece first text ≡ None → find quoted_literal text ≡ None
 string_none first c text rest e s none =
-    untagged (find quoted_literal text) (sym (at_start first starts.DoubleQuote e s) ∙ none)
+    no_kind_none (find quoted_literal text) (sym (at_start first starts.DoubleQuote e s) ∙ none)
 
 pub comment_none : (first : Bool) (c : ℕ) (text rest : List ℕ) → text ≡ c ∷ rest → starts.Slash ≡ piece_start c
-    → found first text ≡ None
+    → find_piece first text ≡ None
     → (begins_any comment_fronts text ≡ true) × (comment_found (find comment text) ≡ None)
 comment_none first c text rest e s none = by_front (begins_any comment_fronts text) refl
     (sym (at_start first starts.Slash e s) ∙ none)
   where
     by_front : (b : Bool) → begins_any comment_fronts text ≡ b
-        → cond b (comment_found (find comment text)) (tagged mark_kind (find mark text)) ≡ None
+        → cond b (comment_found (find comment text)) (and_kind mark_kind (find mark text)) ≡ None
         → (b ≡ true) × (comment_found (find comment text) ≡ None)
     by_front true begins h = (refl, h)
     by_front false plain h =
@@ -111,7 +111,7 @@ comment_none first c text rest e s none = by_front (begins_any comment_fronts te
 
 -- no literal with quotes is found
 pub record HasNoLiteral (text : List ℕ) : Type 0 where
-  pub strings : (kind : StringKind) → find (cooked kind) text ≡ None
+  pub strings : (kind : StringKind) → find (cooked_string kind) text ≡ None
   pub raw_strings : (kind : StringKind) → find (raw_string kind) text ≡ None
   pub characters : find character text ≡ None
   pub bytes : find byte text ≡ None
@@ -126,22 +126,22 @@ no_literal text none =
     let last = or_none _ _ (sym (find_either _ _ text) ∙ bytes.1) in
     let c_parts = or_none _ _ (sym (find_either _ _ text) ∙ last.1) in
     record {
-      strings = each_kind (λ k. find (cooked k) text ≡ None) plain_parts.0 byte_parts.0 c_parts.0;
+      strings = each_kind (λ k. find (cooked_string k) text ≡ None) plain_parts.0 byte_parts.0 c_parts.0;
       raw_strings = each_kind (λ k. find (raw_string k) text ≡ None) plain_parts.1 byte_parts.1 c_parts.1;
       characters = one.0;
       bytes = last.0;
     }
 
 -- the cursor is past this one character
-pub past_one : (d c : ℕ) (at after : Cursor) → chars at.rest.now ≡ c ∷ chars after.rest.now
+pub past_one : (d c : ℕ) (at after : TextCursor) → chars at.rest.now ≡ c ∷ chars after.rest.now
     → after.chars_before ≡ at.chars_before + 1 → (c == d) ≡ true → Passes (Exactly (d ∷ [])) at after
 past_one d c at after split count is =
     text_passes (d ∷ []) at after (split ∙ ap (λ x. x ∷ chars after.rest.now) (eqb-true c d is)) count
 
-pub misplaced : (c : ℕ) (at after : Cursor) → chars at.rest.now ≡ c ∷ chars after.rest.now
+pub mark_is_misplaced : (c : ℕ) (at after : TextCursor) → chars at.rest.now ≡ c ∷ chars after.rest.now
     → after.chars_before ≡ at.chars_before + 1 → starts.FrontMark ≡ piece_start c
     → IsTrouble at (record { reason = MisplacedMark; at = at; after = after })
-misplaced c at after split count s =
+mark_is_misplaced c at after split count s =
     trouble_here (Exactly (0xFEFF ∷ [])) tt at after MisplacedMark
     (past_one 0xFEFF c at after split count (of_start starts.FrontMark c s)) (λ front part whole is. is)
 
@@ -179,14 +179,14 @@ nothing_begins c other =
     (or_from _ _ white letter) digit)
     opener) closer) (no_mark c other)) quote) mark)
 
-pub no_token : (c : ℕ) (at after : Cursor) → chars at.rest.now ≡ c ∷ chars after.rest.now
+pub no_token : (c : ℕ) (at after : TextCursor) → chars at.rest.now ≡ c ∷ chars after.rest.now
     → after.chars_before ≡ at.chars_before + 1 → starts.Other ≡ piece_start c
     → IsTrouble at (record { reason = NoToken; at = at; after = after })
 no_token c at after split count s =
     trouble_here (One begins_nothing) tt at after NoToken
     (one_passes begins_nothing c at after split count (nothing_begins c s)) (λ front part whole is. is)
 
-pub unclosed_comment : (at after : Cursor) → Passes (Exactly (codes "/*")) at after
+pub unclosed_comment : (at after : TextCursor) → Passes (Exactly (codes "/*")) at after
     → find comment (chars at.rest.now) ≡ None
     → IsTrouble at (record { reason = UnclosedComment; at = at; after = after })
 unclosed_comment at after h none =
@@ -203,22 +203,22 @@ some_of : (A B : Type 0) (x : List ℕ × List ℕ) (o : Answer) → o ≡ Some 
 some_of A B x o some none = let clash : ◌≡◌ {A = Answer} (Some x) None = sym some ∙ none in absurd (cc)
 
 pub white_stands : (first : Bool) (c : ℕ) (text rest : List ℕ) → text ≡ c ∷ rest → starts.White ≡ piece_start c
-    → found first text ≡ None → ⊥
+    → find_piece first text ≡ None → ⊥
 white_stands first c text rest e s none =
     some_of ⊥ ⊥ _ _ (one_found is_white c text rest e (of_start starts.White c s))
     (untagged_by gap_kind (find (One is_white) text) (sym (at_start first starts.White e s) ∙ none))
 
 pub closer_stands : (first : Bool) (c : ℕ) (text rest : List ℕ) → text ≡ c ∷ rest → starts.Closer ≡ piece_start c
-    → found first text ≡ None → ⊥
+    → find_piece first text ≡ None → ⊥
 closer_stands first c text rest e s none =
     some_of ⊥ ⊥ _ _ (one_found is_closer c text rest e (of_start starts.Closer c s))
     (untagged_by closer_kind (find closer text) (sym (at_start first starts.Closer e s) ∙ none))
 
 pub opener_stands : (first : Bool) (c : ℕ) (text rest : List ℕ) → text ≡ c ∷ rest → starts.Opener ≡ piece_start c
-    → found first text ≡ None → ⊥
+    → find_piece first text ≡ None → ⊥
 opener_stands first c text rest e s none =
     let both = or_found_none _ _ (sym (at_start first starts.Opener e s) ∙ none) in
-    let plain = lacks_text error_literal text (untagged (find (Exactly error_literal) text) both.1) in
+    let plain = lacks_text error_literal text (no_kind_none (find (Exactly error_literal) text) both.1) in
     some_of ⊥ ⊥ _ _
     (one_found_not_at (error_literal ∷ []) is_opener text rest c e (or_from _ _ plain refl) (of_start starts.Opener c
     s))
@@ -239,7 +239,7 @@ pub letter_first : (c : ℕ) (text rest : List ℕ) → text ≡ c ∷ rest → 
 letter_first c text rest e s = ap (first_passes is_ident_start) e ∙ of_start starts.Letter c s
 
 pub mark_stands : (first : Bool) (c : ℕ) (text rest : List ℕ) → text ≡ c ∷ rest → starts.Mark ≡ piece_start c
-    → found first text ≡ None → ⊥
+    → find_piece first text ≡ None → ⊥
 mark_stands first c text rest e s none =
     let is = mark_of c s in
     some_of ⊥ ⊥ _ _
@@ -258,8 +258,8 @@ pub identifier_stands : (text : List ℕ) → begins_any literal_prefixes text �
 unfolding find
 identifier_stands [] plain front starts none = both_ways _ refl starts
 identifier_stands (c ∷ text) plain front starts none =
-    let raw : found_identifier (c ∷ text) ≡ tagged (name_kind false) (find (identifier false) (c ∷ text)) =
-    ap (λ b. tagged (name_kind b) (find (identifier b) (c ∷ text))) front in
+    let raw : found_identifier (c ∷ text) ≡ and_kind (name_kind false) (find (identifier false) (c ∷ text)) =
+    ap (λ b. and_kind (name_kind b) (find (identifier b) (c ∷ text))) front in
     let lacks = untagged_by (name_kind false) (find (identifier false) (c ∷ text)) (sym raw ∙ none) in
     let inner : find name (c ∷ text) ≡ None =
     sym (cond-false _ _ _ (or_from _ _ front refl)) ∙ (sym (cond-false _ _ _ plain) ∙ lacks) in

@@ -18,7 +18,7 @@ use Rattle.lexical.specs.declared.quoted.StringKind.{StringKind}
 use Rattle.lexical.specs.declared.quoted.StringKind.TheVariants as kinds
 use Rattle.lexical.proofs.ClassLemmas.{any_of}
 use Rattle.literal_escaper.specs.declared.errors.EscapeError.{EscapeError}
-use Rattle.literal_escaper.specs.Escape.{Read, closed, code_unit, coded, escape, fault, hex_escape}
+use Rattle.literal_escaper.specs.Escape.{Read, read_closing, code_unit, read_code, escape, fault, hex_escape}
 use Rattle.literal_escaper.specs.Escape.{is_code_character, is_hex, unicode_escape}
 use Rattle.literal_escaper.specs.Items.{plain, unit_front}
 use Rattle.literal_escaper.specs.Kind.{Kind, byte_kind, c_kind, character, string_kind}
@@ -77,14 +77,14 @@ module _ {U : Type 0} (kind : Kind U) where
   code_taken : (c : ℕ) (ds text : List ℕ) → is_ascii_hexdigit c ≡ true → list_all is_code_character (c ∷ ds) ≡ true
       → (u : U) → code_unit kind (filter is_hex (c ∷ ds)) ≡ Ok u
       → Takes (escape kind (117 ∷ 123 ∷ ((c ∷ ds) ++ (125 ∷ text)))) text
-  unfolding escape unicode_escape coded
+  unfolding escape unicode_escape read_code
   code_taken c ds text hex all u is =
       let ends = code_ends (c ∷ ds) text all in (
         u,
         cond-false (c == 95) _ _ (other 95 refl)
             ∙ (cond-false (c == 125) _ _ (other 125 refl)
             ∙ (cond-true (is_hex c) _ _ (hex_same c ∙ hex)
-            ∙ (ap₂ (λ p t. closed kind (filter is_hex p) t) ends.0 ends.1
+            ∙ (ap₂ (λ p t. read_closing kind (filter is_hex p) t) ends.0 ends.1
             ∙ ap (λ o. record { unit = o; rest = text }) is))),
       )
     where
@@ -182,7 +182,7 @@ module _ {U : Type 0} (kind : Kind U) where
     no_unit e c text left v r tail (inr (inr escaped)) split apart paired is =
         by_second escaped.back (escaped.whole ∙ ap (λ t. t ++ escaped.back) escaped.first) escaped.second
       where
-        by_second : (w : List ℕ) → v ≡ 92 ∷ w → Stands (rule.escaped strings) w r → ⊥
+        by_second : (w : List ℕ) → v ≡ 92 ∷ w → Stands (rule.escape_or_line_end strings) w r → ⊥
         by_second w whole (inl (inl feed)) =
             both_ways _ apart (ap (λ t. begins_any line_ends (t ++ r)) (whole ∙ ap (λ t. 92 ∷ t) feed))
         by_second w whole (inl (inr return)) =

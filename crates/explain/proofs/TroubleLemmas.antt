@@ -2,23 +2,23 @@
 use Rattle.std.proofs.Common.{◌≡◌, ℕ, List, [], ◌++◌, ap, ◌∙◌, subst, arith}
 use Rattle.std.specs.Str.{chars}
 use Rattle.lexical.specs.Rule.{Rule, Stands, nothing}
-use Rattle.lexical.specs.Step.{Passes}
-use Rattle.lexical.specs.declared.cursor.Cursor.{Cursor}
+use Rattle.lexical.specs.RuleMatch.{Passes}
+use Rattle.lexical.specs.declared.cursor.TextCursor.{TextCursor}
 use Rattle.lexical.proofs.RuleLemmas.{Clear}
-use Rattle.lexical.proofs.RuleSteps.{passed, find_nothing}
+use Rattle.lexical.proofs.RuleSteps.{passes_piece, find_nothing}
 use Rattle.explain.specs.Reason.{Holds, Follow, Begins}
 use Rattle.explain.specs.Trouble.{IsTrouble}
 use Rattle.explain.specs.declared.reason.Reason.{Reason}
 
 -- the first rule passes the text up to the wrong part, and the second rule passes the wrong part
-pub trouble : (a b : Rule) → Clear a → Clear b → (at here after : Cursor) (reason : Reason) → Passes a at here
+pub trouble : (a b : Rule) → Clear a → Clear b → (at here after : TextCursor) (reason : Reason) → Passes a at here
     → Passes b here after
     → ((front part : List ℕ) → chars at.rest.now ≡ front ++ (part ++ chars after.rest.now)
     → Follow a b front part (chars after.rest.now) → Holds reason front part (chars after.rest.now))
     → IsTrouble at (record { reason = reason; at = here; after = after })
 trouble a b clear clear' at here after reason h j says =
-    let before = passed a clear at here h in
-    let part = passed b clear' here after j in
+    let before = passes_piece a clear at here h in
+    let part = passes_piece b clear' here after j in
     record {
       front = h.front;
       part = j.front;
@@ -30,11 +30,11 @@ trouble a b clear clear' at here after reason h j says =
           (subst (Stands a h.front) part.0 before.1, part.1);
     }
 
-stays : (at : Cursor) → Passes nothing at at
+stays : (at : TextCursor) → Passes nothing at at
 stays at = record { front = []; found = find_nothing (chars at.rest.now); count = omega arith }
 
 -- the wrong part begins right at the fault
-pub trouble_here : (b : Rule) → Clear b → (at after : Cursor) (reason : Reason) → Passes b at after
+pub trouble_here : (b : Rule) → Clear b → (at after : TextCursor) (reason : Reason) → Passes b at after
     → ((front part : List ℕ) → chars at.rest.now ≡ front ++ (part ++ chars after.rest.now)
     → Begins b front part (chars after.rest.now) → Holds reason front part (chars after.rest.now))
     → IsTrouble at (record { reason = reason; at = at; after = after })

@@ -9,8 +9,9 @@ use Rattle.lexical.specs.Class.{is_ident_continue, is_ident_start}
 use Rattle.lexical.specs.Comment.{block_comment, closing, comment, has_bare_return}
 use Rattle.lexical.specs.CommentKind.{comment_kind, doc_text}
 use Rattle.lexical.specs.Form.{HasNone}
-use Rattle.lexical.specs.Number.{base_prefixes, based, digits, end as number_end, float_tail, integer, number, tail}
-use Rattle.lexical.specs.PieceFinder.{comment_found, found, literal_kind, tagged, with_kind}
+use Rattle.lexical.specs.Number.{base_prefixes, based_number, digits, end as number_end, float_tail, integer, number}
+use Rattle.lexical.specs.Number.{tail}
+use Rattle.lexical.specs.PieceFinder.{comment_found, find_piece, literal_kind, and_kind, with_kind}
 use Rattle.lexical.specs.Rule.{One, Exactly, Then, Stands, find}
 use Rattle.lexical.specs.Text.{begins_any, first_passes}
 use Rattle.lexical.specs.declared.bytes.Base.{Base}
@@ -23,20 +24,20 @@ use Rattle.lexical.proofs.RuleLemmas.{exact, none_found, one_split}
 use Rattle.explain.specs.Content.{IsBareReturn}
 use Rattle.explain.specs.Reason.{Begins, Follow, Lacks}
 use Rattle.explain.specs.Shapes.{bare_prefix, base_front, base_prefix, ends_badly}
-use Rattle.explain.proofs.ToldNumberLemmas.{bad_digit_integer, bad_digit_whole, base_digit, based_begins, based_in}
-use Rattle.explain.proofs.ToldNumberLemmas.{no_digits_integer, no_digits_whole}
-use Rattle.explain.proofs.ToldTextLemmas.{at_front, unclosed_comment_none}
+use Rattle.explain.proofs.NumberReasonLemmas.{bad_digit_integer, bad_digit_whole, base_digit, based_begins, based_in}
+use Rattle.explain.proofs.NumberReasonLemmas.{no_digits_integer, no_digits_whole}
+use Rattle.explain.proofs.TextReasonLemmas.{at_front, unclosed_comment_none}
 
 -- ---- comments
 
 slash_found : (first : Bool) (text rest : List ℕ) → text ≡ 47 ∷ rest → (begins_any (codes "//" ∷ codes "/*" ∷ []) text)
     ≡ true
-    → comment_found (find comment text) ≡ None → found first text ≡ None
+    → comment_found (find comment text) ≡ None → find_piece first text ≡ None
 slash_found first text rest e begins none =
     at_start first starts.Slash e (sym start_slash) ∙ (cond-true _ _ _ begins ∙ none)
 
 pub unclosed_comment_unfound : (first : Bool) (f p r : List ℕ) → Begins (Exactly (codes "/*")) f p r
-    → Lacks block_comment f p r → found first (f ++ (p ++ r)) ≡ None
+    → Lacks block_comment f p r → find_piece first (f ++ (p ++ r)) ≡ None
 unclosed_comment_unfound first f p r is none =
     let text : List ℕ = f ++ (p ++ r) in
     let e : text ≡ 47 ∷ 42 ∷ r = at_front f p r is.0 ∙ ap (λ t. t ++ r) is.1 in
@@ -48,17 +49,17 @@ bare_more : (before text : List ℕ) → has_bare_return text ≡ true → has_b
 bare_more [] text is = is
 bare_more (c ∷ before) text is = or_right _ _ (bare_more before text is)
 
-pub bare_return_unfound : (first : Bool) (f p r : List ℕ) → IsBareReturn f p r → found first (f ++ (p ++ r)) ≡ None
+pub bare_return_unfound : (first : Bool) (f p r : List ℕ) → IsBareReturn f p r → find_piece first (f ++ (p ++ r)) ≡ None
 bare_return_unfound first f p r is =
     let text : List ℕ = f ++ (p ++ r) in
-    let said : List ℕ = is.before ++ (p ++ is.more) in
+    let doc_body : List ℕ = is.before ++ (p ++ is.more) in
     let doc = is.stands in
     let at = comment_first is.comment is.after doc.0 in
     let e : text ≡ 47 ∷ (at.0 ++ is.after) = is.whole ∙ ap (λ t. t ++ is.after) at.1 in
-    let text_is : doc_text is.comment is.after ≡ said =
+    let text_is : doc_text is.comment is.after ≡ doc_body =
     append_cancel_right _ _ (closing is.comment is.after)
     (sym (doc_back is.comment is.after doc.0 doc.1) ∙ (ap (drop 3) is.text
-    ∙ drop_at is.opening (said ++ closing is.comment is.after) 3 is.three)) in
+    ∙ drop_at is.opening (doc_body ++ closing is.comment is.after) 3 is.three)) in
     let bare : has_bare_return (13 ∷ is.more) ≡ true = or_left _ _ (ap not is.bare) in
     let returns : has_bare_return (doc_text is.comment is.after) ≡ true =
     ap has_bare_return text_is
@@ -73,32 +74,32 @@ bare_return_unfound first f p r is =
 -- ---- numbers
 
 digit_found : (first : Bool) (c : ℕ) (text rest : List ℕ) → text ≡ c ∷ rest → is_ascii_digit c ≡ true
-    → find number text ≡ None → found first text ≡ None
+    → find number text ≡ None → find_piece first text ≡ None
 digit_found first c text rest e digit none =
-    at_start first starts.Digit e (sym (start_digit c digit)) ∙ ap (tagged literal_kind) none
+    at_start first starts.Digit e (sym (start_digit c digit)) ∙ ap (and_kind literal_kind) none
 
 -- a text with the prefix of a base, and no number of that base, begins with no piece
 based_found : (first : Bool) (base : Base) (text rest : List ℕ) → text ≡ base_prefix base ++ rest
-    → HasNone (Stands (Then based number_end)) text → found first text ≡ None
+    → HasNone (Stands (Then based_number number_end)) text → find_piece first text ≡ None
 based_found first base text rest e none =
     let digit = base_digit base rest in
     digit_found first 48 text digit.0 (e ∙ digit.1) refl
     (number_based text (ap (begins_any base_prefixes) e ∙ based_begins base rest)
-    ∙ none_found (Then based number_end) (assumption) text none)
+    ∙ none_found (Then based_number number_end) (assumption) text none)
 
 -- no number of a base begins there if no integer does
-no_based : (text : List ℕ) → HasNone (Stands integer) text → HasNone (Stands (Then based number_end)) text
+no_based : (text : List ℕ) → HasNone (Stands integer) text → HasNone (Stands (Then based_number number_end)) text
 no_based text none p r split is =
     none is.front (is.back ++ r) (split ∙ (ap (λ t. t ++ r) is.whole ∙ append_assoc is.front is.back r)) (inr is.first)
 
 pub no_digits_unfound : (first : Bool) (base : Base) (f p r : List ℕ) → Begins (bare_prefix base) f p r
-    → found first (f ++ (p ++ r)) ≡ None
+    → find_piece first (f ++ (p ++ r)) ≡ None
 no_digits_unfound first base f p r is =
     based_found first base (f ++ (p ++ r)) _ (no_digits_whole base f p r is)
     (no_based (f ++ (p ++ r)) (no_digits_integer base f p r is))
 
 pub bad_digit_unfound : (first : Bool) (base : Base) (f p r : List ℕ)
-    → Follow (base_front base) (One is_ascii_digit) f p r → found first (f ++ (p ++ r)) ≡ None
+    → Follow (base_front base) (One is_ascii_digit) f p r → find_piece first (f ++ (p ++ r)) ≡ None
 bad_digit_unfound first base f p r is =
     based_found first base (f ++ (p ++ r)) _ (bad_digit_whole base f p r is)
     (no_based (f ++ (p ++ r)) (bad_digit_integer base f p r is))
@@ -153,7 +154,7 @@ module _ (c : ℕ) (bad : ends_badly c ≡ true) where
   no_tail r q s e (inr end) = no_end r q s e end.1
 
 pub bad_end_unfound : (first : Bool) (f p r : List ℕ) → Follow integer (One ends_badly) f p r
-    → found first (f ++ (p ++ r)) ≡ None
+    → find_piece first (f ++ (p ++ r)) ≡ None
 bad_end_unfound first f p r (inl is, bad) =
     let text : List ℕ = f ++ (p ++ r) in
     let one = is.0.first in
@@ -179,5 +180,6 @@ bad_end_unfound first f p r (inr is, bad) =
     let after : q ++ s ≡ stands.front ++ (stands.back ++ s) =
     ap (λ t. t ++ s) stands.whole ∙ append_assoc stands.front stands.back s in
     let same : p ++ r ≡ stands.back ++ s =
-    (one_split based (assumption) f stands.front (p ++ r) (stands.back ++ s) is stands.first (split ∙ after)).1 in
+    (one_split based_number (assumption) f stands.front (p ++ r) (stands.back ++ s) is stands.first
+    (split ∙ after)).1 in
     no_end bad.0 bad.2 r stands.back s (sym same ∙ rest) stands.second)

@@ -11,8 +11,8 @@ use Rattle.lexical.specs.Class.{is_ident_start}
 use Rattle.lexical.specs.Form.{HasNone, Many}
 use Rattle.lexical.specs.Identifier.{Named, is_reserved, literal_prefixes, name}
 use Rattle.lexical.specs.Mark.{FollowsQuote, LoneQuote, bars_quote, comment_fronts}
-use Rattle.lexical.specs.PieceFinder.{find_lone_quote, found, literal_kind, or_found, quote_kind, tagged}
-use Rattle.lexical.specs.Quoted.{cooked, escape as escape_rule, is_code_digit, is_one_of}
+use Rattle.lexical.specs.PieceFinder.{find_lone_quote, find_piece, literal_kind, or_found, quote_kind, and_kind}
+use Rattle.lexical.specs.Quoted.{cooked_string, escape as escape_rule, is_code_digit, is_one_of}
 use Rattle.lexical.specs.Quoted as rule
 use Rattle.lexical.specs.RawString.{raw_string}
 use Rattle.lexical.specs.Rule.{One, Exactly, Then, Where, Either, Stands}
@@ -42,11 +42,12 @@ use Rattle.explain.specs.declared.quotes.SingleKind.TheVariants as singles
 use Rattle.explain.proofs.OneContentLemmas.{byte_single, one_character}
 use Rattle.explain.proofs.PairedLemmas.{Paired, more_escaped, pair_of}
 use Rattle.explain.proofs.TakenLemmas.{TakesAll, byte_takes, escape_taken, string_takes}
-use Rattle.explain.proofs.ToldQuoteLemmas.{IsNamed, Digit, Plain, Raw, digit_unnamed, hash_unnamed, name_first}
-use Rattle.explain.proofs.ToldQuoteLemmas.{named_is}
-use Rattle.explain.proofs.ToldQuoteLemmas.{no_both, no_opening, reserved_unnamed, stops_at_hash}
-use Rattle.explain.proofs.ToldTextLemmas.{at_front}
-use Rattle.explain.proofs.UnfoundStringLemmas.{Unquoted, barred_here, letter_found, prefixed, reserved_name_unfound}
+use Rattle.explain.proofs.QuoteReasonLemmas.{IsNamed, Digit, Plain, Raw, digit_unnamed, hash_unnamed, name_first}
+use Rattle.explain.proofs.QuoteReasonLemmas.{named_is}
+use Rattle.explain.proofs.QuoteReasonLemmas.{no_both, no_opening, reserved_unnamed, stops_at_hash}
+use Rattle.explain.proofs.TextReasonLemmas.{at_front}
+use Rattle.explain.proofs.UnfoundStringLemmas.{Unquoted, barred_here, letter_found, prefix_no_identifier}
+use Rattle.explain.proofs.UnfoundStringLemmas.{reserved_name_unfound}
 use Rattle.explain.proofs.UnfoundStringLemmas.{reserved_no_name, unquoted_none}
 
 -- ---- pairs of a character literal
@@ -395,8 +396,8 @@ start_bars (c ∷ rest) is = or_left _ _ is
 
 lone_unquoted : (text rest : List ℕ) → text ≡ 39 ∷ rest → HasNone (Stands character) text → Unquoted text
 lone_unquoted text rest e none = record {
-  strings = λ k. barred_here (codes "'") rest text e (cooked k)
-      (each_kind (λ k. bars (codes "'") (cooked k) ≡ true) refl refl refl k);
+  strings = λ k. barred_here (codes "'") rest text e (cooked_string k)
+      (each_kind (λ k. bars (codes "'") (cooked_string k) ≡ true) refl refl refl k);
   raw_strings = λ k. barred_here (codes "'") rest text e (raw_string k)
       (each_kind (λ k. bars (codes "'") (raw_string k) ≡ true) refl refl refl k);
   characters = none;
@@ -405,8 +406,8 @@ lone_unquoted text rest e none = record {
 
 byte_unquoted : (text rest : List ℕ) → text ≡ codes "b'" ++ rest → HasNone (Stands byte) text → Unquoted text
 byte_unquoted text rest e none = record {
-  strings = λ k. barred_here (codes "b'") rest text e (cooked k)
-      (each_kind (λ k. bars (codes "b'") (cooked k) ≡ true) refl refl refl k);
+  strings = λ k. barred_here (codes "b'") rest text e (cooked_string k)
+      (each_kind (λ k. bars (codes "b'") (cooked_string k) ≡ true) refl refl refl k);
   raw_strings = λ k. barred_here (codes "b'") rest text e (raw_string k)
       (each_kind (λ k. bars (codes "b'") (raw_string k) ≡ true) refl refl refl k);
   characters = barred_here (codes "b'") rest text e character refl;
@@ -414,10 +415,10 @@ byte_unquoted text rest e none = record {
 }
 
 lone_found : (first : Bool) (text rest : List ℕ) → text ≡ 39 ∷ rest → (FollowsQuote rest → ⊥)
-    → HasNone (Stands character) text → found first text ≡ None
+    → HasNone (Stands character) text → find_piece first text ≡ None
 lone_found first text rest e unnamed none =
     at_start first starts.Quote e (sym start_quote)
-    ∙ ap₂ (λ o u. or_found (tagged quote_kind o) (tagged literal_kind u))
+    ∙ ap₂ (λ o u. or_found (and_kind quote_kind o) (and_kind literal_kind u))
     (finders.none_found find_lone_quote LoneQuote finds_lone_quote text (λ p r split is.
     let same : 39 ∷ r ≡ 39 ∷ rest = ap (λ t. t ++ r) (sym is.0) ∙ (sym split ∙ e) in
     let after : r ≡ rest = cc in
@@ -425,10 +426,11 @@ lone_found first text rest e unnamed none =
     (unquoted_none text (lone_unquoted text rest e none))
 
 byte_found : (first : Bool) (text rest : List ℕ) → text ≡ codes "b'" ++ rest → HasNone (Stands byte) text
-    → found first text ≡ None
+    → find_piece first text ≡ None
 byte_found first text rest e none =
     letter_found first 98 text (39 ∷ rest) e (ident_start_ascii 98 (omega arith))
-    (prefixed text _ (ap (begins_any literal_prefixes) e)) (unquoted_none text (byte_unquoted text rest e none))
+    (prefix_no_identifier text _ (ap (begins_any literal_prefixes) e))
+    (unquoted_none text (byte_unquoted text rest e none))
 
 -- ---- a whole literal is closed
 
@@ -523,7 +525,7 @@ character_named text rest e barring p r split stands =
 -- ---- the reasons
 
 pub unclosed_character_unfound : (first : Bool) (f p r : List ℕ) → Begins single_opening f p r
-    → Lacks closed_single f p r → found first (f ++ (p ++ r)) ≡ None
+    → Lacks closed_single f p r → find_piece first (f ++ (p ++ r)) ≡ None
 unclosed_character_unfound first f p r (start, inl is) none =
     let text : List ℕ = f ++ (p ++ r) in
     let e : text ≡ 39 ∷ r = at_front f p r start ∙ ap (λ t. t ++ r) is.0 in
@@ -577,7 +579,7 @@ named_no_follow text rest e (Plain named back whole is) h =
         both_ways _ unbarred (ap (first_passes (bars_quote false)) rest)
 
 pub bad_single_unfound : (first : Bool) (kind : SingleKind) (e : EscapeError) (f p r : List ℕ)
-    → IsBadSingle kind e f p r → found first (f ++ (p ++ r)) ≡ None
+    → IsBadSingle kind e f p r → find_piece first (f ++ (p ++ r)) ≡ None
 bad_single_unfound first singles.Byte e f p r is =
     let text : List ℕ = f ++ (p ++ r) in
     byte_found first text _ is.whole (λ q s split stands.
@@ -611,7 +613,7 @@ bad_single_unfound first singles.Character e f p r is =
     is.gives)
 
 pub digit_lifetime_unfound : (first : Bool) (f p r : List ℕ) → Begins digit_lifetime f p r
-    → found first (f ++ (p ++ r)) ≡ None
+    → find_piece first (f ++ (p ++ r)) ≡ None
 digit_lifetime_unfound first f p r is =
     let text : List ℕ = f ++ (p ++ r) in
     let quote = is.1.0 in
@@ -625,7 +627,7 @@ digit_lifetime_unfound first f p r is =
     (character_named text _ whole (or_right _ _ one.2) q s split stands))
 
 pub hash_after_unfound : (first : Bool) (f p r : List ℕ) → Follow lifetime (Exactly (codes "#")) f p r
-    → Lacks raw_lifetime_start f p r → found first (f ++ (p ++ r)) ≡ None
+    → Lacks raw_lifetime_start f p r → find_piece first (f ++ (p ++ r)) ≡ None
 hash_after_unfound first f p r is none =
     let text : List ℕ = f ++ (p ++ r) in
     let quote = is.0 in
@@ -661,7 +663,8 @@ hash_after_unfound first f p r is none =
         let rest : s ≡ 35 ∷ r = (one_split name (assumption) other named s (35 ∷ r) stands.0 is same).1 in
         both_ways _ unbarred (ap (first_passes (bars_quote false)) rest)
 
-pub reserved_unfound : (first : Bool) (f p r : List ℕ) → Begins reserved_raw f p r → found first (f ++ (p ++ r)) ≡ None
+pub reserved_unfound : (first : Bool) (f p r : List ℕ) → Begins reserved_raw f p r
+    → find_piece first (f ++ (p ++ r)) ≡ None
 reserved_unfound first f p r (start, inl is) = reserved_name_unfound first f p r start is
 reserved_unfound first f p r (start, inr is) =
     let text : List ℕ = f ++ (p ++ r) in

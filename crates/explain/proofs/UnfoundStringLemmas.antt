@@ -9,8 +9,8 @@ use Rattle.lexical.specs.Class.{is_ident_start}
 use Rattle.lexical.specs.Form.{Each, HasNone, Many}
 use Rattle.lexical.specs.Identifier.{identifier, is_reserved, literal_prefixes, name, raw_name}
 use Rattle.lexical.specs.Literal.{quoted_literal}
-use Rattle.lexical.specs.PieceFinder.{found, literal_kind, name_kind, or_found, tagged}
-use Rattle.lexical.specs.Quoted.{cooked, front as string_front, unit}
+use Rattle.lexical.specs.PieceFinder.{find_piece, literal_kind, name_kind, or_found, and_kind}
+use Rattle.lexical.specs.Quoted.{cooked_string, front as string_front, unit}
 use Rattle.lexical.specs.RawString.{may_stand_raw, raw_front, raw_string}
 use Rattle.lexical.specs.RawString as raw_strings
 use Rattle.lexical.specs.Rule.{Rule, Exactly, Then, Where, Stands, find}
@@ -25,7 +25,7 @@ use Rattle.lexical.proofs.FinderLemmas.{none_is}
 use Rattle.lexical.proofs.NameFinderLemmas.{clear_written}
 use Rattle.lexical.proofs.QuotedFinderLemmas.{clear_body, clear_quoted, clear_raw_body, each_kind}
 use Rattle.lexical.proofs.TextLemmas.{begins_front}
-use Rattle.lexical.proofs.RuleLemmas.{barred, bars, exact, none_found, one_split}
+use Rattle.lexical.proofs.RuleLemmas.{bars_sound, bars, exact, none_found, one_split}
 use Rattle.literal_escaper.specs.declared.errors.EscapeError.{EscapeError}
 use Rattle.explain.specs.Content.{IsBadRaw, IsBadString, StringFault, raw_character}
 use Rattle.explain.specs.Reason.{Begins, Follow, Lacks}
@@ -36,13 +36,13 @@ use Rattle.explain.proofs.OneContentLemmas.{IsPlace, many_stop, no_raw_unit, pla
 use Rattle.explain.proofs.OneContentLemmas.{string_cancel}
 use Rattle.explain.proofs.PairedLemmas.{Paired, pairs_of, units_paired}
 use Rattle.explain.proofs.StringLemmas.{no_unit}
-use Rattle.explain.proofs.ToldTextLemmas.{IsSigned, at_front, hashed_signed, long_opens, one_signed}
-use Rattle.explain.proofs.ToldTextLemmas.{opening_signed, reserved_signed}
+use Rattle.explain.proofs.TextReasonLemmas.{IsSigned, at_front, hashed_signed, long_opens, one_signed}
+use Rattle.explain.proofs.TextReasonLemmas.{opening_signed, reserved_signed}
 
 -- ---- where no literal with quotes begins
 
 pub record Unquoted (text : List ℕ) : Type 0 where
-  pub strings : (kind : StringKind) → HasNone (Stands (cooked kind)) text
+  pub strings : (kind : StringKind) → HasNone (Stands (cooked_string kind)) text
   pub raw_strings : (kind : StringKind) → HasNone (Stands (raw_string kind)) text
   pub characters : HasNone (Stands character) text
   pub bytes : HasNone (Stands byte) text
@@ -62,20 +62,20 @@ unquoted_none text none = none_found quoted_literal clear_quoted text by_kind
 
 pub barred_here : (front rest text : List ℕ) → text ≡ front ++ rest → (rule : Rule) → bars front rule ≡ true
     → HasNone (Stands rule) text
-barred_here front rest text e rule bar p r split is = barred front rule bar rest p r is (sym split ∙ e)
+barred_here front rest text e rule bar p r split is = bars_sound front rule bar rest p r is (sym split ∙ e)
 
 module _ (front rest text : List ℕ) (e : text ≡ front ++ rest) where
   abbrev Barred : Rule → Type 0
   Barred rule = bars front rule ≡ true
 
-  pub only_string : (kind : StringKind) → HasNone (Stands (cooked kind)) text
-      → ((other : StringKind) → (other ≡ kind) ⊎ Barred (cooked other))
+  pub only_string : (kind : StringKind) → HasNone (Stands (cooked_string kind)) text
+      → ((other : StringKind) → (other ≡ kind) ⊎ Barred (cooked_string other))
       → ((other : StringKind) → Barred (raw_string other))
       → Barred character → Barred byte → Unquoted text
   only_string kind none strings raw one two = record {
     strings = λ other. elim (strings other) [
-      | inl same ↦ subst (λ k. HasNone (Stands (cooked k)) text) (sym same) none
-      | inr bar ↦ barred_here front rest text e (cooked other) bar
+      | inl same ↦ subst (λ k. HasNone (Stands (cooked_string k)) text) (sym same) none
+      | inr bar ↦ barred_here front rest text e (cooked_string other) bar
     ];
     raw_strings = λ other. barred_here front rest text e (raw_string other) (raw other);
     characters = barred_here front rest text e character one;
@@ -83,11 +83,11 @@ module _ (front rest text : List ℕ) (e : text ≡ front ++ rest) where
   }
 
   pub only_raw : (kind : StringKind) → HasNone (Stands (raw_string kind)) text
-      → ((other : StringKind) → Barred (cooked other))
+      → ((other : StringKind) → Barred (cooked_string other))
       → ((other : StringKind) → (other ≡ kind) ⊎ Barred (raw_string other))
       → Barred character → Barred byte → Unquoted text
   only_raw kind none strings raw one two = record {
-    strings = λ other. barred_here front rest text e (cooked other) (strings other);
+    strings = λ other. barred_here front rest text e (cooked_string other) (strings other);
     raw_strings = λ other. elim (raw other) [
       | inl same ↦ subst (λ k. HasNone (Stands (raw_string k)) text) (sym same) none
       | inr bar ↦ barred_here front rest text e (raw_string other) bar
@@ -97,35 +97,35 @@ module _ (front rest text : List ℕ) (e : text ≡ front ++ rest) where
   }
 
 string_unquoted : (kind : StringKind) (text rest : List ℕ) → text ≡ string_front kind ++ rest
-    → HasNone (Stands (cooked kind)) text → Unquoted text
+    → HasNone (Stands (cooked_string kind)) text → Unquoted text
 string_unquoted kinds.Plain text rest e none =
     only_string (codes "\"") rest text e kinds.Plain none
-    (each_kind (λ k. (k ≡ kinds.Plain) ⊎ (bars (codes "\"") (cooked k) ≡ true)) (inl refl) (inr refl) (inr refl))
+    (each_kind (λ k. (k ≡ kinds.Plain) ⊎ (bars (codes "\"") (cooked_string k) ≡ true)) (inl refl) (inr refl) (inr refl))
     (each_kind (λ k. bars (codes "\"") (raw_string k) ≡ true) refl refl refl) refl refl
 string_unquoted kinds.Byte text rest e none =
     only_string (codes "b\"") rest text e kinds.Byte none
-    (each_kind (λ k. (k ≡ kinds.Byte) ⊎ (bars (codes "b\"") (cooked k) ≡ true)) (inr refl) (inl refl) (inr refl))
+    (each_kind (λ k. (k ≡ kinds.Byte) ⊎ (bars (codes "b\"") (cooked_string k) ≡ true)) (inr refl) (inl refl) (inr refl))
     (each_kind (λ k. bars (codes "b\"") (raw_string k) ≡ true) refl refl refl) refl refl
 string_unquoted kinds.C text rest e none =
     only_string (codes "c\"") rest text e kinds.C none
-    (each_kind (λ k. (k ≡ kinds.C) ⊎ (bars (codes "c\"") (cooked k) ≡ true)) (inr refl) (inr refl) (inl refl))
+    (each_kind (λ k. (k ≡ kinds.C) ⊎ (bars (codes "c\"") (cooked_string k) ≡ true)) (inr refl) (inr refl) (inl refl))
     (each_kind (λ k. bars (codes "c\"") (raw_string k) ≡ true) refl refl refl) refl refl
 
 raw_unquoted : (kind : StringKind) (text rest : List ℕ) → text ≡ raw_front kind ++ rest
     → HasNone (Stands (raw_string kind)) text → Unquoted text
 raw_unquoted kinds.Plain text rest e none =
     only_raw (codes "r") rest text e kinds.Plain none
-    (each_kind (λ k. bars (codes "r") (cooked k) ≡ true) refl refl refl)
+    (each_kind (λ k. bars (codes "r") (cooked_string k) ≡ true) refl refl refl)
     (each_kind (λ k. (k ≡ kinds.Plain) ⊎ (bars (codes "r") (raw_string k) ≡ true)) (inl refl) (inr refl) (inr refl))
     refl refl
 raw_unquoted kinds.Byte text rest e none =
     only_raw (codes "br") rest text e kinds.Byte none
-    (each_kind (λ k. bars (codes "br") (cooked k) ≡ true) refl refl refl)
+    (each_kind (λ k. bars (codes "br") (cooked_string k) ≡ true) refl refl refl)
     (each_kind (λ k. (k ≡ kinds.Byte) ⊎ (bars (codes "br") (raw_string k) ≡ true)) (inr refl) (inl refl) (inr refl))
     refl refl
 raw_unquoted kinds.C text rest e none =
     only_raw (codes "cr") rest text e kinds.C none
-    (each_kind (λ k. bars (codes "cr") (cooked k) ≡ true) refl refl refl)
+    (each_kind (λ k. bars (codes "cr") (cooked_string k) ≡ true) refl refl refl)
     (each_kind (λ k. (k ≡ kinds.C) ⊎ (bars (codes "cr") (raw_string k) ≡ true)) (inr refl) (inr refl) (inl refl))
     refl refl
 
@@ -133,33 +133,33 @@ raw_unquoted kinds.C text rest e none =
 
 pub letter_found : (first : Bool) (c : ℕ) (text rest : List ℕ) → text ≡ c ∷ rest → is_ident_start c ≡ true
     → find (identifier (begins_with (codes "r#") text)) text ≡ None → find quoted_literal text ≡ None
-    → found first text ≡ None
+    → find_piece first text ≡ None
 letter_found first c text rest e start none last =
     at_start first starts.Letter e (sym (start_letter c start))
-    ∙ ap₂ (λ o u. or_found (tagged (name_kind (begins_with (codes "r#") text)) o) (tagged literal_kind u)) none last
+    ∙ ap₂ (λ o u. or_found (and_kind (name_kind (begins_with (codes "r#") text)) o) (and_kind literal_kind u)) none last
 
 -- the prefix of a literal begins no identifier
-pub prefixed : (text : List ℕ) (raw : Bool) → begins_any literal_prefixes text ≡ true
+pub prefix_no_identifier : (text : List ℕ) (raw : Bool) → begins_any literal_prefixes text ≡ true
     → find (identifier raw) text ≡ None
-prefixed text raw h =
+prefix_no_identifier text raw h =
     none_found (identifier raw) (clear_written raw) text
     (λ p r e is. both_ways _ is.1 (ap (begins_any literal_prefixes) (sym e) ∙ h))
 
 string_found : (first : Bool) (kind : StringKind) (text rest : List ℕ) → text ≡ string_front kind ++ rest
-    → find quoted_literal text ≡ None → found first text ≡ None
+    → find quoted_literal text ≡ None → find_piece first text ≡ None
 string_found first kinds.Plain text rest e none =
-    at_start first starts.DoubleQuote e (sym start_double_quote) ∙ ap (tagged literal_kind) none
+    at_start first starts.DoubleQuote e (sym start_double_quote) ∙ ap (and_kind literal_kind) none
 string_found first kinds.Byte text rest e none =
     letter_found first 98 text (34 ∷ rest) e (ident_start_ascii 98 (omega arith))
-    (prefixed text _ (ap (begins_any literal_prefixes) e)) none
+    (prefix_no_identifier text _ (ap (begins_any literal_prefixes) e)) none
 string_found first kinds.C text rest e none =
     letter_found first 99 text (34 ∷ rest) e (ident_start_ascii 99 (omega arith))
-    (prefixed text _ (ap (begins_any literal_prefixes) e)) none
+    (prefix_no_identifier text _ (ap (begins_any literal_prefixes) e)) none
 
 -- ---- strings
 
 -- a string is closed
-cooked_closes : (kind : StringKind) (p r : List ℕ) → Stands (cooked kind) p r
+cooked_closes : (kind : StringKind) (p r : List ℕ) → Stands (cooked_string kind) p r
     → (q : List ℕ) × (s : List ℕ) × (p ++ r ≡ q ++ s) × Stands (closed_string kind) q s
 cooked_closes kind p r is =
     let body = is.second in
@@ -192,7 +192,8 @@ cooked_closes kind p r is =
     )
 
 pub unclosed_string_unfound : (first : Bool) (kind : StringKind) (f p r : List ℕ)
-    → Begins (Exactly (string_front kind)) f p r → Lacks (closed_string kind) f p r → found first (f ++ (p ++ r)) ≡ None
+    → Begins (Exactly (string_front kind)) f p r → Lacks (closed_string kind) f p r
+    → find_piece first (f ++ (p ++ r)) ≡ None
 unclosed_string_unfound first kind f p r is none =
     let text : List ℕ = f ++ (p ++ r) in
     let e : text ≡ string_front kind ++ r = at_front f p r is.0 ∙ ap (λ t. t ++ r) is.1 in
@@ -203,7 +204,7 @@ unclosed_string_unfound first kind f p r is none =
 
 -- a string with an error in its content doesn't match the rule `cooked`
 not_cooked : (kind : StringKind) (e : EscapeError) (text : List ℕ) → IsPlace kind e text
-    → HasNone (Stands (cooked kind)) text
+    → HasNone (Stands (cooked_string kind)) text
 not_cooked kind e text is p r split stands =
     let body = stands.second in
     let close = body.second in
@@ -241,7 +242,7 @@ not_cooked kind e text is p r split stands =
         let quote : c ≡ 34 = cc in first_alone content (subst (λ d. Paired (d ∷ content)) quote paired)
 
 pub bad_string_unfound : (first : Bool) (kind : StringKind) (e : EscapeError) (f p r : List ℕ)
-    → IsBadString kind e f p r → found first (f ++ (p ++ r)) ≡ None
+    → IsBadString kind e f p r → find_piece first (f ++ (p ++ r)) ≡ None
 bad_string_unfound first kind e f p r is =
     let text : List ℕ = f ++ (p ++ r) in
     let at = place_of kind e f p r is in
@@ -270,7 +271,7 @@ raw_prefix kinds.C (c ∷ signs) rest all =
 -- the letters of a raw string begin a piece only if an identifier or a literal does
 letters_found : (first : Bool) (kind : StringKind) (text rest : List ℕ) → text ≡ raw_front kind ++ rest
     → find (identifier (begins_with (codes "r#") text)) text ≡ None → find quoted_literal text ≡ None
-    → found first text ≡ None
+    → find_piece first text ≡ None
 letters_found first kinds.Plain text rest e none last =
     letter_found first 114 text rest e (ident_start_ascii 114 (omega arith)) none last
 letters_found first kinds.Byte text rest e none last =
@@ -280,10 +281,10 @@ letters_found first kinds.C text rest e none last =
 
 -- a text with hash signs and a quote, but no raw string, begins with no piece
 signed_found : (first : Bool) (kind : StringKind) (text rest : List ℕ) (is : IsSigned kind text) → is.rest ≡ 34 ∷ rest
-    → HasNone (Stands (raw_string kind)) text → found first text ≡ None
+    → HasNone (Stands (raw_string kind)) text → find_piece first text ≡ None
 signed_found first kind text rest is quote none =
     letters_found first kind text _ is.whole
-    (prefixed text _ (ap (begins_any literal_prefixes) (is.whole
+    (prefix_no_identifier text _ (ap (begins_any literal_prefixes) (is.whole
     ∙ ap (λ t. raw_front kind ++ (is.signs ++ t)) quote) ∙ raw_prefix kind is.signs rest is.run.each))
     (unquoted_none text (raw_unquoted kind text _ is.whole none))
 
@@ -395,7 +396,7 @@ raw_closes kind text is none =
     })
 
 pub unclosed_raw_unfound : (first : Bool) (kind : StringKind) (f p r : List ℕ) → Begins (raw_opening kind) f p r
-    → Lacks (closed_raw kind) f p r → found first (f ++ (p ++ r)) ≡ None
+    → Lacks (closed_raw kind) f p r → find_piece first (f ++ (p ++ r)) ≡ None
 unclosed_raw_unfound first kind f p r is none =
     let text : List ℕ = f ++ (p ++ r) in
     let signed = opening_signed kind text p r (at_front f p r is.0) is.1 in
@@ -403,7 +404,7 @@ unclosed_raw_unfound first kind f p r is none =
     (λ q s split stands. raw_closes kind text (raw_whole kind text q s split stands) none)
 
 pub too_many_unfound : (first : Bool) (kind : StringKind) (f p r : List ℕ) → Begins (long_opening kind) f p r
-    → found first (f ++ (p ++ r)) ≡ None
+    → find_piece first (f ++ (p ++ r)) ≡ None
 unfolding opening_signed long_opens
 too_many_unfound first kind f p r is =
     let text : List ℕ = f ++ (p ++ r) in
@@ -416,7 +417,7 @@ too_many_unfound first kind f p r is =
     omega (arith, few, many, ap length same))
 
 pub bad_raw_unfound : (first : Bool) (kind : StringKind) (e : EscapeError) (f p r : List ℕ) → IsBadRaw kind e f p r
-    → found first (f ++ (p ++ r)) ≡ None
+    → find_piece first (f ++ (p ++ r)) ≡ None
 bad_raw_unfound first kind e f p r is =
     let text : List ℕ = f ++ (p ++ r) in
     let at = raw_place_of kind e f p r is in
@@ -469,7 +470,8 @@ no_raw_name text rest e none =
     none raw.back r after raw.second))
 
 pub without_quote_unfound : (first : Bool) (kind : StringKind) (f p r : List ℕ)
-    → Follow (hashed_front kind) no_double_quote f p r → Lacks raw_name_start f p r → found first (f ++ (p ++ r)) ≡ None
+    → Follow (hashed_front kind) no_double_quote f p r → Lacks raw_name_start f p r
+    → find_piece first (f ++ (p ++ r)) ≡ None
 without_quote_unfound first kind f p r is none =
     let text : List ℕ = f ++ (p ++ r) in
     let signed = hashed_signed kind f p r is in
@@ -506,7 +508,7 @@ without_quote_unfound first kind f p r is none =
         }))
     plain_name (c ∷ (d ∷ signs)) rest all some e =
         let parts = and_parts (is_hash c) _ all in
-        prefixed (f ++ (p ++ r)) _ (ap (begins_any literal_prefixes) e
+        prefix_no_identifier (f ++ (p ++ r)) _ (ap (begins_any literal_prefixes) e
         ∙ ap₂ (λ x y. begins_any literal_prefixes (114 ∷ x ∷ y ∷ (signs ++ rest))) (eqb-true c 35 parts.0)
         (eqb-true d 35 (and_parts _ _ parts.1).0))
 
@@ -514,10 +516,10 @@ without_quote_unfound first kind f p r is none =
         → find (identifier (begins_with (codes "r#") (f ++ (p ++ r)))) (f ++ (p ++ r)) ≡ None
     no_name kinds.Plain signed some = plain_name signed.signs signed.rest signed.run.each some signed.whole
     no_name kinds.Byte signed some =
-        prefixed (f ++ (p ++ r)) _ (ap (begins_any literal_prefixes) signed.whole
+        prefix_no_identifier (f ++ (p ++ r)) _ (ap (begins_any literal_prefixes) signed.whole
         ∙ hash_prefix kinds.Byte signed.signs signed.rest (λ e. cc) signed.run.each some)
     no_name kinds.C signed some =
-        prefixed (f ++ (p ++ r)) _ (ap (begins_any literal_prefixes) signed.whole
+        prefix_no_identifier (f ++ (p ++ r)) _ (ap (begins_any literal_prefixes) signed.whole
         ∙ hash_prefix kinds.C signed.signs signed.rest (λ e. cc) signed.run.each some)
 
 -- a reserved name is no raw identifier
@@ -528,7 +530,7 @@ reserved_no_name named r is p s split stands =
     both_ways _ (ap not (ap is_reserved (sym same) ∙ is.1)) stands.1
 
 pub reserved_name_unfound : (first : Bool) (f p r : List ℕ) → f ≡ []
-    → Stands (Then (Exactly (codes "r#")) (Where is_reserved name)) p r → found first (f ++ (p ++ r)) ≡ None
+    → Stands (Then (Exactly (codes "r#")) (Where is_reserved name)) p r → find_piece first (f ++ (p ++ r)) ≡ None
 reserved_name_unfound first f p r start is =
     let text : List ℕ = f ++ (p ++ r) in
     let signed = reserved_signed f p r start is in

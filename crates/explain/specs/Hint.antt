@@ -32,8 +32,8 @@ abbrev pub no_end : Rule
 no_end = UpTo open_unit nothing
 
 -- the `Stretch` is a comment in the rest of the source, and no other comment ends after it. The rest follows the text
--- `behind`
-pub record IsLastClosed (base : ℕ) (behind rest : List ℕ) (x : Stretch) : Type 0 where
+-- `text_before`
+pub record IsLastClosed (base : ℕ) (text_before rest : List ℕ) (x : Stretch) : Type 0 where
   pub before : List ℕ
   pub comment : List ℕ
   pub after : List ℕ
@@ -43,18 +43,18 @@ pub record IsLastClosed (base : ℕ) (behind rest : List ℕ) (x : Stretch) : Ty
   pub inside : AreOpen depth before (comment ++ after)
   pub stands : BlockComment comment after
   pub last : Stands no_end after []
-  pub at : IsStretch base (behind ++ before) comment x
+  pub at : IsStretch base (text_before ++ before) comment x
 
 -- `depth` comments are open at the end of the text, and `closed` is the comment that ended last, if one did
 abbrev pub TellsComments : ℕ → List ℕ → List ℕ → ℕ → Option Stretch → Type 0
-TellsComments base behind rest depth closed =
-    AreOpen depth rest [] × MatchOption closed (Stands no_end rest []) (IsLastClosed base behind rest)
+TellsComments base text_before rest depth closed =
+    AreOpen depth rest [] × MatchOption closed (Stands no_end rest []) (IsLastClosed base text_before rest)
 
 -- ---- raw strings
 
 -- a quote and the hash signs after it: a raw string with so many hash signs would end there, and one with more would
 -- end nowhere
-pub record IsNearest (base : ℕ) (behind rest : List ℕ) (x : Stretch) : Type 0 where
+pub record IsNearest (base : ℕ) (text_before rest : List ℕ) (x : Stretch) : Type 0 where
   pub kind : StringKind
   pub opening : List ℕ
   pub before : List ℕ
@@ -65,7 +65,7 @@ pub record IsNearest (base : ℕ) (behind rest : List ℕ) (x : Stretch) : Type 
   pub run : Stands (Run is_hash) signs after
   pub closes : Stands (closed_raw_body signs) (before ++ (double_quote ∷ signs)) after
   pub most : HasNone (Stands (closed_raw_body (hash_sign ∷ signs))) (before ++ ((double_quote ∷ signs) ++ after))
-  pub at : IsStretch base (behind ++ (opening ++ before)) (double_quote ∷ signs) x
+  pub at : IsStretch base (text_before ++ (opening ++ before)) (double_quote ∷ signs) x
 
 -- no quote is in the text after what opens a raw string
 pub record HasNoQuote (rest : List ℕ) : Type 0 where
@@ -78,21 +78,22 @@ pub record HasNoQuote (rest : List ℕ) : Type 0 where
 
 -- ---- all of them
 
--- the hint fits the reason. `rest` is the source from the fault on, and `behind` is the source before the fault
+-- the hint fits the reason. `rest` is the source from the fault on, and `text_before` is the source before the fault
 abbrev pub Helps : ℕ → List ℕ → List ℕ → Reason → Option Hint → Type 0
-Helps base behind rest UnclosedComment None = ⊥
-Helps base behind rest UnclosedComment (Some (Comments depth closed)) = TellsComments base behind rest depth closed
-Helps base behind rest UnclosedComment (Some (Quote x)) = ⊥
-Helps base behind rest UnclosedRawString None = HasNoQuote rest
-Helps base behind rest UnclosedRawString (Some (Comments depth closed)) = ⊥
-Helps base behind rest UnclosedRawString (Some (Quote x)) = IsNearest base behind rest x
-Helps base behind rest _ None = Unit {0}
-Helps base behind rest _ (Some hint) = ⊥
+Helps base text_before rest UnclosedComment None = ⊥
+Helps base text_before rest UnclosedComment (Some (Comments depth closed)) =
+    TellsComments base text_before rest depth closed
+Helps base text_before rest UnclosedComment (Some (Quote x)) = ⊥
+Helps base text_before rest UnclosedRawString None = HasNoQuote rest
+Helps base text_before rest UnclosedRawString (Some (Comments depth closed)) = ⊥
+Helps base text_before rest UnclosedRawString (Some (Quote x)) = IsNearest base text_before rest x
+Helps base text_before rest _ None = Unit {0}
+Helps base text_before rest _ (Some hint) = ⊥
 
 -- the hint fits the explanation of the source
 pub record IsHint (base : ℕ) (source : List ℕ) (x : Explained) (hint : Option Hint) : Type 0 where
-  pub behind : List ℕ
+  pub text_before : List ℕ
   pub rest : List ℕ
-  pub whole : source ≡ behind ++ rest
-  pub fault : x.before.start ≡ length (encode_utf8_all behind)
-  pub helps : Helps base behind rest x.reason hint
+  pub whole : source ≡ text_before ++ rest
+  pub fault : x.before.start ≡ length (encode_utf8_all text_before)
+  pub helps : Helps base text_before rest x.reason hint

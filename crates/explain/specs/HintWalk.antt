@@ -9,7 +9,7 @@ use Rattle.lexical.specs.Comment.{BlockComment}
 use Rattle.lexical.specs.Form.{HasNone}
 use Rattle.lexical.specs.Rule.{Run, Stands}
 use Rattle.lexical.specs.Text.{begins_any}
-use Rattle.lexical.specs.declared.cursor.Cursor.{Cursor}
+use Rattle.lexical.specs.declared.cursor.TextCursor.{TextCursor}
 use Rattle.explain.specs.Hint.{AreOpen, no_end}
 use Rattle.explain.specs.Shapes.{closed_raw_body, is_hash}
 use Rattle.explain.specs.Walk.{IsPast}
@@ -17,7 +17,7 @@ use Rattle.explain.specs.declared.comment_hints.Sign.{Sign}
 use Rattle.explain.specs.declared.comment_hints.Sign.TheVariants.{Opens, Closes, Other}
 
 -- the text between the cursors is `/*`, `*/`, or a character at which neither begins
-abbrev pub IsSign : Sign → Cursor → Cursor → Type 0
+abbrev pub IsSign : Sign → TextCursor → TextCursor → Type 0
 IsSign Opens at to = (chars at.rest.now ≡ codes "/*" ++ chars to.rest.now) × (to.chars_before ≡ at.chars_before + 2)
 IsSign Closes at to = (chars at.rest.now ≡ codes "*/" ++ chars to.rest.now) × (to.chars_before ≡ at.chars_before + 2)
 IsSign Other at to =
@@ -25,7 +25,7 @@ IsSign Other at to =
     × (begins_any block_signs (chars at.rest.now) ≡ false)
 
 -- the comment between the cursors `from` and `to` ended last
-pub record EndedLast (start from to : Cursor) : Type 0 where
+pub record EndedLast (start from to : TextCursor) : Type 0 where
   pub before : IsPast start from
   pub comment : IsPast from to
   pub depth : ℕ
@@ -34,13 +34,13 @@ pub record EndedLast (start from to : Cursor) : Type 0 where
   pub last : Stands no_end (chars to.rest.now) []
 
 -- `depth` comments are open at the end of the text, and the comment that ended last, if any, is between the two cursors
-abbrev pub LeftComments : Cursor → ℕ → Option (Cursor × Cursor) → Type 0
+abbrev pub LeftComments : TextCursor → ℕ → Option (TextCursor × TextCursor) → Type 0
 LeftComments start depth closed =
     AreOpen depth (chars start.rest.now) []
     × MatchOption closed (Stands no_end (chars start.rest.now) []) (λ x. EndedLast start x.0 x.1)
 
 -- between the cursors `from` and `to` is a quote and its hash signs, and no quote in the content has more
-pub record CameNearest (inside from to : Cursor) : Type 0 where
+pub record CameNearest (inside from to : TextCursor) : Type 0 where
   pub before : IsPast inside from
   pub signs : List ℕ
   pub quote : chars from.rest.now ≡ (double_quote ∷ signs) ++ chars to.rest.now
@@ -50,7 +50,7 @@ pub record CameNearest (inside from to : Cursor) : Type 0 where
   pub most : HasNone (Stands (closed_raw_body (hash_sign ∷ signs))) (chars inside.rest.now)
 
 -- the pair of cursors with more characters between them, and of two pairs with the same number the first
-abbrev pub longer : Option (Cursor × Cursor) → Cursor → Cursor → Option (Cursor × Cursor)
+abbrev pub longer : Option (TextCursor × TextCursor) → TextCursor → TextCursor → Option (TextCursor × TextCursor)
 longer None from to = Some (from, to)
 longer (Some x) from to =
     if nat_le (to.chars_before - from.chars_before) (x.1.chars_before - x.0.chars_before) then Some x

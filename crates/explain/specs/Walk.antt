@@ -7,9 +7,9 @@ use Rattle.lexical.specs.Character.{carriage_return, double_quote}
 use Rattle.lexical.specs.Comment.{has_bare_return}
 use Rattle.lexical.specs.Quoted.{unit}
 use Rattle.lexical.specs.Rule.{Rule, Exactly, Either}
-use Rattle.lexical.specs.Step.{Passes}
+use Rattle.lexical.specs.RuleMatch.{Passes}
 use Rattle.lexical.specs.Text.{begins_any, begins_with}
-use Rattle.lexical.specs.declared.cursor.Cursor.{Cursor}
+use Rattle.lexical.specs.declared.cursor.TextCursor.{TextCursor}
 use Rattle.lexical.specs.declared.quoted.StringKind.{StringKind}
 use Rattle.lexical.specs.declared.quoted.StringKind.TheVariants.{Plain, Byte, C}
 use Rattle.literal_escaper.specs.Items.{unit_front}
@@ -23,23 +23,23 @@ use Rattle.explain.specs.declared.quotes.SingleKind.{SingleKind}
 use Rattle.explain.specs.declared.quotes.SingleKind.TheVariants.{Character, Byte as SingleByte}
 use Rattle.explain.specs.Content.{IsAtFault, StringFault, line_ends}
 use Rattle.explain.specs.declared.contents.Front.{Front}
-use Rattle.explain.specs.declared.contents.Step.{Step}
-use Rattle.explain.specs.declared.contents.Step.TheVariants.{Unit as IsUnit, Fault, End}
+use Rattle.explain.specs.declared.contents.ContentItem.{ContentItem}
+use Rattle.explain.specs.declared.contents.ContentItem.TheVariants.{Unit as IsUnit, Fault, End}
 use Rattle.explain.specs.declared.reason.Reason.TheVariants.{Content}
 use Rattle.explain.specs.declared.trouble.Trouble.{Trouble}
 
 -- `part` is the text between the two cursors
-pub record IsPast (at to : Cursor) : Type 0 where
+pub record IsPast (at to : TextCursor) : Type 0 where
   pub part : List ℕ
   pub whole : chars at.rest.now ≡ part ++ chars to.rest.now
   pub count : to.chars_before ≡ at.chars_before + length part
 
 -- `left` is the text from the first cursor up to the quote right before the second
-abbrev pub IsLeft : ℕ → List ℕ → Cursor → Cursor → Type 0
+abbrev pub IsLeft : ℕ → List ℕ → TextCursor → TextCursor → Type 0
 IsLeft quote left at end = chars at.rest.now ≡ left ++ (quote ∷ chars end.rest.now)
 
 -- the second cursor is right after a quote, and the first cursor is at that quote or before it
-abbrev pub IsInside : ℕ → Cursor → Cursor → Type 0
+abbrev pub IsInside : ℕ → TextCursor → TextCursor → Type 0
 IsInside quote at end = (left : List ℕ) × IsLeft quote left at end
 
 -- the error of a result, if it is one
@@ -61,7 +61,7 @@ IsFront Byte = GivesFront byte_kind
 IsFront C = GivesFront c_kind
 
 -- the escaper reads this error in a string of this kind, between the cursors `at` and `after`
-pub record IsFaultAt (kind : StringKind) (e : EscapeError) (at after end : Cursor) : Type 0 where
+pub record IsFaultAt (kind : StringKind) (e : EscapeError) (at after end : TextCursor) : Type 0 where
   pub past : IsPast at after
   pub some : 1 ≤ length past.part
   pub left : List ℕ
@@ -70,13 +70,13 @@ pub record IsFaultAt (kind : StringKind) (e : EscapeError) (at after end : Curso
   pub gives : StringFault kind e (past.part ++ left) left
 
 -- the step passes a unit, or finds an error or the end of the content
-abbrev pub IsStep : StringKind → Cursor → Cursor → Step → Type 0
+abbrev pub IsStep : StringKind → TextCursor → TextCursor → ContentItem → Type 0
 IsStep kind at end (IsUnit after) = Passes (unit kind) at after × IsInside double_quote after end
 IsStep kind at end (Fault e after) = IsFaultAt kind e at after end
 IsStep kind at end End = IsLeft double_quote [] at end
 
 -- the trouble has this error, and the wrong part is all text between the cursors or its last character
-pub record IsFaulty (e : EscapeError) (at after : Cursor) (x : Trouble) : Type 0 where
+pub record IsFaulty (e : EscapeError) (at after : TextCursor) (x : Trouble) : Type 0 where
   pub start : IsPast at x.at
   pub part : IsPast x.at x.after
   pub ends : x.after ≡ after
@@ -84,7 +84,7 @@ pub record IsFaulty (e : EscapeError) (at after : Cursor) (x : Trouble) : Type 0
   pub fault : IsAtFault e start.part part.part
 
 -- the third cursor is before the last character between the other two
-pub record IsLast (at end last : Cursor) : Type 0 where
+pub record IsLast (at end last : TextCursor) : Type 0 where
   pub before : IsPast at last
   pub character : ℕ
   pub one : chars last.rest.now ≡ character ∷ chars end.rest.now
@@ -96,7 +96,7 @@ line_end =
     Either (Exactly (codes "\r\n")) (Either (Exactly (codes "\\\n")) (Exactly (codes "\\\r\n")))
 
 -- between the cursors `at` and `after` is the first CR from `inside` on that no LF follows
-pub record IsFirstBare (inside at after : Cursor) : Type 0 where
+pub record IsFirstBare (inside at after : TextCursor) : Type 0 where
   pub before : IsPast inside at
   pub return : chars at.rest.now ≡ carriage_return ∷ chars after.rest.now
   pub count : after.chars_before ≡ at.chars_before + 1

@@ -6,7 +6,7 @@ ghost use Rattle.lexical.specs.Comment.{BlockComment};
 ghost use Rattle.lexical.specs.Form.{HasNone};
 ghost use Rattle.explain.specs.HintWalk.{IsSign, LeftComments};
 
-use lexical::parts::Cursor;
+use lexical::parts::TextCursor;
 use std::alloc::{AllocError, Global};
 
 /// What is at a cursor in a block comment.
@@ -22,15 +22,15 @@ pub enum Sign {
 
 /// Returns what is at the cursor, and the cursor after it. Returns `None` at the end of the text.
 #[tactic(auto, using(lexical::proofs::RuleSteps::past_text))]
-fn sign_at(at: Cursor<'_>) -> Option<(Sign, Cursor<'_>)>
+fn sign_at(at: TextCursor<'_>) -> Option<(Sign, TextCursor<'_>)>
     ensures { MatchOption result (chars at.entry.rest.now ≡ []) (λ x. IsSign x.0 at.entry x.1) }
 {
     let (_, after) = at.advance()?;
     if let Some(inside) = at.past("/*") {
         return Some((Sign::Opens, inside));
     }
-    if let Some(behind) = at.past("*/") {
-        return Some((Sign::Closes, behind));
+    if let Some(after_sign) = at.past("*/") {
+        return Some((Sign::Closes, after_sign));
     }
     Some((Sign::Other, after))
 }
@@ -39,8 +39,8 @@ fn sign_at(at: Cursor<'_>) -> Option<(Sign, Cursor<'_>)>
 /// before and after the comment that ended last.
 pub fn open_comments<'a>(
     alloc: Global,
-    start: Cursor<'a>,
-) -> Result<(usize, Option<(Cursor<'a>, Cursor<'a>)>), AllocError>
+    start: TextCursor<'a>,
+) -> Result<(usize, Option<(TextCursor<'a>, TextCursor<'a>)>), AllocError>
     requires opens { (more : List ℕ) × (chars start.rest.now ≡ codes "/*" ++ more) }
     requires none { HasNone BlockComment (chars start.rest.now) }
     ensures { IfOk result (λ x. LeftComments start.entry x.0 x.1) }

@@ -4,9 +4,9 @@
 ghost use Rattle.std.specs.Prelude.{◌≡◌, ◌≤◌, ◌<◌, ◌∷◌, ◌++◌, [], List, MatchOption, None, ℕ, codes, false, length};
 ghost use Rattle.std.specs.Str.{chars};
 ghost use Rattle.lexical.specs.Character.{double_quote};
-ghost use Rattle.lexical.specs.Quoted.{cooked, front};
+ghost use Rattle.lexical.specs.Quoted.{cooked_string, front};
 ghost use Rattle.lexical.specs.Rule.{Exactly, find};
-ghost use Rattle.lexical.specs.Step.{Passes, Reads};
+ghost use Rattle.lexical.specs.RuleMatch.{Passes, Reads};
 ghost use Rattle.lexical.specs.Text.{begins_with};
 ghost use Rattle.explain.specs.Content.{is_of_last as of_last};
 ghost use Rattle.explain.specs.Shapes.{closed_body};
@@ -15,7 +15,7 @@ ghost use Rattle.explain.specs.Walk.{IsFaulty, IsFront, IsInside, IsLast, IsLeft
 
 use crate::reason::Reason;
 use crate::trouble::Trouble;
-use lexical::parts::{Cursor, StringKind};
+use lexical::parts::{StringKind, TextCursor};
 use literal_escaper::{EscapeError, unescape_byte_str, unescape_c_str, unescape_str};
 use std::ops::Range;
 
@@ -30,17 +30,17 @@ pub struct Front {
 
 /// What is at a cursor in the content of a string.
 #[derive(Drop)]
-pub enum Step<'a> {
+pub enum ContentItem<'a> {
     /// A unit, and the cursor after it.
-    Unit(Cursor<'a>),
+    Unit(TextCursor<'a>),
     /// An error, and the cursor after what was read for it.
-    Fault(EscapeError, Cursor<'a>),
+    Fault(EscapeError, TextCursor<'a>),
     /// The quote that ends the string.
     End,
 }
 
 /// Returns the content from the cursor up to the quote before `end`.
-pub fn content<'a>(at: Cursor<'a>, end: Cursor<'a>) -> &'a str
+pub fn content<'a>(at: TextCursor<'a>, end: TextCursor<'a>) -> &'a str
     requires { (quote : ℕ) × (quote < 128) × IsInside quote at end }
     ensures { (quote : ℕ) (left : List ℕ) → quote < 128 → IsLeft quote left at.entry end.entry
         → chars result.now ≡ left }
@@ -87,7 +87,7 @@ fn read_front(content: &str, kind: StringKind) -> Option<Front>
 }
 
 /// Returns the cursor after CR LF, or after a backslash and a line end.
-fn past_line_end(at: Cursor<'_>) -> Option<Cursor<'_>>
+fn past_line_end(at: TextCursor<'_>) -> Option<TextCursor<'_>>
     ensures { Reads line_end at.entry result }
 {
     if let Some(end) = at.past("\r\n") {
@@ -100,22 +100,22 @@ fn past_line_end(at: Cursor<'_>) -> Option<Cursor<'_>>
 }
 
 /// Returns what is at the cursor in the content of a string. The quote before `end` closes the string.
-fn next_step<'a>(at: Cursor<'a>, end: Cursor<'a>, kind: StringKind) -> Step<'a>
+fn next_step<'a>(at: TextCursor<'a>, end: TextCursor<'a>, kind: StringKind) -> ContentItem<'a>
     requires { IsInside double_quote at end }
     ensures { IsStep kind at.entry end.entry result }
 {
     if let Some(after) = past_line_end(at) {
-        return Step::Unit(after);
+        return ContentItem::Unit(after);
     }
     match read_front(content(at, end), kind) {
-        Some(Front { size, error: None }) => Step::Unit(at.after_bytes(size)),
+        Some(Front { size, error: None }) => ContentItem::Unit(at.after_bytes(size)),
         Some(
             Front {
                 size,
                 error: Some(error),
             },
-        ) => Step::Fault(error, at.after_bytes(size)),
-        None => Step::End,
+        ) => ContentItem::Fault(error, at.after_bytes(size)),
+        None => ContentItem::End,
     }
 }
 
@@ -133,7 +133,7 @@ fn is_of_last(error: &EscapeError) -> bool
 }
 
 /// Returns the cursor before the last character between `at` and `end`.
-fn last_character<'a>(at: Cursor<'a>, end: Cursor<'a>) -> Cursor<'a>
+fn last_character<'a>(at: TextCursor<'a>, end: TextCursor<'a>) -> TextCursor<'a>
     requires { (past : IsPast at end) × (1 ≤ length past.part) }
     ensures { IsLast at.entry end.entry result }
 {
@@ -149,7 +149,7 @@ fn last_character<'a>(at: Cursor<'a>, end: Cursor<'a>) -> Cursor<'a>
 
 /// Returns the trouble for an error in what was read from `at` to `after`. The wrong part is all of it, or its last
 /// character.
-pub fn faulty<'a>(at: Cursor<'a>, after: Cursor<'a>, error: EscapeError) -> Trouble<'a>
+pub fn faulty<'a>(at: TextCursor<'a>, after: TextCursor<'a>, error: EscapeError) -> Trouble<'a>
     requires { (past : IsPast at after) × (1 ≤ length past.part) }
     ensures { IsFaulty error at.entry after.entry result }
 {
@@ -168,22 +168,22 @@ pub fn faulty<'a>(at: Cursor<'a>, after: Cursor<'a>, error: EscapeError) -> Trou
 /// Returns the first error in the content of a string that begins at `at`. Its content begins at `inside`, and `end` is
 /// after its closing quote.
 pub fn string_content<'a>(
-    at: Cursor<'a>,
-    inside: Cursor<'a>,
-    end: Cursor<'a>,
+    at: TextCursor<'a>,
+    inside: TextCursor<'a>,
+    end: TextCursor<'a>,
     kind: StringKind,
 ) -> Trouble<'a>
     requires opens { Passes (Exactly (front kind)) at inside }
     requires closed { Passes closed_body inside end }
-    requires none { find (cooked kind) (chars at.rest.now) ≡ None }
+    requires none { find (cooked_string kind) (chars at.rest.now) ≡ None }
     ensures { IsTrouble at.entry result }
 {
     let mut place = inside;
     loop {
         match next_step(place, end, kind) {
-            Step::Unit(after) => place = after,
-            Step::Fault(error, after) => return faulty(place, after, error),
-            Step::End => unreachable!(),
+            ContentItem::Unit(after) => place = after,
+            ContentItem::Fault(error, after) => return faulty(place, after, error),
+            ContentItem::End => unreachable!(),
         }
     }
 }

@@ -13,7 +13,7 @@ use crate::explained::{ExplainError, Explained, Opener, Stretch};
 use crate::reason::Reason;
 use crate::stuck::reason_at;
 use lexical::Piece;
-use lexical::parts::Cursor;
+use lexical::parts::TextCursor;
 use pm_span::parts::{bounds, fits_new, span_of};
 use pm_stream::reading::{Ending, Lexed, TokenSink, walk};
 use pm_token::Delimiter;
@@ -53,7 +53,7 @@ fn explain_at(alloc: Global, base: u32, text: &str) -> Result<Option<Explained>,
         stray,
     } = walk(alloc, base, text, &mut openers)?;
     if let Some(closer) = stray {
-        return Ok(Some(refused(text, rest, at, closer, opened)));
+        return Ok(Some(explain_closer(text, rest, at, closer, opened)));
     }
     if is_done(rest) {
         return Ok(left_open(opened));
@@ -106,7 +106,7 @@ impl<'a> TokenSink for Openers<'a> {
     }
 
     #[inline(always)]
-    fn doc(&mut self, _lexed: Lexed<'_>, _inner: bool, _said: &str) -> Result<(), AllocError> {
+    fn doc(&mut self, _lexed: Lexed<'_>, _inner: bool, _doc_body: &str) -> Result<(), AllocError> {
         Ok(())
     }
 
@@ -140,15 +140,15 @@ impl<'a> TokenSink for Openers<'a> {
 
 /// Explains that a closer matches no opener, or not the innermost one. The rest of the text begins with the closer, at
 /// the position `at`.
-fn refused(text: &str, rest: &str, at: u32, closer: Piece, openers: Vec<Opener>) -> Explained
+fn explain_closer(text: &str, rest: &str, at: u32, closer: Piece, openers: Vec<Opener>) -> Explained
     requires stands { (first : Bool) × IsPieceAt first (chars rest.now) closer }
-    requires behind { (behind : List ℕ) × (chars text.now ≡ behind ++ chars rest.now) }
+    requires text_before { (text_before : List ℕ) × (chars text.now ≡ text_before ++ chars rest.now) }
     requires room { at + closer.chars < 2 ^ 32 }
-    ensures before { (base : ℕ) (behind : List ℕ) → chars text.now ≡ behind ++ chars rest.now
-        → at ≡ base + length behind → IsStretch base behind [] result.before }
-    ensures at { (base : ℕ) (behind part after : List ℕ) → chars text.now ≡ behind ++ chars rest.now
-        → at ≡ base + length behind → chars rest.now ≡ part ++ after → closer.entry.chars ≡ length part
-        → IsStretch base behind part result.at }
+    ensures before { (base : ℕ) (text_before : List ℕ) → chars text.now ≡ text_before ++ chars rest.now
+        → at ≡ base + length text_before → IsStretch base text_before [] result.before }
+    ensures at { (base : ℕ) (text_before part after : List ℕ) → chars text.now ≡ text_before ++ chars rest.now
+        → at ≡ base + length text_before → chars rest.now ≡ part ++ after → closer.entry.chars ≡ length part
+        → IsStretch base text_before part result.at }
     ensures reason { result.reason ≡ refusal result.innermost }
     ensures open { WaitsAs (waiting openers.items) result.innermost result.outer.items }
     ensures kept { Loses openers.items result.innermost result.outer.items }
@@ -214,14 +214,14 @@ fn left_open(openers: Vec<Opener>) -> Option<Explained>
 fn stuck(text: &str, rest: &str, at: u32, first: bool, openers: Vec<Opener>) -> Explained
     requires some { chars rest.now ≢ [] }
     requires none { HasNoPiece first (chars rest.now) }
-    requires behind { (behind : List ℕ) × (chars text.now ≡ behind ++ chars rest.now) }
+    requires text_before { (text_before : List ℕ) × (chars text.now ≡ text_before ++ chars rest.now) }
     requires room { at + length (chars rest.now) < 2 ^ 32 }
-    ensures stuck { (base : ℕ) (behind : List ℕ) → chars text.now ≡ behind ++ chars rest.now
-        → at ≡ base + length behind → IsStuck base behind first (chars rest.now) result }
+    ensures stuck { (base : ℕ) (text_before : List ℕ) → chars text.now ≡ text_before ++ chars rest.now
+        → at ≡ base + length text_before → IsStuck base text_before first (chars rest.now) result }
     ensures open { WaitsAs (waiting openers.items) result.innermost result.outer.items }
     ensures kept { Loses openers.items result.innermost result.outer.items }
 {
-    let start = Cursor::new(rest);
+    let start = TextCursor::new(rest);
     let trouble = reason_at(start, first);
     let lo = at + trouble.at.chars_before as u32;
     let hi = at + trouble.after.chars_before as u32;

@@ -18,7 +18,7 @@ use crate::explained::{Explained, Stretch};
 use crate::explaining::stretch;
 use crate::quote_hints::nearest;
 use crate::reason::Reason;
-use lexical::parts::Cursor;
+use lexical::parts::TextCursor;
 use pm_span::parts::bounds;
 use std::alloc::{AllocError, Global};
 
@@ -59,13 +59,13 @@ pub fn advice(alloc: Global, text: &str, explained: &Explained) -> Result<Option
 /// Returns the hint for a block comment that doesn't end. `at` is its `/*`.
 fn comment_hint(alloc: Global, text: &str, at: Stretch) -> Result<Hint, AllocError>
     requires fits { Fits new_map (length (chars text.now)) }
-    requires stands { (behind more : List ℕ) × (chars text.now ≡ behind ++ (codes "/*" ++ more))
-        × IsStretch (next_lo new_map) behind (codes "/*") at × HasNone BlockComment (codes "/*" ++ more) }
-    ensures { IfOk result (λ hint. (behind more : List ℕ) → chars text.now ≡ behind ++ (codes "/*" ++ more)
-        → IsStretch (next_lo new_map) behind (codes "/*") at
-        → Helps (next_lo new_map) behind (codes "/*" ++ more) UnclosedComment (Some hint)) }
+    requires stands { (text_before more : List ℕ) × (chars text.now ≡ text_before ++ (codes "/*" ++ more))
+        × IsStretch (next_lo new_map) text_before (codes "/*") at × HasNone BlockComment (codes "/*" ++ more) }
+    ensures { IfOk result (λ hint. (text_before more : List ℕ) → chars text.now ≡ text_before ++ (codes "/*" ++ more)
+        → IsStretch (next_lo new_map) text_before (codes "/*") at
+        → Helps (next_lo new_map) text_before (codes "/*" ++ more) UnclosedComment (Some hint)) }
 {
-    let start = Cursor::new(&text[at.start..]);
+    let start = TextCursor::new(&text[at.start..]);
     let (lo, _) = bounds(at.span);
     let (depth, ended) = open_comments(alloc, start)?;
     let Some((from, to)) = ended else {
@@ -84,14 +84,15 @@ fn comment_hint(alloc: Global, text: &str, at: Stretch) -> Result<Hint, AllocErr
 /// string.
 fn quote_hint(text: &str, at: Stretch) -> Option<Hint>
     requires fits { Fits new_map (length (chars text.now)) }
-    requires stands { (kind : StringKind) × (behind opening body : List ℕ)
-        × (chars text.now ≡ behind ++ (opening ++ body))
-        × Stands (raw_opening kind) opening body × IsStretch (next_lo new_map) behind opening at }
-    ensures { (kind : StringKind) (behind opening body : List ℕ) → chars text.now ≡ behind ++ (opening ++ body)
-        → Stands (raw_opening kind) opening body → IsStretch (next_lo new_map) behind opening at
-        → Helps (next_lo new_map) behind (opening ++ body) UnclosedRawString result }
+    requires stands { (kind : StringKind) × (text_before opening body : List ℕ)
+        × (chars text.now ≡ text_before ++ (opening ++ body))
+        × Stands (raw_opening kind) opening body × IsStretch (next_lo new_map) text_before opening at }
+    ensures { (kind : StringKind) (text_before opening body : List ℕ)
+        → chars text.now ≡ text_before ++ (opening ++ body)
+        → Stands (raw_opening kind) opening body → IsStretch (next_lo new_map) text_before opening at
+        → Helps (next_lo new_map) text_before (opening ++ body) UnclosedRawString result }
 {
-    let inside = Cursor::new(&text[at.end..]);
+    let inside = TextCursor::new(&text[at.end..]);
     let (_, lo) = bounds(at.span);
     let (from, to) = nearest(inside)?;
     Some(Hint::Quote(between(text, from, to, lo)))
@@ -99,7 +100,7 @@ fn quote_hint(text: &str, at: Stretch) -> Option<Hint>
 
 /// Returns the part of a text between two cursors. The cursors belong to a rest of the text that begins at the position
 /// `base`.
-fn between(text: &str, from: Cursor<'_>, to: Cursor<'_>, base: u32) -> Stretch
+fn between(text: &str, from: TextCursor<'_>, to: TextCursor<'_>, base: u32) -> Stretch
     requires from { (front : List ℕ) × (chars text.now ≡ front ++ chars from.rest.now) }
     requires to { IsPast from to }
     requires room { base + to.chars_before < 2 ^ 32 }

@@ -8,7 +8,7 @@ ghost use Rattle.lexical.specs.Identifier.{name};
 ghost use Rattle.lexical.specs.Literal.{quoted_literal};
 ghost use Rattle.lexical.specs.Rule.{Exactly, find};
 ghost use Rattle.lexical.specs.PieceFinder.{found_identifier};
-ghost use Rattle.lexical.specs.Step.{Passes};
+ghost use Rattle.lexical.specs.RuleMatch.{Passes};
 ghost use Rattle.lexical.specs.Text.{first_passes};
 ghost use Rattle.explain.specs.Trouble.{IsTrouble};
 
@@ -16,10 +16,10 @@ use crate::quotes::{SingleKind, single};
 use crate::reason::Reason;
 use crate::strings::{raw_string, string};
 use crate::trouble::Trouble;
-use lexical::parts::{Cursor, StringKind, name};
+use lexical::parts::{StringKind, TextCursor, name};
 
 /// Returns why no piece begins at the cursor, which is before `r#`. `inner` is after the `r#`.
-fn raw_name<'a>(at: Cursor<'a>, inner: Cursor<'a>) -> Trouble<'a>
+fn raw_name<'a>(at: TextCursor<'a>, inner: TextCursor<'a>) -> Trouble<'a>
     requires front { Passes (Exactly (codes "r#")) at inner }
     requires identifier { found_identifier (chars at.rest.now) ≡ None }
     requires literal { find quoted_literal (chars at.rest.now) ≡ None }
@@ -39,7 +39,7 @@ fn raw_name<'a>(at: Cursor<'a>, inner: Cursor<'a>) -> Trouble<'a>
 }
 
 /// Returns why no piece begins at the cursor, which is before a letter.
-pub fn letter(at: Cursor<'_>) -> Trouble<'_>
+pub fn letter(at: TextCursor<'_>) -> Trouble<'_>
     requires letter { first_passes is_ident_start (chars at.rest.now) ≡ true }
     requires identifier { found_identifier (chars at.rest.now) ≡ None }
     requires literal { find quoted_literal (chars at.rest.now) ≡ None }

@@ -7,11 +7,11 @@ ghost use Rattle.lexical.specs.Rule.{Stands};
 ghost use Rattle.explain.specs.HintWalk.{CameNearest, longer};
 ghost use Rattle.explain.specs.Shapes.{closed_raw_body};
 
-use lexical::parts::{Class, Cursor, skip, skip_to};
+use lexical::parts::{Class, TextCursor, skip, skip_to};
 
 /// Returns the cursors before and after the quote with the most hash signs right after it, together with these. Of
 /// several such quotes it is the first.
-pub fn nearest(inside: Cursor<'_>) -> Option<(Cursor<'_>, Cursor<'_>)>
+pub fn nearest(inside: TextCursor<'_>) -> Option<(TextCursor<'_>, TextCursor<'_>)>
     ensures { MatchOption result (HasNone (Stands (closed_raw_body [])) (chars inside.entry.rest.now))
         (λ x. CameNearest inside.entry x.0 x.1) }
 {
@@ -28,10 +28,10 @@ pub fn nearest(inside: Cursor<'_>) -> Option<(Cursor<'_>, Cursor<'_>)>
 /// Returns the pair of cursors with more characters between them: `best`, or `from` and `to`. If both have the same
 /// number, it is `best`.
 fn longer<'a>(
-    best: Option<(Cursor<'a>, Cursor<'a>)>,
-    from: Cursor<'a>,
-    to: Cursor<'a>,
-) -> Option<(Cursor<'a>, Cursor<'a>)>
+    best: Option<(TextCursor<'a>, TextCursor<'a>)>,
+    from: TextCursor<'a>,
+    to: TextCursor<'a>,
+) -> Option<(TextCursor<'a>, TextCursor<'a>)>
     requires ordered { from.chars_before ≤ to.chars_before }
     requires best { IfSome best (λ x. x.0.chars_before ≤ x.1.chars_before) }
     ensures { result ≡ longer best.entry from.entry to.entry }

@@ -10,7 +10,7 @@ ghost use Rattle.lexical.specs.Identifier.{name};
 ghost use Rattle.lexical.specs.Rule.{Exactly, One, Then, UpTo, find};
 ghost use Rattle.lexical.specs.PieceFinder.{find_lone_quote};
 ghost use Rattle.lexical.specs.SingleQuoted.{character};
-ghost use Rattle.lexical.specs.Step.{Passes, Reads};
+ghost use Rattle.lexical.specs.RuleMatch.{Passes, Reads};
 ghost use Rattle.explain.specs.Shapes.{closed_single_body, raw_lifetime_start, single_front, single_opening};
 ghost use Rattle.explain.specs.Shapes.{single_pair, single_rule};
 ghost use Rattle.explain.specs.Trouble.{IsTrouble};
@@ -18,7 +18,7 @@ ghost use Rattle.explain.specs.Trouble.{IsTrouble};
 use crate::reason::Reason;
 use crate::single_contents::single_content;
 use crate::trouble::Trouble;
-use lexical::parts::{Class, Cursor, begins, name, one, one_that, skip};
+use lexical::parts::{Class, TextCursor, begins, name, one, one_that, skip};
 
 /// What kind of literal has single quotes.
 #[derive(Clone, Copy)]
@@ -45,7 +45,7 @@ fn is_closed_alone(c: char) -> bool
 
 /// Returns the cursor after a pair: a character except `'`, backslash and LF, or a backslash and a character except LF.
 /// Returns `None` where a comment begins.
-fn past_single_pair(at: Cursor<'_>) -> Option<Cursor<'_>>
+fn past_single_pair(at: TextCursor<'_>) -> Option<TextCursor<'_>>
     ensures { Reads single_pair at.entry result }
 {
     if begins(at.rest, "//") || begins(at.rest, "/*") {
@@ -58,7 +58,7 @@ fn past_single_pair(at: Cursor<'_>) -> Option<Cursor<'_>>
 }
 
 /// Returns the cursor after the pairs up to the next `'`, and after that `'`.
-fn past_single_pairs(inside: Cursor<'_>) -> Option<Cursor<'_>>
+fn past_single_pairs(inside: TextCursor<'_>) -> Option<TextCursor<'_>>
     ensures { Reads (UpTo single_pair (Exactly (codes "'"))) inside.entry result }
 {
     let mut end = inside;
@@ -69,14 +69,14 @@ fn past_single_pairs(inside: Cursor<'_>) -> Option<Cursor<'_>>
 }
 
 /// Returns the cursor after one `'` or LF and the `'` that follows it.
-fn past_closed_alone(inside: Cursor<'_>) -> Option<Cursor<'_>>
+fn past_closed_alone(inside: TextCursor<'_>) -> Option<TextCursor<'_>>
     ensures { Reads (Then (One (is_one_of (codes "'\n"))) (Exactly (codes "'"))) inside.entry result }
 {
     one_that(inside, |c| is_closed_alone(c))?.past("'")
 }
 
 /// Returns the cursor after the `'` that closes a character literal.
-fn past_single(inside: Cursor<'_>) -> Option<Cursor<'_>>
+fn past_single(inside: TextCursor<'_>) -> Option<TextCursor<'_>>
     ensures { Reads closed_single_body inside.entry result }
 {
     match past_closed_alone(inside) {
@@ -86,7 +86,7 @@ fn past_single(inside: Cursor<'_>) -> Option<Cursor<'_>>
 }
 
 /// Returns why no character or byte literal begins at the cursor. `inside` is after its opening quote.
-pub fn single<'a>(at: Cursor<'a>, inside: Cursor<'a>, kind: SingleKind) -> Trouble<'a>
+pub fn single<'a>(at: TextCursor<'a>, inside: TextCursor<'a>, kind: SingleKind) -> Trouble<'a>
     requires opens { Passes single_opening at inside }
     requires front { Passes (Exactly (single_front kind)) at inside }
     requires none { find (single_rule kind) (chars at.rest.now) ≡ None }
@@ -105,10 +105,10 @@ pub fn single<'a>(at: Cursor<'a>, inside: Cursor<'a>, kind: SingleKind) -> Troub
 /// Returns why no raw lifetime begins at the cursor. `inside` is after the `'`, `inner` after `'r#`, and `end` after
 /// the name.
 fn raw_lifetime<'a>(
-    at: Cursor<'a>,
-    inside: Cursor<'a>,
-    inner: Cursor<'a>,
-    end: Cursor<'a>,
+    at: TextCursor<'a>,
+    inside: TextCursor<'a>,
+    inner: TextCursor<'a>,
+    end: TextCursor<'a>,
 ) -> Trouble<'a>
     requires quote { Passes (Exactly (codes "'")) at inside }
     requires front { Passes (Exactly (codes "'r#")) at inner }
@@ -128,7 +128,7 @@ fn raw_lifetime<'a>(
 }
 
 /// Returns why no lifetime of this name begins at the cursor. `inside` is after the `'`, and `end` after the name.
-fn lifetime<'a>(at: Cursor<'a>, inside: Cursor<'a>, end: Cursor<'a>) -> Trouble<'a>
+fn lifetime<'a>(at: TextCursor<'a>, inside: TextCursor<'a>, end: TextCursor<'a>) -> Trouble<'a>
     requires quote { Passes (Exactly (codes "'")) at inside }
     requires name { Passes name inside end }
     requires raw { find raw_lifetime_start (chars at.rest.now) ≡ None }
@@ -151,7 +151,11 @@ fn lifetime<'a>(at: Cursor<'a>, inside: Cursor<'a>, end: Cursor<'a>) -> Trouble<
 
 /// Returns why no piece begins at the cursor, which is before a `'` and a digit. `inside` is after the `'`, and `first`
 /// after the digit.
-fn digit_lifetime<'a>(at: Cursor<'a>, inside: Cursor<'a>, first: Cursor<'a>) -> Trouble<'a>
+fn digit_lifetime<'a>(
+    at: TextCursor<'a>,
+    inside: TextCursor<'a>,
+    first: TextCursor<'a>,
+) -> Trouble<'a>
     requires quote { Passes (Exactly (codes "'")) at inside }
     requires digit { Passes (One is_ascii_digit) inside first }
     requires none { find character (chars at.rest.now) ≡ None }
@@ -169,7 +173,7 @@ fn digit_lifetime<'a>(at: Cursor<'a>, inside: Cursor<'a>, first: Cursor<'a>) -> 
 }
 
 /// Returns why no piece begins at the cursor, which is before a `'`. `inside` is after the `'`.
-pub fn quote<'a>(at: Cursor<'a>, inside: Cursor<'a>) -> Trouble<'a>
+pub fn quote<'a>(at: TextCursor<'a>, inside: TextCursor<'a>) -> Trouble<'a>
     requires opens { Passes (Exactly (codes "'")) at inside }
     requires lone { find_lone_quote (chars at.rest.now) ≡ None }
     requires none { find character (chars at.rest.now) ≡ None }

@@ -7,14 +7,14 @@ ghost use Rattle.lexical.specs.Ascii.{all_ascii};
 ghost use Rattle.lexical.specs.Character.{carriage_return, double_quote};
 ghost use Rattle.lexical.specs.RawString.{may_stand_raw, raw_front, raw_string, raw_unit};
 ghost use Rattle.lexical.specs.Rule.{Exactly, Run, find};
-ghost use Rattle.lexical.specs.Step.{Passes, Reads};
+ghost use Rattle.lexical.specs.RuleMatch.{Passes, Reads};
 ghost use Rattle.explain.specs.Content.{raw_character};
 ghost use Rattle.explain.specs.Shapes.{closed_raw_body, is_hash};
 ghost use Rattle.explain.specs.Trouble.{IsTrouble};
 
 use crate::reason::Reason;
 use crate::trouble::Trouble;
-use lexical::parts::{Cursor, StringKind, begins};
+use lexical::parts::{StringKind, TextCursor, begins};
 use literal_escaper::EscapeError;
 
 /// Whether the content of a string of this kind may have the character. A CR is checked elsewhere.
@@ -30,7 +30,7 @@ fn may_stand(c: char, kind: StringKind) -> bool
 
 /// Returns the cursor after a unit of a raw string with these hash signs.
 #[tactic(auto, unfolding(lexical::specs::Rule::find))]
-fn past_unit<'a>(at: Cursor<'a>, hashes: &str, kind: StringKind) -> Option<Cursor<'a>>
+fn past_unit<'a>(at: TextCursor<'a>, hashes: &str, kind: StringKind) -> Option<TextCursor<'a>>
     requires { IsTrue (all_ascii hashes.now) }
     ensures { Reads (raw_unit (may_stand_raw kind) (double_quote ∷ hashes.now)) at.entry result }
 {
@@ -67,11 +67,11 @@ fn error_of(c: char, kind: StringKind) -> EscapeError
 /// Returns the first error in the content of a raw string that begins at `at`. `inside` is after its letters, `quote`
 /// after its hash signs, `body` after its opening quote, and `end` after all of it.
 pub fn raw_content<'a>(
-    at: Cursor<'a>,
-    inside: Cursor<'a>,
-    quote: Cursor<'a>,
-    body: Cursor<'a>,
-    end: Cursor<'a>,
+    at: TextCursor<'a>,
+    inside: TextCursor<'a>,
+    quote: TextCursor<'a>,
+    body: TextCursor<'a>,
+    end: TextCursor<'a>,
     hashes: &str,
     kind: StringKind,
 ) -> Trouble<'a>

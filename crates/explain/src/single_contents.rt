@@ -5,7 +5,7 @@ ghost use Rattle.std.specs.Prelude.{◌≡◌, None};
 ghost use Rattle.std.specs.Str.{chars};
 ghost use Rattle.lexical.specs.Character.{single_quote};
 ghost use Rattle.lexical.specs.Rule.{Exactly, Stands, find};
-ghost use Rattle.lexical.specs.Step.{Passes};
+ghost use Rattle.lexical.specs.RuleMatch.{Passes};
 ghost use Rattle.explain.specs.Content.{is_of_literal as of_literal};
 ghost use Rattle.explain.specs.Shapes.{closed_character, single_front, single_rule};
 ghost use Rattle.explain.specs.Trouble.{IsTrouble};
@@ -15,7 +15,7 @@ use crate::contents::{content, faulty};
 use crate::quotes::SingleKind;
 use crate::reason::Reason;
 use crate::trouble::Trouble;
-use lexical::parts::Cursor;
+use lexical::parts::TextCursor;
 use literal_escaper::{EscapeError, Mode, check_for_errors};
 
 /// Returns the escaper's mode for this kind of literal.
@@ -47,9 +47,9 @@ fn is_of_literal(error: &EscapeError) -> bool
 /// Returns the first error in the content of a character or byte literal that begins at `at`. Its content begins at
 /// `inside`, and `end` is after its closing quote.
 pub fn single_content<'a>(
-    at: Cursor<'a>,
-    inside: Cursor<'a>,
-    end: Cursor<'a>,
+    at: TextCursor<'a>,
+    inside: TextCursor<'a>,
+    end: TextCursor<'a>,
     kind: SingleKind,
 ) -> Trouble<'a>
     requires opens { Passes (Exactly (single_front kind)) at inside }

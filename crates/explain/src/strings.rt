@@ -4,11 +4,11 @@
 ghost use Rattle.std.specs.Prelude.{◌≡◌, ◌∷◌, IsTrue, None, codes, not};
 ghost use Rattle.std.specs.Str.{chars};
 ghost use Rattle.lexical.specs.Ascii.{all_ascii};
-ghost use Rattle.lexical.specs.Quoted.{cooked, front, is_one_of};
+ghost use Rattle.lexical.specs.Quoted.{cooked_string, front, is_one_of};
 ghost use Rattle.lexical.specs.PieceFinder.{found_identifier};
 ghost use Rattle.lexical.specs.RawString.{raw_front, raw_string as raw_rule};
 ghost use Rattle.lexical.specs.Rule.{Exactly, Run, find};
-ghost use Rattle.lexical.specs.Step.{Passes, Reads};
+ghost use Rattle.lexical.specs.RuleMatch.{Passes, Reads};
 ghost use Rattle.explain.specs.Shapes.{any, closed_body, closed_raw_body, is_hash, no_double_quote, pair};
 ghost use Rattle.explain.specs.Shapes.{raw_name_start, raw_unit};
 ghost use Rattle.explain.specs.Trouble.{IsTrouble};
@@ -18,7 +18,7 @@ use crate::raw_contents::raw_content;
 use crate::reason::Reason;
 use crate::trouble::Trouble;
 use lexical::parts::{
-    Class, Cursor, StringKind, before, begins, one_that, skip, skip_to, skip_to_either,
+    Class, StringKind, TextCursor, before, begins, one_that, skip, skip_to, skip_to_either,
 };
 
 /// Whether the character is a pair by itself: any character except `"` and backslash.
@@ -29,7 +29,7 @@ fn stands_alone(c: char) -> bool
 }
 
 /// Returns the cursor after a pair: a character except `"` and backslash, or a backslash and any character.
-fn past_pair(at: Cursor<'_>) -> Option<Cursor<'_>>
+fn past_pair(at: TextCursor<'_>) -> Option<TextCursor<'_>>
     ensures { Reads pair at.entry result }
 {
     match one_that(at, |c| stands_alone(c)) {
@@ -39,7 +39,7 @@ fn past_pair(at: Cursor<'_>) -> Option<Cursor<'_>>
 }
 
 /// Returns the cursor after the first `"` that has no backslash before it in a pair.
-fn past_quote(inside: Cursor<'_>) -> Option<Cursor<'_>>
+fn past_quote(inside: TextCursor<'_>) -> Option<TextCursor<'_>>
     ensures { Reads closed_body inside.entry result }
 {
     let mut end = skip_to_either(inside, b'"', b'\\');
@@ -51,7 +51,7 @@ fn past_quote(inside: Cursor<'_>) -> Option<Cursor<'_>>
 
 /// Returns the cursor after a character, or `None` where the closing quote and hash signs of the raw string are.
 #[tactic(auto, unfolding(lexical::specs::Rule::find))]
-fn past_raw_unit<'a>(at: Cursor<'a>, hashes: &str) -> Option<Cursor<'a>>
+fn past_raw_unit<'a>(at: TextCursor<'a>, hashes: &str) -> Option<TextCursor<'a>>
     requires { IsTrue (all_ascii hashes.now) }
     ensures { Reads (raw_unit hashes.now) at.entry result }
 {
@@ -63,7 +63,7 @@ fn past_raw_unit<'a>(at: Cursor<'a>, hashes: &str) -> Option<Cursor<'a>>
 }
 
 /// Returns the cursor after the first `"` with these hash signs after it, and after the hash signs.
-fn past_raw_quote<'a>(inside: Cursor<'a>, hashes: &str) -> Option<Cursor<'a>>
+fn past_raw_quote<'a>(inside: TextCursor<'a>, hashes: &str) -> Option<TextCursor<'a>>
     requires { IsTrue (all_ascii hashes.now) }
     ensures { Reads (closed_raw_body hashes.now) inside.entry result }
 {
@@ -75,9 +75,9 @@ fn past_raw_quote<'a>(inside: Cursor<'a>, hashes: &str) -> Option<Cursor<'a>>
 }
 
 /// Returns why no string of this kind begins at the cursor. `inside` is after its opening quote.
-pub fn string<'a>(at: Cursor<'a>, inside: Cursor<'a>, kind: StringKind) -> Trouble<'a>
+pub fn string<'a>(at: TextCursor<'a>, inside: TextCursor<'a>, kind: StringKind) -> Trouble<'a>
     requires opens { Passes (Exactly (front kind)) at inside }
-    requires none { find (cooked kind) (chars at.rest.now) ≡ None }
+    requires none { find (cooked_string kind) (chars at.rest.now) ≡ None }
     ensures { IsTrouble at.entry result }
 {
     match past_quote(inside) {
@@ -91,7 +91,7 @@ pub fn string<'a>(at: Cursor<'a>, inside: Cursor<'a>, kind: StringKind) -> Troub
 }
 
 /// Returns why no raw string of this kind begins at the cursor. `inside` is after its letters.
-pub fn raw_string<'a>(at: Cursor<'a>, inside: Cursor<'a>, kind: StringKind) -> Trouble<'a>
+pub fn raw_string<'a>(at: TextCursor<'a>, inside: TextCursor<'a>, kind: StringKind) -> Trouble<'a>
     requires letters { Passes (Exactly (raw_front kind)) at inside }
     requires name { find raw_name_start (chars at.rest.now) ≡ None }
     requires identifier { found_identifier (chars at.rest.now) ≡ None }
@@ -125,9 +125,9 @@ const MOST_HASHES: usize = 255;
 
 /// Returns the trouble for hash signs, from `inside` to `end`, with no quote after them.
 fn without_quote<'a>(
-    at: Cursor<'a>,
-    inside: Cursor<'a>,
-    end: Cursor<'a>,
+    at: TextCursor<'a>,
+    inside: TextCursor<'a>,
+    end: TextCursor<'a>,
     kind: StringKind,
 ) -> Trouble<'a>
     requires letters { Passes (Exactly (raw_front kind)) at inside }
@@ -148,7 +148,7 @@ fn without_quote<'a>(
 }
 
 /// Returns the cursor after a character except `"`, or `at` itself at the end of the text. Returns `None` before a `"`.
-fn past_other(at: Cursor<'_>) -> Option<Cursor<'_>>
+fn past_other(at: TextCursor<'_>) -> Option<TextCursor<'_>>
     ensures { Reads no_double_quote at.entry result }
 {
     if begins(at.rest, "\"") {

@@ -6,7 +6,7 @@ ghost use Rattle.std.specs.Str.{chars};
 ghost use Rattle.lexical.specs.Comment as rule;
 ghost use Rattle.lexical.specs.Comment.{has_bare_return};
 ghost use Rattle.lexical.specs.Mark.{comment_fronts};
-ghost use Rattle.lexical.specs.PieceFinder.{comment_found, found};
+ghost use Rattle.lexical.specs.PieceFinder.{comment_found, find_piece};
 ghost use Rattle.lexical.specs.Rule.{find};
 ghost use Rattle.lexical.specs.Text.{begins_any};
 ghost use Rattle.explain.specs.Trouble.{IsTrouble};
@@ -19,11 +19,11 @@ use crate::reason::Reason;
 use crate::strings::string;
 use crate::trouble::Trouble;
 use lexical::parts::{
-    Cursor, PieceStart, StringKind, begins, piece_start_of, skip_comment, skip_to,
+    PieceStart, StringKind, TextCursor, begins, piece_start_of, skip_comment, skip_to,
 };
 
 /// Returns the cursors before and after the first CR, from `inside` on, that no LF follows.
-fn bare_return(inside: Cursor<'_>) -> Option<(Cursor<'_>, Cursor<'_>)>
+fn bare_return(inside: TextCursor<'_>) -> Option<(TextCursor<'_>, TextCursor<'_>)>
     ensures { MatchOption result (has_bare_return (chars inside.entry.rest.now) ≡ false)
         (λ x. IsFirstBare inside.entry x.0 x.1) }
 {
@@ -41,7 +41,7 @@ fn bare_return(inside: Cursor<'_>) -> Option<(Cursor<'_>, Cursor<'_>)>
 const DOC_FRONT: usize = 3;
 
 /// Returns why no comment is at the cursor, which is before what begins a comment.
-fn comment(at: Cursor<'_>) -> Trouble<'_>
+fn comment(at: TextCursor<'_>) -> Trouble<'_>
     requires begins { begins_any comment_fronts (chars at.rest.now) ≡ true }
     requires none { comment_found (find rule.comment (chars at.rest.now)) ≡ None }
     ensures { IsTrouble at.entry result }
@@ -68,9 +68,9 @@ fn comment(at: Cursor<'_>) -> Trouble<'_>
 
 /// Returns why no piece begins at the cursor, which isn't at the end of the text. `first` says whether the cursor is at
 /// the start of a source.
-pub fn reason_at(at: Cursor<'_>, first: bool) -> Trouble<'_>
+pub fn reason_at(at: TextCursor<'_>, first: bool) -> Trouble<'_>
     requires some { chars at.rest.now ≢ [] }
-    requires none { found first (chars at.rest.now) ≡ None }
+    requires none { find_piece first (chars at.rest.now) ≡ None }
     ensures { IsTrouble at.entry result }
 {
     let Some((c, after)) = at.advance() else {

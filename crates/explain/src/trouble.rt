@@ -1,7 +1,7 @@
 //! A reason, and the wrong part of the text as cursors.
 
 use crate::reason::Reason;
-use lexical::parts::Cursor;
+use lexical::parts::TextCursor;
 
 /// Why no piece begins at a cursor.
 #[derive(Drop)]
@@ -9,7 +9,7 @@ pub struct Trouble<'a> {
     /// The reason.
     pub reason: Reason,
     /// The cursor before the wrong part of the text.
-    pub at: Cursor<'a>,
+    pub at: TextCursor<'a>,
     /// The cursor after the wrong part of the text.
-    pub after: Cursor<'a>,
+    pub after: TextCursor<'a>,
 }

@@ -130,9 +130,9 @@ pub unread_may_fail : (text : List ℕ) (known : Option (List ℕ)) (map : Files
     → IfLex error (λ fault. (start : LineColumn) × (failure ≡ Fault start) × StartsAt map fault start)
     → (error ≡ MapFull → failure ≡ TooLong) → ((refused : AllocError) → error ≡ Memory refused → failure ≡ NoMemory)
     → MayFail text known known failure
-unread_may_fail text known map (Lex fault) failure is stands full (start, said, starts) too_long no_memory =
-    rw said (fault.lo, stands.1, fault_starts new_map map text fault start is stands starts, Keeps-same known)
-unread_may_fail text known map MapFull failure is stands full said too_long no_memory =
+unread_may_fail text known map (Lex fault) failure is stands full (start, lex_fault, starts) too_long no_memory =
+    rw lex_fault (fault.lo, stands.1, fault_starts new_map map text fault start is stands starts, Keeps-same known)
+unread_may_fail text known map MapFull failure is stands full lex_fault too_long no_memory =
     rw (too_long refl) (full refl, Keeps-same known)
-unread_may_fail text known map (Memory refused) failure is stands full said too_long no_memory =
+unread_may_fail text known map (Memory refused) failure is stands full lex_fault too_long no_memory =
     rw (no_memory refused refl) tt

@@ -13,7 +13,7 @@ use Rattle.find_calls.specs.Calls.{calls_onto, has_arguments}
 use Rattle.find_calls.specs.declared.calls.Candidate.{Candidate}
 use Rattle.find_calls.specs.declared.calls.Open.{Open}
 use Rattle.find_calls.specs.declared.calls.Open.TheVariants.{Group, Angle}
-use Rattle.find_calls.specs.Opened.{closed, resolve, AreBelow}
+use Rattle.find_calls.specs.Opened.{close_angle, resolve, AreBelow}
 use Rattle.find_calls.specs.Opened.{Passes, Closes}
 use Rattle.find_calls.specs.Opened.{is_in_angle, past_arrow}
 use Rattle.find_calls.proofs.OpenLemmas.{reverse-last, is_bracket, mark-length, resolve-agree}
@@ -102,7 +102,7 @@ passes_open joint f opened found few = record {
 }
 
 closed-below : (opens : Option ℕ) (f : Forest) (outer : List Open) (found : List Candidate)
-    → AreBelow (length found) (Angle opens ∷ outer) → AreBelow (length (closed opens f found)) outer
+    → AreBelow (length found) (Angle opens ∷ outer) → AreBelow (length (close_angle opens f found)) outer
 closed-below None f outer found h = h
 closed-below (Some k) f outer found h =
     subst (λ n. AreBelow n outer) (sym (mark-length k (has_arguments f) found)) h.1

@@ -17,7 +17,7 @@ use Rattle.find_calls.specs.Calls.{has_arguments, has_arguments_there}
 use Rattle.find_calls.specs.declared.calls.Candidate.{Candidate}
 use Rattle.find_calls.specs.declared.calls.Open.{Open}
 use Rattle.find_calls.specs.declared.calls.Open.TheVariants.{Group, Angle}
-use Rattle.find_calls.specs.Opened.{put, kept, called, mark, closed, resolve, AreBelow}
+use Rattle.find_calls.specs.Opened.{put, call_spans, as_call, mark, close_angle, resolve, AreBelow}
 
 -- ---- candidates
 
@@ -30,22 +30,22 @@ pub put-append : (is : Bool) (span : Extent) (xs ys : List Extent) → put is sp
 put-append true span xs ys = refl
 put-append false span xs ys = refl
 
-pub kept-append : (xs ys : List Candidate) → kept (xs ++ ys) ≡ kept xs ++ kept ys
+pub kept-append : (xs ys : List Candidate) → call_spans (xs ++ ys) ≡ call_spans xs ++ call_spans ys
 kept-append [] ys = refl
 kept-append (x ∷ xs) ys =
-    ap (put x.is_call x.span) (kept-append xs ys) ∙ sym (put-append x.is_call x.span (kept xs) (kept ys))
+    ap (put x.is_call x.span) (kept-append xs ys) ∙ sym (put-append x.is_call x.span (call_spans xs) (call_spans ys))
 
-called-append : (k : ℕ) (xs ys : List Candidate) → k < length xs → called k (xs ++ ys) ≡ called k xs ++ ys
+called-append : (k : ℕ) (xs ys : List Candidate) → k < length xs → as_call k (xs ++ ys) ≡ as_call k xs ++ ys
 called-append k [] ys h = absurd (omega arith)
 called-append zero (x ∷ xs) ys h = refl
 called-append (suc k) (x ∷ xs) ys h = ap (λ zs. x ∷ zs) (called-append k xs ys (omega arith))
 
 called-last : (xs : List Candidate) (x : Candidate)
-    → called (length xs) (xs ++ (x ∷ [])) ≡ xs ++ (record { span = x.span; is_call = true } ∷ [])
+    → as_call (length xs) (xs ++ (x ∷ [])) ≡ xs ++ (record { span = x.span; is_call = true } ∷ [])
 called-last [] x = refl
 called-last (y ∷ xs) x = ap (λ zs. y ∷ zs) (called-last xs x)
 
-called-length : (k : ℕ) (xs : List Candidate) → length (called k xs) ≡ length xs
+called-length : (k : ℕ) (xs : List Candidate) → length (as_call k xs) ≡ length xs
 called-length k [] = refl
 called-length zero (x ∷ xs) = refl
 called-length (suc k) (x ∷ xs) = ap suc (called-length k xs)
@@ -65,12 +65,12 @@ mark-last xs span true = called-last xs (record { span = span; is_call = false }
 mark-last xs span false = refl
 
 pub called-set : (k : ℕ) (xs : List Candidate) (one : Candidate) → k < length xs → one ≡ get_or xs k one
-    → set xs k (record { span = one.span; is_call = true }) ≡ called k xs
+    → set xs k (record { span = one.span; is_call = true }) ≡ as_call k xs
 called-set k [] one h is = absurd (omega arith)
 called-set zero (x ∷ xs) one h is = ap (λ (o : Candidate). record { span = o.span; is_call = true } ∷ xs) is
 called-set (suc k) (x ∷ xs) one h is = ap (λ zs. x ∷ zs) (called-set k xs one (omega arith) is)
 
-pub called-past : (k : ℕ) (xs : List Candidate) → (k < length xs → ⊥) → xs ≡ called k xs
+pub called-past : (k : ℕ) (xs : List Candidate) → (k < length xs → ⊥) → xs ≡ as_call k xs
 called-past k [] h = refl
 called-past zero (x ∷ xs) h = absurd (h (omega arith))
 called-past (suc k) (x ∷ xs) h = ap (λ zs. x ∷ zs) (called-past k xs (λ less. h (omega arith)))
@@ -196,7 +196,7 @@ closes-agree a token lo hi f opens closes n =
 pub resolve-closes : (a : Bool) (token : Token) (lo hi : ℕ) (f : Forest) (opens : Option ℕ) (opened : List Open)
     (slots : List Candidate) → is_token_mark 60 token ≡ false → (is_token_mark 62 token && not a) ≡ true
     → resolve 0 a (leaf token lo hi f) (Angle opens ∷ opened) slots
-    ≡ resolve 0 (begins_arrow token) f opened (closed opens f slots)
+    ≡ resolve 0 (begins_arrow token) f opened (close_angle opens f slots)
 resolve-closes a token lo hi f None opened slots opens closes =
     resolve-agree 1 0 a (begins_arrow token) (leaf token lo hi f) f opened slots (closes-agree a token lo hi f opens
     closes)

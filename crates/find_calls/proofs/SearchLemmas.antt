@@ -17,7 +17,7 @@ use Rattle.find_calls.specs.Calls.{calls_onto, has_arguments_there, is_called, i
 use Rattle.find_calls.specs.declared.calls.Candidate.{Candidate}
 use Rattle.find_calls.specs.declared.calls.Open.{Open}
 use Rattle.find_calls.specs.declared.calls.Open.TheVariants.{Group, Angle}
-use Rattle.find_calls.specs.Opened.{put, kept, called, resolve, rests, rests_steps, AreBelow}
+use Rattle.find_calls.specs.Opened.{put, call_spans, as_call, resolve, rests, rests_steps, AreBelow}
 use Rattle.find_calls.specs.Opened.{Leaves, IsNoted, IsOpened, candidate}
 use Rattle.find_calls.specs.Opened.{inside_turbofish, is_called_at_once, is_in_angle}
 use Rattle.find_calls.proofs.OpenLemmas.{reverse-last, below-append, below-outer, is_bracket, kept-append}
@@ -39,7 +39,7 @@ pub record View : Type 0 where
 abbrev pub AreAll : List ℕ → View → List Extent → Type 0
 AreAll name v all =
     AreBelow (length v.found) v.opened
-    × (kept (resolve 0 false v.here v.opened v.found)
+    × (call_spans (resolve 0 false v.here v.opened v.found)
     ++ calls_onto name v.follows_fn v.here (rests name v.opened) ≡ all)
 
 -- how many steps are left
@@ -77,8 +77,9 @@ moves_same : (name : List ℕ) (found : List Candidate) (defined : Bool) (here :
     → Moves name (at found defined here opened) (at found (is_fn token) f opened)
 moves_same name found defined here opened token lo hi f is same not_call = record {
   all = λ all h.
-      let was = ap (λ x. kept (resolve 0 false x opened found) ++ calls_onto name defined x (rests name opened)) is in
-      let now = ap₂ (λ slots calls. kept slots ++ calls) same
+      let was = ap (λ x. call_spans (resolve 0 false x opened found) ++ calls_onto name defined x (rests name opened))
+      is in
+      let now = ap₂ (λ slots calls. call_spans slots ++ calls) same
       (calls_skip name defined token lo hi f (rests name opened) not_call) in
       (h.0, sym now ∙ (sym was ∙ h.1));
   less = omega (arith, ap count is);
@@ -99,8 +100,9 @@ pub moves_in : (name : List ℕ) (found : List Candidate) (defined : Bool) (here
     → Moves name (at found defined here opened) (at found false f (Group after ∷ opened))
 moves_in name found defined here opened d lo hi f after is = record {
   all = λ all h.
-      let was = ap (λ x. kept (resolve 0 false x opened found) ++ calls_onto name defined x (rests name opened)) is in
-      let now = ap (λ slots. kept slots
+      let was = ap (λ x. call_spans (resolve 0 false x opened found) ++ calls_onto name defined x (rests name opened))
+      is in
+      let now = ap (λ slots. call_spans slots
       ++ calls_onto name false f (calls_onto name false (left after) (rests name opened)))
       (resolve-group false d lo hi f (left after) opened found) in
       (h.0, sym now ∙ (sym was ∙ h.1));
@@ -114,7 +116,7 @@ pub moves_out : (name : List ℕ) (found : List Candidate) (defined : Bool) (her
 moves_out name found defined here [] next now is leaves = absurd leaves
 moves_out name found defined here (Group after ∷ outer) next now is leaves = record {
   all = λ all h.
-      let was = ap (λ x. kept (resolve 0 false (left after) outer found)
+      let was = ap (λ x. call_spans (resolve 0 false (left after) outer found)
       ++ calls_onto name defined x (calls_onto name false (left after) (rests name outer))) is in
       subst (λ x. AreAll name (at found false x now) all) (sym leaves.0)
       (subst (λ x. AreAll name (at found false (left after) x) all) (sym leaves.1) (h.0, sym was ∙ h.1));
@@ -122,11 +124,11 @@ moves_out name found defined here (Group after ∷ outer) next now is leaves = r
 }
 moves_out name found defined here (Angle opens ∷ outer) next now is leaves = record {
   all = λ all h.
-      let was = ap (λ x. kept (resolve 0 false x (Angle opens ∷ outer) found)
+      let was = ap (λ x. call_spans (resolve 0 false x (Angle opens ∷ outer) found)
       ++ calls_onto name defined x (rests name outer))
       is in
-      let same = ap (λ slots. kept slots ++ rests name outer) (resolve-unclosed false opens outer found) in
-      let back = ap (λ x. kept (resolve 0 false x outer found) ++ calls_onto name false x (rests name outer))
+      let same = ap (λ slots. call_spans slots ++ rests name outer) (resolve-unclosed false opens outer found) in
+      let back = ap (λ x. call_spans (resolve 0 false x outer found) ++ calls_onto name false x (rests name outer))
       (leaves.0 ∙ is) in
       subst (λ x. AreAll name (at found false next x) all) (sym leaves.1)
       (below-outer (length found) opens outer h.0, back ∙ (sym same ∙ (sym was ∙ h.1)));
@@ -146,16 +148,16 @@ moves_call name found defined here opened raw text lo hi f is not_defined named 
     let slots = resolve 0 false f opened found in
     record {
       all = λ all h.
-          let was = ap (λ x. kept (resolve 0 false x opened found)
+          let was = ap (λ x. call_spans (resolve 0 false x opened found)
           ++ calls_onto name defined x (rests name opened)) is in
           let taken : calls_onto name defined (leaf (Name raw text) lo hi f) (rests name opened) ≡ span ∷ more
           = calls_if name defined (Name raw text) lo hi f (rests name opened) not_defined named
           ∙ ap (λ b. put b span more) called in
-          let now = ap₂ (λ slots calls. kept slots ++ calls)
+          let now = ap₂ (λ slots calls. call_spans slots ++ calls)
           (resolve-plain false (Name raw text) lo hi f opened found refl) taken in
-          let put_in : kept (resolve 0 false f opened (found ++ one)) ++ more ≡ kept slots ++ (span ∷ more)
-          = ap (λ xs. kept xs ++ more) (resolve-append 0 false f opened found one h.0)
-          ∙ (ap (λ xs. xs ++ more) (kept-append slots one) ∙ append_assoc (kept slots) (span ∷ []) more) in
+          let put_in : call_spans (resolve 0 false f opened (found ++ one)) ++ more ≡ call_spans slots ++ (span ∷ more)
+          = ap (λ xs. call_spans xs ++ more) (resolve-append 0 false f opened found one h.0)
+          ∙ (ap (λ xs. xs ++ more) (kept-append slots one) ∙ append_assoc (call_spans slots) (span ∷ []) more) in
           subst (λ xs. AreAll name (at xs (is_fn (Name raw text)) f opened) all)
           (sym (ap (λ x. found ++ candidate true (first_extent x)) is))
           (below-append found one opened h.0, put_in ∙ (sym now ∙ (sym was ∙ h.1)));
@@ -227,17 +229,17 @@ moves_turbofish name found here opened raw text lo hi f g is named opens few =
     = calls_if name false (Name raw text) lo hi start (rests name opened) refl named in
     record {
       all = λ all h.
-          let was = ap (λ x. kept (resolve 0 false x opened found)
+          let was = ap (λ x. call_spans (resolve 0 false x opened found)
           ++ calls_onto name false x (rests name opened)) whole in
-          let now = ap₂ (λ slots calls. kept slots ++ calls) read calls in
+          let now = ap₂ (λ slots calls. call_spans slots ++ calls) read calls in
           let split : resolve 0 false g (Angle (Some (length found)) ∷ opened) (found ++ one) ≡ slots ++ two
           = ap (resolve 1 false g opened) (mark-last found span call) ∙ resolve-append 1 false g opened found two h.0 in
-          let put_in : kept (resolve 0 false g (Angle (Some (length found)) ∷ opened) (found ++ one)) ++ more
-          ≡ kept slots ++ put call span more
-          = ap (λ xs. kept xs ++ more) split
+          let put_in : call_spans (resolve 0 false g (Angle (Some (length found)) ∷ opened) (found ++ one)) ++ more
+          ≡ call_spans slots ++ put call span more
+          = ap (λ xs. call_spans xs ++ more) split
           ∙ (ap (λ xs. xs ++ more) (kept-append slots two)
-          ∙ (append_assoc (kept slots) (put call span []) more
-          ∙ ap (λ xs. kept slots ++ xs) (put-append call span [] more))) in
+          ∙ (append_assoc (call_spans slots) (put call span []) more
+          ∙ ap (λ xs. call_spans slots ++ xs) (put-append call span [] more))) in
           let fits : length found < length (found ++ one) = omega (arith, length-append found one) in
           subst (λ xs. AreAll name (at xs false g (Angle (Some (length found)) ∷ opened)) all)
           (sym (ap (λ x. found ++ candidate false (first_extent x)) whole))

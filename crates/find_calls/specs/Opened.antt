@@ -57,19 +57,19 @@ put true span spans = span ∷ spans
 put false span spans = spans
 
 -- the spans of the candidates that are calls
-abbrev pub kept : List Candidate → List Extent
-kept [] = []
-kept (one ∷ more) = put one.is_call one.span (kept more)
+abbrev pub call_spans : List Candidate → List Extent
+call_spans [] = []
+call_spans (one ∷ more) = put one.is_call one.span (call_spans more)
 
 -- the candidates, with the one of this index made a call
-abbrev pub called : ℕ → List Candidate → List Candidate
-called k [] = []
-called zero (one ∷ more) = record { span = one.span; is_call = true } ∷ more
-called (suc k) (one ∷ more) = one ∷ called k more
+abbrev pub as_call : ℕ → List Candidate → List Candidate
+as_call k [] = []
+as_call zero (one ∷ more) = record { span = one.span; is_call = true } ∷ more
+as_call (suc k) (one ∷ more) = one ∷ as_call k more
 
 -- the candidates, with the one of this index made a call if it has arguments
 abbrev pub mark : ℕ → Bool → List Candidate → List Candidate
-mark k true slots = called k slots
+mark k true slots = as_call k slots
 mark k false slots = slots
 
 -- the candidates, with each one made a call whose `<` is open and closes before arguments. What is open comes innermost
@@ -107,9 +107,9 @@ is_in_angle (Group after ∷ outer) = false
 is_in_angle (Angle opens ∷ outer) = true
 
 -- the candidates after a `<` is closed before the trees
-abbrev pub closed : Option ℕ → Forest → List Candidate → List Candidate
-closed None f slots = slots
-closed (Some k) f slots = mark k (has_arguments f) slots
+abbrev pub close_angle : Option ℕ → Forest → List Candidate → List Candidate
+close_angle None f slots = slots
+close_angle (Some k) f slots = mark k (has_arguments f) slots
 
 -- ---- steps
 
@@ -123,7 +123,7 @@ Leaves end (Angle opens ∷ outer) next now = (next ≡ end) × (now ≡ outer)
 abbrev pub Closes : Forest → List Open → List Candidate → List Open → List Candidate → Type 0
 Closes f [] found now new_found = Unit {0}
 Closes f (Group after ∷ outer) found now new_found = Unit {0}
-Closes f (Angle opens ∷ outer) found now new_found = (now ≡ outer) × (new_found ≡ closed opens f found)
+Closes f (Angle opens ∷ outer) found now new_found = (now ≡ outer) × (new_found ≡ close_angle opens f found)
 
 -- the name that comes first is added to the candidates if it is called with no turbofish
 pub record IsNoted (here after : Forest) (opened : List Open) (found : List Candidate) (now : List Open)

@@ -43,7 +43,7 @@ pub fn print_calls<W: Write>(
     let buffer = match TokenBuffer::new(alloc, text) {
         Ok(buffer) => buffer,
         Err(BufferError::TooLong) => return Err(Failure::MapFull),
-        Err(BufferError::Parse(error)) => return Err(Failure::unparsed(error, &map)),
+        Err(BufferError::Parse(error)) => return Err(Failure::parse_failure(error, &map)),
     };
     let spans = calls(alloc, name, buffer.begin())?;
     print_lines(path, spans.as_slice(), &map, writer)?;

@@ -7,8 +7,8 @@ ghost use Rattle.pm_token.specs.Leaf.{is_joint};
 ghost use Rattle.token_buffer.specs.Arguments.{begins_arrow};
 ghost use Rattle.token_buffer.specs.Reads.{left, first_extent};
 ghost use Rattle.find_calls.specs.Calls.{calls, is_fn};
-ghost use Rattle.find_calls.specs.Opened.{called, candidate, inside_turbofish, is_called_at_once, is_in_angle};
-ghost use Rattle.find_calls.specs.Opened.{kept, past_arrow, Closes, IsNoted, IsOpened, Leaves, Passes};
+ghost use Rattle.find_calls.specs.Opened.{as_call, candidate, inside_turbofish, is_called_at_once, is_in_angle};
+ghost use Rattle.find_calls.specs.Opened.{call_spans, past_arrow, Closes, IsNoted, IsOpened, Leaves, Passes};
 
 use pm_span::Span;
 use pm_token::{Delimiter, Spacing};
@@ -49,7 +49,7 @@ pub fn calls(alloc: Global, name: &str, cursor: Cursor<'_>) -> Result<Vec<Span>,
 
 /// The spans of those candidates that are calls.
 fn spans_of_calls(alloc: Global, found: &[Candidate]) -> Result<Vec<Span>, AllocError>
-    ensures { IfOk result (λ spans. spans.items ≡ kept found.now) }
+    ensures { IfOk result (λ spans. spans.items ≡ call_spans found.now) }
 {
     let mut spans = Vec::new(alloc);
     for one in found {
@@ -69,7 +69,7 @@ fn candidates(
     name: &str,
     mut cursor: Cursor<'_>,
 ) -> Result<Vec<Candidate>, AllocError>
-    ensures { IfOk result (λ found. kept found.items ≡ calls name.now (left cursor.entry)) }
+    ensures { IfOk result (λ found. call_spans found.items ≡ calls name.now (left cursor.entry)) }
 {
     let mut found = Vec::new(alloc);
     let mut opened = Vec::new(alloc);
@@ -236,7 +236,7 @@ fn close<'a>(after: Cursor<'a>, opened: &mut Vec<Open<'a>>, found: &mut Vec<Cand
 
 /// Makes the candidate of this index a call.
 fn mark_call(found: &mut Vec<Candidate>, index: usize)
-    ensures { found.new.items ≡ called index found.old.items }
+    ensures { found.new.items ≡ as_call index found.old.items }
 {
     if let Some(candidate) = found.get_mut(index) {
         candidate.is_call = true;

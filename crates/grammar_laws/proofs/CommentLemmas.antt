@@ -9,7 +9,8 @@ use Rattle.lexical.specs.Block.{block_signs, BlockBody, Empty, Nested, Single}
 use Rattle.lexical.specs.Comment.{comment, Comment, closing, has_bare_return, Doc, PlainComment}
 use Rattle.lexical.specs.Piece as pieces
 use Rattle.lexical.proofs.RuleLemmas.{one_split}
-use Rattle.lexical.proofs.CommentKindLemmas.{clear_comment, front_is, doc_front, doc_said, doc_kind, closing_block}
+use Rattle.lexical.proofs.CommentKindLemmas.{clear_comment, front_is, doc_front, doc_body_splits, doc_kind}
+use Rattle.lexical.proofs.CommentKindLemmas.{closing_block}
 use Rattle.lexical.proofs.CommentKindLemmas.{closing_none}
 
 -- ---- at most one comment begins there
@@ -98,9 +99,9 @@ bare_end (c ∷ (d ∷ text)) e = or_right _ _ (bare_end (d ∷ text) e)
 -- a doc comment at the end of a text, which has no closing sign there, does not end with CR
 doc_at_end : (i : Bool) (t p : List ℕ) → closing p [] ≡ [] → Doc i t p [] → ends_with 13 p ≡ false
 doc_at_end i t p none h =
-    let said = doc_said i t p [] h ∙ (ap (λ x. t ++ x) none ∙ append-nil t) in
+    let doc_body = doc_body_splits i t p [] h ∙ (ap (λ x. t ++ x) none ∙ append-nil t) in
     false_from_ne_true _ (λ ends.
-    both_ways _ h.returns (bare_end t (ap (ends_with 13) (sym said) ∙ (sym (doc_front p h.comment.1).last ∙ ends))))
+    both_ways _ h.returns (bare_end t (ap (ends_with 13) (sym doc_body) ∙ (sym (doc_front p h.comment.1).last ∙ ends))))
 
 -- the closing sign of a doc comment stays the same before LF
 closing_stays : (i : Bool) (t p r w : List ℕ) → Comment p r → Doc i t p r → closing p r ≡ closing p (10 ∷ w)

@@ -16,7 +16,7 @@ use Rattle.lexical.specs.Piece.{Kind, Piece, Leaf, IsPiece}
 use Rattle.lexical.specs.Cover.{onto, StandBefore}
 use Rattle.lexical.specs.Quiet.{is_quiet, ends_quiet}
 use Rattle.lexical.specs.Finder.{find_run}
-use Rattle.lexical.specs.PieceFinder.{literal_kind, found}
+use Rattle.lexical.specs.PieceFinder.{literal_kind, find_piece}
 use Rattle.lexical.specs.declared.class.PieceStart.TheVariants as starts
 use Rattle.lexical.proofs.TextLemmas.{first_more}
 use Rattle.lexical.proofs.FinderLemmas.{finds_run, found_is, one_split}
@@ -36,7 +36,7 @@ pub digit_piece : (first : Bool) (k : Kind) (p r : List ℕ) → IsPiece first k
     → (k ≡ Leaf (tokens.Literal p)) × Number p r
 digit_piece first k p r h digit = by_text (p ++ r) digit (found_complete first k p r h)
   where
-    by_text : (text : List ℕ) → first_passes is_ascii_digit text ≡ true → found first text ≡ Some (k, p, r)
+    by_text : (text : List ℕ) → first_passes is_ascii_digit text ≡ true → find_piece first text ≡ Some (k, p, r)
         → (k ≡ Leaf (tokens.Literal p)) × Number p r
     by_text [] digit e = absurd (both_ways _ refl digit)
     by_text (c ∷ text) digit e =
@@ -82,12 +82,12 @@ dot_stands : (r : List ℕ) → IsPiece false (Leaf (tokens.Mark 46 (joint_befor
 dot_stands r = (refl, inl (((46, refl, refl), refl), refl))
 
 -- the pieces after an integer and a dot
-pub behind_dot : (p D W v : List ℕ) (us : List Piece) → Stands (Then integer end) p (onto us v)
+pub pieces_after_dot : (p D W v : List ℕ) (us : List Piece) → Stands (Then integer end) p (onto us v)
     → list_all is_ident_continue D ≡ true
     → StandBefore false us v → ends_quiet us ≡ true → p ++ onto us v ≡ D ++ (46 ∷ (W ++ v))
     → (later : List Piece) × StandBefore false later v × (ends_quiet later ≡ true) × (onto later v ≡ W ++ v)
 unfolding unicode_ident
-behind_dot p D W v us int first stand quiet e =
+pieces_after_dot p D W v us int first stand quiet e =
     let same = one_split (find_run is_ident_continue) (Run is_ident_continue) (finds_run is_ident_continue) p D
     (onto us v) (46 ∷ (W ++ v))
     (record { each = on_integer_end p (onto us v) int; stops = int.second.1 })

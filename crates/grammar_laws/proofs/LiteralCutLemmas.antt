@@ -26,15 +26,15 @@ use Rattle.grammar_laws.proofs.NumberLemmas.{none_moved, float_moved}
 use Rattle.grammar_laws.proofs.IntegerLemmas.{number_moved, number_cut, stop_is_calm}
 use Rattle.grammar_laws.proofs.LiteralLemmas.{quoted_stable}
 use Rattle.grammar_laws.proofs.QuietLemmas.{HasDead, onto_split, quiet_end}
-use Rattle.grammar_laws.proofs.DigitLemmas.{quiet_longer, number_last, behind_dot}
+use Rattle.grammar_laws.proofs.DigitLemmas.{quiet_longer, number_last, pieces_after_dot}
 
 -- ---- no new float begins
 
 -- a stable form keeps its piece, if the new text continues no identifier
-moved : (A : Form) → Stable is_ident_continue A → (x y d r s : List ℕ) → first_passes is_ident_continue s ≡ false
+keeps_piece : (A : Form) → Stable is_ident_continue A → (x y d r s : List ℕ) → first_passes is_ident_continue s ≡ false
     → A x (y ++ (d ++ r))
     → A x (y ++ (d ++ s))
-moved A stable x y d r s ends is =
+keeps_piece A stable x y d r s ends is =
     subst (A x) (append_assoc y d s) (stable x (y ++ d) r s ends (subst (A x) (sym (append_assoc y d r)) is))
 
 -- a dot stays the dot of a number, if some text stays between the dot and the change
@@ -82,7 +82,7 @@ module _ (p v s : List ℕ) (us : List Piece) (int : Stands (Then rule.integer r
       h.whole ∙ ap (λ x. h.front ++ x) (h.second.whole ∙ ap (λ x. x ++ h.second.back) h.second.first.0) in
       let front : p ++ onto us [] ≡ h.front ++ (46 ∷ (h.second.back ++ d)) =
       whole ∙ (ap (λ z. z ++ d) dotted ∙ append_assoc h.front (46 ∷ h.second.back) d) in
-      behind_dot p h.front (h.second.back ++ d) v us
+      pieces_after_dot p h.front (h.second.back ++ d) v us
       (subst (Stands (Then rule.integer rule.end) p) (sym (onto_split us v)) int)
       (on_digits h.front (h.back ++ (d ++ s)) h.first) stand quiet
       (ap (λ z. p ++ z) (onto_split us v) ∙ (sym (append_assoc p (onto us []) v)
@@ -139,14 +139,14 @@ module _ (p v s : List ℕ) (us : List Piece) (int : Stands (Then rule.integer r
       let tail = after.second in
       let stable_digits_run = stable is_ident_continue (rules.Run is_digit_or_underscore) digits_continue in
       anew _ _ _ q (d ++ s) (d ++ v) h
-      (moved Digits stable_digits h.front h.back d s v stops h.first)
+      (keeps_piece Digits stable_digits h.front h.back d s v stops h.first)
       (anew _ _ _ h.back (d ++ s) (d ++ v) h.second
       (h.second.first.0, dot_still h.second.back d s v (dot_inside q d h whole) h.second.first.1)
       (anew _ _ _ h.second.back (d ++ s) (d ++ v) after
-      (moved (Run is_digit_or_underscore) stable_digits_run after.front after.back d s v stops after.first)
+      (keeps_piece (Run is_digit_or_underscore) stable_digits_run after.front after.back d s v stops after.first)
       (anew _ _ _ after.back (d ++ s) (d ++ v) tail
       (elim tail.first [
-        | inl is ↦ inl (moved (Stands rule.exponent) stable_exponent tail.front tail.back d s v stops is)
+        | inl is ↦ inl (keeps_piece (Stands rule.exponent) stable_exponent tail.front tail.back d s v stops is)
         | inr none ↦ inr (
           subst (HasNone (Stands rule.exponent)) (text tail.front tail.back after.back v tail.whole)
               (exponent_still q d h whole

@@ -13,7 +13,8 @@ use Rattle.lexical.specs.Mark.{is_mark, comment_fronts, joint_before, bars_quote
 use Rattle.lexical.specs.Piece.{Kind, Leaf, IsPiece}
 use Rattle.lexical.specs.Rule.{find}
 use Rattle.lexical.specs.Literal.{quoted_literal}
-use Rattle.lexical.specs.PieceFinder.{Found, literal_kind, name_kind, tagged, or_found, found_identifier, found_literal}
+use Rattle.lexical.specs.PieceFinder.{Found, literal_kind, name_kind, and_kind, or_found, found_identifier}
+use Rattle.lexical.specs.PieceFinder.{found_literal}
 use Rattle.lexical.specs.Finder.{Answer}
 use Rattle.lexical.proofs.TextLemmas.{any_cut}
 use Rattle.lexical.proofs.ClassLemmas.{any_of}
@@ -88,7 +89,8 @@ IsNameOrLiteral kind = ((raw : Bool) × (name : List ℕ) × (kind ≡ Leaf (Nam
     ⊎ ((text : List ℕ) × (kind ≡ Leaf (Literal text)))
 
 -- an answer with a kind has that kind
-pub tagged_is : (kind : List ℕ → List ℕ → Kind) (o : Answer) (k : Kind) (p r : List ℕ) → tagged kind o ≡ Some (k, p, r)
+pub tagged_is : (kind : List ℕ → List ℕ → Kind) (o : Answer) (k : Kind) (p r : List ℕ)
+    → and_kind kind o ≡ Some (k, p, r)
     → (k ≡ kind p r) × (o ≡ Some (p, r))
 tagged_is kind None k p r e = absurd (cc)
 tagged_is kind (Some x) k p r e =

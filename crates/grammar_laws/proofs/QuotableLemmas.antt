@@ -8,7 +8,7 @@ use Rattle.lexical.specs.Class.{is_ident_start}
 use Rattle.lexical.specs.Text.{begins_any, first_passes}
 use Rattle.lexical.specs.Form.{Form, Then, Exactly}
 use Rattle.lexical.specs.Mark.{FollowsQuote, follows_quote, quotable_fronts}
-use Rattle.lexical.specs.Quoted.{cooked}
+use Rattle.lexical.specs.Quoted.{cooked_string}
 use Rattle.lexical.specs.RawString.{may_stand_raw, raw_front, raw_string}
 use Rattle.lexical.specs.Rule.{Stands, find}
 use Rattle.lexical.specs.Literal.{QuotedLiteral, Literal, AnyLiteral}
@@ -74,9 +74,9 @@ between_quotes : (p r : List ℕ) → QuotedLiteral p r → Quotable p r
 unfolding unicode_ident find
 between_quotes p r =
     quoted_cases (Quotable p r) p r
-    (each_kind (λ k. Stands (cooked k) p r → Quotable p r) (λ is. front_bars (codes "\"") _ p r is (λ t. refl))
-    (λ is no. begins_one quotable_fronts (cooked kinds.Byte) refl p r is)
-    (λ is no. begins_one quotable_fronts (cooked kinds.C) refl p r is))
+    (each_kind (λ k. Stands (cooked_string k) p r → Quotable p r) (λ is. front_bars (codes "\"") _ p r is (λ t. refl))
+    (λ is no. begins_one quotable_fronts (cooked_string kinds.Byte) refl p r is)
+    (λ is no. begins_one quotable_fronts (cooked_string kinds.C) refl p r is))
     (λ kind. raw_quotable kind p r)
     (λ is. front_bars (codes "'") _ p r is (λ t. refl))
     (λ is. front_bars (codes "b'") _ p r is (λ t. refl))

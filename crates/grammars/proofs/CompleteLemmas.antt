@@ -5,7 +5,7 @@ use Rattle.std.proofs.lemmas.Bool.{both_ways, and_parts, or_cases, or_right}
 use Rattle.grammars.specs.Grammar.{Grammar, Nothing, Sign, To, Mark, Then, Either, Many, Listed, Event, One, Marked}
 use Rattle.grammars.specs.Grammar.{Derives, nothing, sign, to, mark, both, first, second, none, more, empty, last}
 use Rattle.grammars.specs.Grammar.{element, further, signs_of, Reads}
-use Rattle.grammars.specs.Machine.{is_nullable, skipped, ahead, run}
+use Rattle.grammars.specs.Machine.{is_nullable, marks_of_nothing, ahead, run}
 use Rattle.grammars.specs.First.{may_begin, starts}
 use Rattle.grammars.specs.Deterministic.{Apart, Deterministic, AllDeterministic}
 use Rattle.grammars.proofs.SoundLemmas.{signs_append}
@@ -29,7 +29,7 @@ module _ {C N L : Type 0} (rules : N → Grammar C N L) where
         subst (λ x. Extends rules x k (further a s ∷ k)) nothing_skipped
         (skip_extends rules (further a s) k (or_right _ _ refl) begins)
       where
-        nothing_skipped : skipped (further a s) ≡ []
+        nothing_skipped : marks_of_nothing (further a s) ≡ []
         nothing_skipped = rw h refl
 
         begins : Apart (may_begin (further a s)) (starts k)

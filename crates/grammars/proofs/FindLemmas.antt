@@ -3,20 +3,21 @@ use Rattle.std.proofs.Common.{◌≡◌, refl, sym, ◌∙◌, ap, Bool, true, f
 use Rattle.std.proofs.Common.{◌++◌, Some, None, append_assoc, if◌then◌else◌}
 use Rattle.grammars.specs.Grammar.{Grammar, Nothing, Sign, To, Mark, Then, Either, Many, Listed, Event, One}
 use Rattle.grammars.specs.Grammar.{further}
-use Rattle.grammars.specs.Machine.{is_nullable, skipped, Step, or_else, behind, only, into, step, ends, closing}
+use Rattle.grammars.specs.Machine.{is_nullable, marks_of_nothing, Transition, or_else, prepend_events, only, into, step}
+use Rattle.grammars.specs.Machine.{ends, closing}
 use Rattle.grammars.specs.Find.{Found, Past, Stuck, front, and_then, scan}
 
-abbrev plus : {C N L : Type 0} → List (Grammar C N L) → Step C N L → Step C N L
+abbrev plus : {C N L : Type 0} → List (Grammar C N L) → Transition C N L → Transition C N L
 plus k None = None
 plus k (Some t) = Some (t.0, t.1 ++ k)
 
-plus_or : {C N L : Type 0} (k : List (Grammar C N L)) (x y : Step C N L)
+plus_or : {C N L : Type 0} (k : List (Grammar C N L)) (x y : Transition C N L)
     → plus k (or_else x y) ≡ or_else (plus k x) (plus k y)
 plus_or k None y = refl
 plus_or k (Some x) y = refl
 
-plus_only : {C N L : Type 0} (k : List (Grammar C N L)) (b : Bool) (events : List (Event C L)) (x : Step C N L)
-    → plus k (only b (behind events x)) ≡ only b (behind events (plus k x))
+plus_only : {C N L : Type 0} (k : List (Grammar C N L)) (b : Bool) (events : List (Event C L)) (x : Transition C N L)
+    → plus k (only b (prepend_events events x)) ≡ only b (prepend_events events (plus k x))
 plus_only k true events None = refl
 plus_only k true events (Some x) = refl
 plus_only k false events x = refl
@@ -49,7 +50,7 @@ module _ {C N L : Type 0} (rules : N → Grammar C N L) where
   into_append (Then a b) j k c =
       rw (
         plus_or k (into rules a (b ∷ j) c) _,
-        plus_only k (is_nullable a) (skipped a) (into rules b j c),
+        plus_only k (is_nullable a) (marks_of_nothing a) (into rules b j c),
         into_append a (b ∷ j) k c,
         into_append b j k c,
       ) refl
@@ -59,19 +60,21 @@ module _ {C N L : Type 0} (rules : N → Grammar C N L) where
   into_append (Listed a s) j k c = into_append a (further a s ∷ j) k c
 
   step_append : (r k : List (Grammar C N L)) (c : C)
-      → step rules (r ++ k) c ≡ or_else (plus k (step rules r c)) (only (ends r) (behind (closing r) (step rules k c)))
+      → step rules (r ++ k) c ≡ or_else (plus k (step rules r c))
+      (only (ends r) (prepend_events (closing r) (step rules k c)))
   step_append [] k c = go (step rules k c)
     where
-      go : (z : Step C N L) → z ≡ behind [] z
+      go : (z : Transition C N L) → z ≡ prepend_events [] z
       go None = refl
       go (Some z) = refl
   step_append (g ∷ r) k c =
       rw (into_append g r k c, step_append r k c)
-      (same (into rules g r c) (step rules r c) (step rules k c) (is_nullable g) (ends r) (skipped g) (closing r))
+      (same (into rules g r c) (step rules r c) (step rules k c) (is_nullable g) (ends r) (marks_of_nothing g)
+      (closing r))
     where
-      same : (x y z : Step C N L) (e f : Bool) (s t : List (Event C L))
-          → or_else (plus k x) (only e (behind s (or_else (plus k y) (only f (behind t z)))))
-          ≡ or_else (plus k (or_else x (only e (behind s y)))) (only (e && f) (behind (s ++ t) z))
+      same : (x y z : Transition C N L) (e f : Bool) (s t : List (Event C L))
+          → or_else (plus k x) (only e (prepend_events s (or_else (plus k y) (only f (prepend_events t z)))))
+          ≡ or_else (plus k (or_else x (only e (prepend_events s y)))) (only (e && f) (prepend_events (s ++ t) z))
       same (Some x) y z e f s t = refl
       same None y z false f s t = refl
       same None (Some y) z true f s t = refl
@@ -90,9 +93,10 @@ module _ {C N L : Type 0} (rules : N → Grammar C N L) where
   closing_append : (r k : List (Grammar C N L)) → closing (r ++ k) ≡ closing r ++ closing k
   closing_append [] k = refl
   closing_append (g ∷ r) k =
-      ap (λ x. skipped g ++ x) (closing_append r k) ∙ sym (append_assoc (skipped g) (closing r) (closing k))
+      ap (λ x. marks_of_nothing g ++ x) (closing_append r k)
+      ∙ sym (append_assoc (marks_of_nothing g) (closing r) (closing k))
 
-  pub scan_step : (k : List (Grammar C N L)) (c : C) (signs : List C) (s : Step C N L) → step rules k c ≡ s
+  pub scan_step : (k : List (Grammar C N L)) (c : C) (signs : List C) (s : Transition C N L) → step rules k c ≡ s
       → scan rules k (c ∷ signs)
       ≡ elim s as (λ x. Found C L) [
         | None ↦ if ends k then Past (closing k) (c ∷ signs) else Stuck (c ∷ signs)
@@ -136,7 +140,7 @@ module _ {C N L : Type 0} (rules : N → Grammar C N L) where
           scan_step (r ++ k) c signs None (rw (step_append r k c, h, e) refl) ∙ rw (ends_append r k, e) refl
 
       over : ends r ≡ true → step rules r c ≡ None
-          → (z : Step C N L) → step rules k c ≡ z
+          → (z : Transition C N L) → step rules k c ≡ z
           → scan rules (r ++ k) (c ∷ signs) ≡ front (closing r) (scan rules k (c ∷ signs))
       over e h None i =
           scan_step (r ++ k) c signs None (rw (step_append r k c, h, e, i) refl)
@@ -153,7 +157,7 @@ module _ {C N L : Type 0} (rules : N → Grammar C N L) where
           ∙ (sym (front_front (closing r) z.0 (scan rules z.1 signs))
           ∙ ap (front (closing r)) (sym (scan_step k c signs (Some z) i)))
 
-      go : (s : Step C N L) → step rules r c ≡ s
+      go : (s : Transition C N L) → step rules r c ≡ s
           → ((j : List (Grammar C N L)) → scan rules (j ++ k) signs ≡ and_then (scan rules j signs) (scan rules k))
           → scan rules (r ++ k) (c ∷ signs) ≡ and_then (elim s as (λ x. Found C L) [
             | None ↦ if ends r then Past (closing r) (c ∷ signs) else Stuck (c ∷ signs)

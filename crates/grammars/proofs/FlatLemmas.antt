@@ -2,7 +2,7 @@
 use Rattle.std.proofs.Common.{◌≡◌, refl, sym, ◌∙◌, ap, subst, Bool, true, false, ◌&&◌, List, [], ◌∷◌, ◌++◌, Option}
 use Rattle.std.proofs.Common.{Some, None, append_assoc}
 use Rattle.grammars.specs.Grammar.{Grammar, Nothing, Sign, To, Mark, Then, Either, Many, Listed, Event, One, further}
-use Rattle.grammars.specs.Machine.{is_nullable, Step, or_else, behind, only, into, step, ends, walk}
+use Rattle.grammars.specs.Machine.{is_nullable, Transition, or_else, prepend_events, only, into, step, ends, walk}
 
 -- the parts of a grammar, which are several if it is a sequence
 abbrev pub flat : {C N L : Type 0} → Grammar C N L → List (Grammar C N L)
@@ -26,16 +26,17 @@ and_more None k = None
 and_more (Some j) k = Some (j ++ k)
 
 -- the flat form of the stack after a step
-abbrev pub flattened : {C N L : Type 0} → Step C N L → Option (List (Grammar C N L))
-flattened None = None
-flattened (Some taken) = Some (flat_all taken.1)
+abbrev pub flat_stack_after : {C N L : Type 0} → Transition C N L → Option (List (Grammar C N L))
+flat_stack_after None = None
+flat_stack_after (Some taken) = Some (flat_all taken.1)
 
-flattened_or : {C N L : Type 0} (x y : Step C N L) → flattened (or_else x y) ≡ or_else (flattened x) (flattened y)
+flattened_or : {C N L : Type 0} (x y : Transition C N L)
+    → flat_stack_after (or_else x y) ≡ or_else (flat_stack_after x) (flat_stack_after y)
 flattened_or None y = refl
 flattened_or (Some t) y = refl
 
-flattened_only : {C N L : Type 0} (b : Bool) (e : List (Event C L)) (x : Step C N L)
-    → flattened (only b (behind e x)) ≡ only b (flattened x)
+flattened_only : {C N L : Type 0} (b : Bool) (e : List (Event C L)) (x : Transition C N L)
+    → flat_stack_after (only b (prepend_events e x)) ≡ only b (flat_stack_after x)
 flattened_only true e None = refl
 flattened_only true e (Some t) = refl
 flattened_only false e x = refl
@@ -76,17 +77,18 @@ module _ {C N L : Type 0} (rules : N → Grammar C N L) where
   moves k (c ∷ signs) = elim (move k c) [ None ↦ None | Some j ↦ moves j signs ]
 
   into_flat : (g : Grammar C N L) (k : List (Grammar C N L)) (c : C)
-      → flattened (into rules g k c) ≡ and_more (enter g c) (flat_all k)
+      → flat_stack_after (into rules g k c) ≡ and_more (enter g c) (flat_all k)
   into_flat Nothing k c = refl
   into_flat (Sign passes) k c = go (passes c)
     where
-      go : (b : Bool) → flattened (only b (Some (One c ∷ [], k))) ≡ and_more (only b (Some [])) (flat_all k)
+      go : (b : Bool) → flat_stack_after (only b (Some (One c ∷ [], k))) ≡ and_more (only b (Some [])) (flat_all k)
       go true = refl
       go false = refl
   into_flat (To passes n) k c = go (passes c)
     where
       go : (b : Bool)
-          → flattened (only b (Some (One c ∷ [], rules n ∷ k))) ≡ and_more (only b (Some (flat (rules n)))) (flat_all k)
+          → flat_stack_after (only b (Some (One c ∷ [], rules n ∷ k)))
+          ≡ and_more (only b (Some (flat (rules n)))) (flat_all k)
       go true = refl
       go false = refl
   into_flat (Mark l) k c = refl
@@ -138,7 +140,7 @@ module _ {C N L : Type 0} (rules : N → Grammar C N L) where
   move_flat (Listed a s) k c = refl
 
   -- the flat form of a step is the step of the flat stack
-  pub step_flat : (k : List (Grammar C N L)) (c : C) → flattened (step rules k c) ≡ move (flat_all k) c
+  pub step_flat : (k : List (Grammar C N L)) (c : C) → flat_stack_after (step rules k c) ≡ move (flat_all k) c
   step_flat [] c = refl
   step_flat (g ∷ k) c =
       rw (
@@ -172,19 +174,19 @@ module _ {C N L : Type 0} (rules : N → Grammar C N L) where
 
   -- the flat form of a walk is the walk over flat stacks
   pub walk_flat : (k : List (Grammar C N L)) (signs : List C)
-      → flattened (walk rules k signs) ≡ moves (flat_all k) signs
+      → flat_stack_after (walk rules k signs) ≡ moves (flat_all k) signs
   walk_flat k [] = refl
   walk_flat k (c ∷ signs) = go (step rules k c) (step_flat k c) (λ j. walk_flat j signs)
     where
-      later : (e : List (Event C L)) (x : Step C N L) → flattened (behind e x) ≡ flattened x
+      later : (e : List (Event C L)) (x : Transition C N L) → flat_stack_after (prepend_events e x) ≡ flat_stack_after x
       later e None = refl
       later e (Some t) = refl
 
-      go : (s : Step C N L) → flattened s ≡ move (flat_all k) c
-          → ((j : List (Grammar C N L)) → flattened (walk rules j signs) ≡ moves (flat_all j) signs)
-          → flattened (elim s as (λ y. Step C N L) [
+      go : (s : Transition C N L) → flat_stack_after s ≡ move (flat_all k) c
+          → ((j : List (Grammar C N L)) → flat_stack_after (walk rules j signs) ≡ moves (flat_all j) signs)
+          → flat_stack_after (elim s as (λ y. Transition C N L) [
             | None ↦ None
-            | Some taken ↦ behind taken.0 (walk rules taken.1 signs)
+            | Some taken ↦ prepend_events taken.0 (walk rules taken.1 signs)
           ]) ≡ moves (flat_all k) (c ∷ signs)
       go None e f =
           subst (λ m. None ≡ (elim m as

@@ -1,6 +1,6 @@
 -- `Listed a s` derives the same events as `( a ( s a )* s? )?`.
 use Rattle.std.proofs.Common.{◌≡◌, refl, sym, ap, subst, List, [], ◌++◌, append_assoc, append-nil}
-use Rattle.grammars.specs.Lists.{written}
+use Rattle.grammars.specs.Lists.{list_grammar}
 use Rattle.grammars.specs.Grammar.{Grammar, Then, Many, Listed, Event, perhaps}
 use Rattle.grammars.specs.Grammar.{Derives, nothing, both, first, second, none, more, empty, last, element}
 
@@ -9,20 +9,20 @@ module _ {C N L : Type 0} (rules : N → Grammar C N L) (a s : Grammar C N L) wh
   same g x y e d = subst (λ z. Derives rules g z) e d
 
   longer : (front mid back : List (Event C L)) → Derives rules a front → Derives rules s mid
-      → Derives rules (written a s) back
-      → Derives rules (written a s) (front ++ (mid ++ back))
+      → Derives rules (list_grammar a s) back
+      → Derives rules (list_grammar a s) (front ++ (mid ++ back))
   longer front mid _ da ds (second nothing) =
-      same (written a s) _ _ (ap (λ x. front ++ x) (sym (append-nil mid))) (first (both da (both none (first ds))))
+      same (list_grammar a s) _ _ (ap (λ x. front ++ x) (sym (append-nil mid))) (first (both da (both none (first ds))))
   longer front mid _ da ds (first (both {front = f} da2 (both {front = m} {back = p} dm dp))) =
-      same (written a s) (front ++ (((mid ++ f) ++ m) ++ p)) (front ++ (mid ++ (f ++ (m ++ p))))
+      same (list_grammar a s) (front ++ (((mid ++ f) ++ m) ++ p)) (front ++ (mid ++ (f ++ (m ++ p))))
       (rw (append_assoc (mid ++ f) m p, append_assoc mid f (m ++ p)) refl)
       (first (both da (both (more (both ds da2) dm) dp)))
 
   pub listed_written : (events : List (Event C L)) → Derives rules (Listed a s) events
-      → Derives rules (written a s) events
+      → Derives rules (list_grammar a s) events
   listed_written _ empty = second nothing
   listed_written _ (last {events = f} da) =
-      same (written a s) (f ++ ([] ++ [])) f (append-nil f) (first (both da (both none (second nothing))))
+      same (list_grammar a s) (f ++ ([] ++ [])) f (append-nil f) (first (both da (both none (second nothing))))
   listed_written _ (element {front = f} {mid = m} {back = b} da ds dl) = longer f m b da ds (listed_written b dl)
 
   join : (front mid back : List (Event C L)) → Derives rules a front → Derives rules (Many (Then s a)) mid
@@ -36,7 +36,7 @@ module _ {C N L : Type 0} (rules : N → Grammar C N L) (a s : Grammar C N L) wh
       (rw (append_assoc (x ++ f) m back, append_assoc x f (m ++ back)) refl)
       (element da ds (join f m back da2 dm dp))
 
-  pub written_listed : (events : List (Event C L)) → Derives rules (written a s) events
+  pub written_listed : (events : List (Event C L)) → Derives rules (list_grammar a s) events
       → Derives rules (Listed a s) events
   written_listed _ (second nothing) = empty
   written_listed _ (first (both {front = f} da (both {front = m} {back = p} dm dp))) = join f m p da dm dp

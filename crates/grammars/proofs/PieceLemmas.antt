@@ -2,7 +2,7 @@
 use Rattle.std.proofs.Common.{◌≡◌, refl, sym, ◌∙◌, ap, Bool, true, false, List, [], ◌∷◌, ◌++◌, Option, Some, None}
 use Rattle.std.proofs.Common.{append-nil}
 use Rattle.grammars.specs.Grammar.{Grammar, Event}
-use Rattle.grammars.specs.Machine.{Step, ahead, behind, closing, ends, only, run, step, walk}
+use Rattle.grammars.specs.Machine.{Transition, ahead, prepend_events, closing, ends, only, run, step, walk}
 use Rattle.grammars.specs.Deterministic.{IsStart, IsWellFormed}
 use Rattle.grammars.specs.Reading.{IsPiece}
 use Rattle.grammars.proofs.StepLemmas.{if_some}
@@ -32,11 +32,11 @@ module _ {C N L : Type 0} (rules : N → Grammar C N L) where
       later t h (Some ev) e f =
           let w = f ev refl in record {
             taken = (t.0 ++ w.taken.0, w.taken.1);
-            walks = walk_step rules k c signs t h ∙ ap (behind t.0) w.walks;
+            walks = walk_step rules k c signs t h ∙ ap (prepend_events t.0) w.walks;
             ended = w.ended;
           }
 
-      go : (s : Step C N L) → step rules k c ≡ s
+      go : (s : Transition C N L) → step rules k c ≡ s
           → (elim s as (λ y. Option (List (Event C L))) [
             | None ↦ None
             | Some taken ↦ ahead taken.0 (run rules taken.1 signs)
@@ -57,8 +57,8 @@ module _ {C N L : Type 0} (rules : N → Grammar C N L) where
       ((next.0 ++ [], next.1), walk_step rules k c [] next here)
   one_more k (d ∷ signs) c taken next w s = go (step rules k d) refl w (λ j t. one_more j signs c t next)
     where
-      later : (t : List (Event C L) × List (Grammar C N L)) → step rules k d ≡ Some t → (o : Step C N L)
-          → behind t.0 o ≡ Some taken
+      later : (t : List (Event C L) × List (Grammar C N L)) → step rules k d ≡ Some t → (o : Transition C N L)
+          → prepend_events t.0 o ≡ Some taken
           → ((u : List (Event C L) × List (Grammar C N L)) → o ≡ Some u → step rules u.1 c ≡ Some next
           → (last : List (Event C L) × List (Grammar C N L)) × (walk rules t.1 (signs ++ c ∷ []) ≡ Some last))
           → (last : List (Event C L) × List (Grammar C N L)) × (walk rules k (d ∷ (signs ++ c ∷ [])) ≡ Some last)
@@ -66,10 +66,11 @@ module _ {C N L : Type 0} (rules : N → Grammar C N L) where
       later t h (Some u) e f =
           let same : u.1 ≡ taken.1 = cc in
           let at = f u refl (ap (λ j. step rules j c) same ∙ s) in
-          ((t.0 ++ at.0.0, at.0.1), walk_step rules k d (signs ++ c ∷ []) t h ∙ ap (behind t.0) at.1)
+          ((t.0 ++ at.0.0, at.0.1), walk_step rules k d (signs ++ c ∷ []) t h ∙ ap (prepend_events t.0) at.1)
 
-      go : (o : Step C N L) → step rules k d ≡ o
-          → (elim o as (λ y. Step C N L) [ None ↦ None | Some t ↦ behind t.0 (walk rules t.1 signs) ]) ≡ Some taken
+      go : (o : Transition C N L) → step rules k d ≡ o
+          → (elim o as (λ y. Transition C N L) [ None ↦ None | Some t ↦ prepend_events t.0 (walk rules t.1 signs) ])
+          ≡ Some taken
           → ((j : List (Grammar C N L)) (t : List (Event C L) × List (Grammar C N L)) → walk rules j signs ≡ Some t
           → step rules t.1 c ≡ Some next
           → (last : List (Event C L) × List (Grammar C N L)) × (walk rules j (signs ++ c ∷ []) ≡ Some last))
@@ -108,7 +109,7 @@ module _ {C N L : Type 0} (rules : N → Grammar C N L) where
         → step rules w.taken.1 c ≡ None
     piece_stops piece rest p w c more e = go (step rules w.taken.1 c) refl
       where
-        go : (s : Step C N L) → step rules w.taken.1 c ≡ s → s ≡ None
+        go : (s : Transition C N L) → step rules w.taken.1 c ≡ s → s ≡ None
         go None h = refl
         go (Some next) h =
             let at = one_more k piece c w.taken next w.walks h in

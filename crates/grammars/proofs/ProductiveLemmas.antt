@@ -4,20 +4,20 @@ use Rattle.std.proofs.Common.{◌++◌, Some, None, IfSome}
 use Rattle.grammars.specs.Grammar.{Grammar, Nothing, Sign, To, Mark, Then, Either, Many, Listed, Event, One, Marked}
 use Rattle.grammars.specs.Grammar.{Derives, nothing, sign, to, mark, both, first, none, empty}
 use Rattle.grammars.specs.Grammar.{further, Reads}
-use Rattle.grammars.specs.Machine.{is_nullable, skipped, Step, behind, only, into, step}
+use Rattle.grammars.specs.Machine.{is_nullable, marks_of_nothing, Transition, prepend_events, only, into, step}
 use Rattle.grammars.specs.Deterministic.{Productive, AllProductive}
 use Rattle.grammars.proofs.SoundLemmas.{or_holds}
 
 module _ {C N L : Type 0} (rules : N → Grammar C N L) where
-  only_alive : (b : Bool) (x : Step C N L) → IfSome x (λ t. AllProductive t.1)
+  only_alive : (b : Bool) (x : Transition C N L) → IfSome x (λ t. AllProductive t.1)
       → IfSome (only b x) (λ t. AllProductive t.1)
   only_alive true x h = h
   only_alive false x h = tt
 
-  behind_alive : (pre : List (Event C L)) (x : Step C N L) → IfSome x (λ t. AllProductive t.1)
-      → IfSome (behind pre x) (λ t. AllProductive t.1)
-  behind_alive pre None h = tt
-  behind_alive pre (Some x) h = h
+  prepend_events_alive : (pre : List (Event C L)) (x : Transition C N L) → IfSome x (λ t. AllProductive t.1)
+      → IfSome (prepend_events pre x) (λ t. AllProductive t.1)
+  prepend_events_alive pre None h = tt
+  prepend_events_alive pre (Some x) h = h
 
   module _ (rules_alive : (n : N) → Productive (rules n)) where
     pub into_alive : (g : Grammar C N L) (k : List (Grammar C N L)) (c : C) → Productive g → AllProductive k
@@ -28,7 +28,7 @@ module _ {C N L : Type 0} (rules : N → Grammar C N L) where
     into_alive (Mark m) k c h l = tt
     into_alive (Then a b) k c h l =
         or_holds (λ t. AllProductive t.1) (into rules a (b ∷ k) c) _ (into_alive a (b ∷ k) c h.0 (h.1, l))
-        (only_alive (is_nullable a) _ (behind_alive (skipped a) _ (into_alive b k c h.1 l)))
+        (only_alive (is_nullable a) _ (prepend_events_alive (marks_of_nothing a) _ (into_alive b k c h.1 l)))
     into_alive (Either a b) k c h l =
         or_holds (λ t. AllProductive t.1) (into rules a k c) _ (into_alive a k c h.0 l) (into_alive b k c h.1 l)
     into_alive (Many a) k c h l = into_alive a (Many a ∷ k) c h (h, l)
@@ -39,7 +39,7 @@ module _ {C N L : Type 0} (rules : N → Grammar C N L) where
     step_alive [] c l = tt
     step_alive (g ∷ k) c l =
         or_holds (λ t. AllProductive t.1) (into rules g k c) _ (into_alive g k c l.0 l.1)
-        (only_alive (is_nullable g) _ (behind_alive (skipped g) _ (step_alive k c l.1)))
+        (only_alive (is_nullable g) _ (prepend_events_alive (marks_of_nothing g) _ (step_alive k c l.1)))
 
   module _ (samples : (n : N) → (events : List (Event C L)) × Derives rules (rules n) events) where
     pub sample : (g : Grammar C N L) → Productive g → (events : List (Event C L)) × Derives rules g events

@@ -2,7 +2,7 @@
 use Rattle.std.proofs.Common.{◌≡◌, refl, sym, ◌∙◌, ap, subst, Bool, false, List, [], ◌∷◌}
 use Rattle.std.proofs.Common.{◌++◌, Option, Some, None, IfSome, append_assoc, append-nil}
 use Rattle.grammars.specs.Grammar.{Grammar, Event, signs_of, Reads}
-use Rattle.grammars.specs.Machine.{Step, behind, step, ends, ahead, run, walk}
+use Rattle.grammars.specs.Machine.{Transition, prepend_events, step, ends, ahead, run, walk}
 use Rattle.grammars.specs.Reading.{GoesOn, FaultAt, IsReading}
 use Rattle.grammars.proofs.SoundLemmas.{signs_append, Taken, step_sound, ReadsOf, run_sound}
 use Rattle.grammars.specs.Deterministic.{AllDeterministic, Productive, AllProductive, IsWellFormed}
@@ -15,12 +15,12 @@ module _ {C N L : Type 0} (rules : N → Grammar C N L) where
 
   pub walk_step : (k : List (Grammar C N L)) (c : C) (signs : List C) (taken : List (Event C L) × List (Grammar C N L))
       → step rules k c ≡ Some taken
-      → walk rules k (c ∷ signs) ≡ behind taken.0 (walk rules taken.1 signs)
+      → walk rules k (c ∷ signs) ≡ prepend_events taken.0 (walk rules taken.1 signs)
   walk_step k c signs taken e =
-      subst (λ s. (elim s as (λ y. Step C N L) [
+      subst (λ s. (elim s as (λ y. Transition C N L) [
         | None ↦ None
-        | Some t ↦ behind t.0 (walk rules t.1 signs)
-      ]) ≡ behind taken.0 (walk rules taken.1 signs)) (sym e) refl
+        | Some t ↦ prepend_events t.0 (walk rules t.1 signs)
+      ]) ≡ prepend_events taken.0 (walk rules taken.1 signs)) (sym e) refl
 
   -- whether the events of a walk have exactly its signs, and lead from what the stack after it reads to what `k` reads
   abbrev pub Comes : List (Grammar C N L) → List C → List (Event C L) × List (Grammar C N L) → Type 0
@@ -43,8 +43,8 @@ module _ {C N L : Type 0} (rules : N → Grammar C N L) where
       go (step rules k c) refl (step_sound rules k c) (λ j. walk_comes j front)
     where
       later : (t : List (Event C L) × List (Grammar C N L)) → step rules k c ≡ Some t → Taken rules k c t
-          → (x : Step C N L) → IfSome x (Comes t.1 front)
-          → IfSome (behind t.0 x) (Comes k (c ∷ front))
+          → (x : Transition C N L) → IfSome x (Comes t.1 front)
+          → IfSome (prepend_events t.0 x) (Comes k (c ∷ front))
       later t e s None f = tt
       later t e s (Some x) f = (
         signs_append t.0 x.0 ∙ (ap (λ y. y ++ signs_of x.0) s.0 ∙ ap (λ y. c ∷ y) f.0),
@@ -52,11 +52,11 @@ module _ {C N L : Type 0} (rules : N → Grammar C N L) where
         λ signs. run_step rules k c (front ++ signs) t e ∙ (ap (ahead t.0) (f.2 signs) ∙ ahead_ahead t.0 x.0 _),
       )
 
-      go : (s : Step C N L) → step rules k c ≡ s → IfSome s (Taken rules k c)
+      go : (s : Transition C N L) → step rules k c ≡ s → IfSome s (Taken rules k c)
           → ((j : List (Grammar C N L)) → IfSome (walk rules j front) (Comes j front))
-          → IfSome (elim s as (λ y. Step C N L) [
+          → IfSome (elim s as (λ y. Transition C N L) [
             | None ↦ None
-            | Some t ↦ behind t.0 (walk rules t.1 front)
+            | Some t ↦ prepend_events t.0 (walk rules t.1 front)
           ]) (Comes k (c ∷ front))
       go None e t f = tt
       go (Some t) e s f = later t e s (walk rules t.1 front) (f t.1)
@@ -67,16 +67,16 @@ module _ {C N L : Type 0} (rules : N → Grammar C N L) where
   walk_alive all k [] l = l
   walk_alive all k (c ∷ front) l = go (step rules k c) (step_alive rules all k c l) (λ j h. walk_alive all j front h)
     where
-      later : (pre : List (Event C L)) (x : Step C N L) → IfSome x (λ t. AllProductive t.1)
-          → IfSome (behind pre x) (λ t. AllProductive t.1)
+      later : (pre : List (Event C L)) (x : Transition C N L) → IfSome x (λ t. AllProductive t.1)
+          → IfSome (prepend_events pre x) (λ t. AllProductive t.1)
       later pre None h = tt
       later pre (Some x) h = h
 
-      go : (s : Step C N L) → IfSome s (λ t. AllProductive t.1)
+      go : (s : Transition C N L) → IfSome s (λ t. AllProductive t.1)
           → ((j : List (Grammar C N L)) → AllProductive j → IfSome (walk rules j front) (λ t. AllProductive t.1))
-          → IfSome (elim s as (λ y. Step C N L) [
+          → IfSome (elim s as (λ y. Transition C N L) [
             | None ↦ None
-            | Some t ↦ behind t.0 (walk rules t.1 front)
+            | Some t ↦ prepend_events t.0 (walk rules t.1 front)
           ]) (λ t. AllProductive t.1)
       go None h f = tt
       go (Some t) h f = later t.0 (walk rules t.1 front) (f t.1 h)

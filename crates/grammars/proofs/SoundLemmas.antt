@@ -6,7 +6,8 @@ use Rattle.std.proofs.lemmas.Bool.{both_ways, and_parts, or_cases}
 use Rattle.grammars.specs.Grammar.{Grammar, Nothing, Sign, To, Mark, Then, Either, Many, Listed, Event, One, Marked}
 use Rattle.grammars.specs.Grammar.{Derives, nothing, sign, to, mark, both, first, second, none, more, empty, last}
 use Rattle.grammars.specs.Grammar.{element, further, signs_of, Reads}
-use Rattle.grammars.specs.Machine.{is_nullable, skipped, Step, or_else, behind, only, into, step, ends, closing}
+use Rattle.grammars.specs.Machine.{is_nullable, marks_of_nothing, Transition, or_else, prepend_events, only, into, step}
+use Rattle.grammars.specs.Machine.{ends, closing}
 use Rattle.grammars.specs.Machine.{ahead, run}
 
 -- ---- optional values
@@ -66,7 +67,7 @@ module _ {C N L : Type 0} (rules : N → Grammar C N L) where
         q.4,
       )
 
-  pub skips : (g : Grammar C N L) → is_nullable g ≡ true → Derives rules g (skipped g)
+  pub skips : (g : Grammar C N L) → is_nullable g ≡ true → Derives rules g (marks_of_nothing g)
   skips Nothing h = nothing
   skips (Sign passes) h = absurd (both_ways _ refl h)
   skips (To passes n) h = absurd (both_ways _ refl h)
@@ -74,9 +75,9 @@ module _ {C N L : Type 0} (rules : N → Grammar C N L) where
   skips (Then a b) h = both (skips a (and_parts _ _ h).0) (skips b (and_parts _ _ h).1)
   skips (Either a b) h = go (is_nullable a) refl (skips a) (skips b)
     where
-      go : (e : Bool) → is_nullable a ≡ e → (is_nullable a ≡ true → Derives rules a (skipped a))
-          → (is_nullable b ≡ true → Derives rules b (skipped b))
-          → Derives rules (Either a b) (if e then skipped a else skipped b)
+      go : (e : Bool) → is_nullable a ≡ e → (is_nullable a ≡ true → Derives rules a (marks_of_nothing a))
+          → (is_nullable b ≡ true → Derives rules b (marks_of_nothing b))
+          → Derives rules (Either a b) (if e then marks_of_nothing a else marks_of_nothing b)
       go true e f g = first (f e)
       go false e f g = second (g (elim (or_cases _ _ h) [ inl x ↦ absurd (both_ways _ e x) | inr y ↦ y ]))
   skips (Many a) h = none
@@ -91,34 +92,42 @@ module _ {C N L : Type 0} (rules : N → Grammar C N L) where
       (signs_of taken.0 ≡ c ∷ [])
       × ((events : List (Event C L)) → Reads rules taken.1 events → Reads rules k (taken.0 ++ events))
 
-  taken_behind : (g : Grammar C N L) (k : List (Grammar C N L)) (c : C) → is_nullable g ≡ true
-      → (x : Step C N L) → IfSome x (Taken k c)
-      → signs_of (skipped g) ≡ []
-      → IfSome (behind (skipped g) x) (Taken (g ∷ k) c)
-  taken_behind g k c h None t e = tt
-  taken_behind g k c h (Some x) t e = (
-    signs_append (skipped g) x.0 ∙ (ap (λ y. y ++ signs_of x.0) e ∙ t.0),
-    λ events r. (skipped g, x.0 ++ events, append_assoc (skipped g) x.0 events, skips g h, t.1 events r),
+  taken_with_events : (g : Grammar C N L) (k : List (Grammar C N L)) (c : C) → is_nullable g ≡ true
+      → (x : Transition C N L) → IfSome x (Taken k c)
+      → signs_of (marks_of_nothing g) ≡ []
+      → IfSome (prepend_events (marks_of_nothing g) x) (Taken (g ∷ k) c)
+  taken_with_events g k c h None t e = tt
+  taken_with_events g k c h (Some x) t e = (
+    signs_append (marks_of_nothing g) x.0 ∙ (ap (λ y. y ++ signs_of x.0) e ∙ t.0),
+    λ events r. (
+      marks_of_nothing g,
+      x.0
+          ++ events,
+      append_assoc (marks_of_nothing g) x.0 events,
+      skips g h,
+      t.1 events r,
+    ),
   )
 
-  pub skipped_signs : (g : Grammar C N L) → signs_of (skipped g) ≡ []
+  pub skipped_signs : (g : Grammar C N L) → signs_of (marks_of_nothing g) ≡ []
   skipped_signs Nothing = refl
   skipped_signs (Sign passes) = refl
   skipped_signs (To passes n) = refl
   skipped_signs (Mark l) = refl
   skipped_signs (Then a b) =
-      signs_append (skipped a) (skipped b) ∙ (ap (λ x. x ++ signs_of (skipped b)) (skipped_signs a) ∙ skipped_signs b)
+      signs_append (marks_of_nothing a) (marks_of_nothing b)
+      ∙ (ap (λ x. x ++ signs_of (marks_of_nothing b)) (skipped_signs a) ∙ skipped_signs b)
   skipped_signs (Either a b) = go (is_nullable a) (skipped_signs a) (skipped_signs b)
     where
-      go : (e : Bool) → signs_of (skipped a) ≡ [] → signs_of (skipped b) ≡ []
-          → signs_of (if e then skipped a else skipped b) ≡ []
+      go : (e : Bool) → signs_of (marks_of_nothing a) ≡ [] → signs_of (marks_of_nothing b) ≡ []
+          → signs_of (if e then marks_of_nothing a else marks_of_nothing b) ≡ []
       go true f g = f
       go false f g = g
   skipped_signs (Many a) = refl
   skipped_signs (Listed a s) = refl
 
   taken_map : (k k2 : List (Grammar C N L)) (c : C)
-      → ((events : List (Event C L)) → Reads rules k events → Reads rules k2 events) → (x : Step C N L)
+      → ((events : List (Event C L)) → Reads rules k events → Reads rules k2 events) → (x : Transition C N L)
       → IfSome x (Taken k c)
       → IfSome x (Taken k2 c)
   taken_map k k2 c f None t = tt
@@ -138,7 +147,7 @@ module _ {C N L : Type 0} (rules : N → Grammar C N L) where
       (taken_map (a ∷ b ∷ k) (Then a b ∷ k) c (reads_both a b k) _ (into_sound a (b ∷ k) c))
       (only_holds _ (is_nullable a) _
       (λ h. taken_map (a ∷ b ∷ k) (Then a b ∷ k) c (reads_both a b k) _
-      (taken_behind a (b ∷ k) c h _ (into_sound b k c) (skipped_signs a))))
+      (taken_with_events a (b ∷ k) c h _ (into_sound b k c) (skipped_signs a))))
   into_sound (Either a b) k c =
       or_holds _ (into rules a k c) _
       (taken_map (a ∷ k) (Either a b ∷ k) c (reads_first a b k) _ (into_sound a k c))
@@ -152,7 +161,7 @@ module _ {C N L : Type 0} (rules : N → Grammar C N L) where
   step_sound [] c = tt
   step_sound (g ∷ k) c =
       or_holds _ (into rules g k c) _ (into_sound g k c)
-      (only_holds _ (is_nullable g) _ (λ h. taken_behind g k c h _ (step_sound k c) (skipped_signs g)))
+      (only_holds _ (is_nullable g) _ (λ h. taken_with_events g k c h _ (step_sound k c) (skipped_signs g)))
 
   -- ---- ends
 
@@ -161,8 +170,9 @@ module _ {C N L : Type 0} (rules : N → Grammar C N L) where
   ends_sound (g ∷ k) h =
       let parts = and_parts _ _ h in
       let more = ends_sound k parts.1 in (
-        (skipped g, closing k, refl, skips g parts.0, more.0),
-        signs_append (skipped g) (closing k) ∙ (ap (λ x. x ++ signs_of (closing k)) (skipped_signs g) ∙ more.1),
+        (marks_of_nothing g, closing k, refl, skips g parts.0, more.0),
+        signs_append (marks_of_nothing g) (closing k)
+            ∙ (ap (λ x. x ++ signs_of (closing k)) (skipped_signs g) ∙ more.1),
       )
 
   -- whether the grammars read these events, and the events have exactly these signs
@@ -180,7 +190,7 @@ module _ {C N L : Type 0} (rules : N → Grammar C N L) where
       with_more x t (Some after) r =
           (t.1 after r.0, signs_append x.0 after ∙ (ap (λ y. y ++ signs_of after) t.0 ∙ ap (λ y. c ∷ y) r.1))
 
-      go : (x : Step C N L) → IfSome x (Taken k c)
+      go : (x : Transition C N L) → IfSome x (Taken k c)
           → ((j : List (Grammar C N L)) → IfSome (run rules j signs) (ReadsOf j signs))
           → IfSome (elim x as (λ y. Option (List (Event C L))) [
             | None ↦ None

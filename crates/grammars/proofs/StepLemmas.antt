@@ -6,7 +6,8 @@ use Rattle.std.proofs.lemmas.Bool.{both_ways, and_parts, and_from, and_cases, or
 use Rattle.std.proofs.lemmas.Bool.{false_from_ne_true}
 use Rattle.grammars.specs.Grammar.{Grammar, Nothing, Sign, To, Mark, Then, Either, Many, Listed, Event}
 use Rattle.grammars.specs.Grammar.{further}
-use Rattle.grammars.specs.Machine.{is_nullable, skipped, Step, or_else, behind, only, into, step, ends, closing}
+use Rattle.grammars.specs.Machine.{is_nullable, marks_of_nothing, Transition, or_else, prepend_events, only, into, step}
+use Rattle.grammars.specs.Machine.{ends, closing}
 use Rattle.grammars.specs.Machine.{ahead, run}
 use Rattle.grammars.specs.First.{may_begin, begins, starts}
 use Rattle.grammars.specs.Deterministic.{Apart, Within, Deterministic}
@@ -55,8 +56,9 @@ only_none : {T : Type 0} (b : Bool) (x : Option T) → (b ≡ true → x ≡ Non
 only_none true x h = h refl
 only_none false x h = refl
 
-behind_none : {C N L : Type 0} (events : List (Event C L)) (x : Step C N L) → x ≡ None → behind events x ≡ None
-behind_none events x h = rw h refl
+prepend_events_none : {C N L : Type 0} (events : List (Event C L)) (x : Transition C N L) → x ≡ None
+    → prepend_events events x ≡ None
+prepend_events_none events x h = rw h refl
 
 or_none : {T : Type 0} (x y : Option T) → x ≡ None → y ≡ None → or_else x y ≡ None
 or_none x y h i = rw (h, i) refl
@@ -72,11 +74,13 @@ if_some x v P e h = subst (λ y. IfSome y P) e h
 module _ {C N L : Type 0} (rules : N → Grammar C N L) where
   -- ---- where there is no step
 
-  skip_none : (g : Grammar C N L) (p : Bool) (x : Step C N L) → (is_nullable g && p) ≡ false → (p ≡ false → x ≡ None)
-      → only (is_nullable g) (behind (skipped g) x) ≡ None
+  skip_none : (g : Grammar C N L) (p : Bool) (x : Transition C N L) → (is_nullable g && p) ≡ false
+      → (p ≡ false → x ≡ None)
+      → only (is_nullable g) (prepend_events (marks_of_nothing g) x) ≡ None
   skip_none g p x h f =
       only_none (is_nullable g) _
-      (λ e. behind_none (skipped g) x (f (elim (and_cases _ _ h) [ inl x ↦ absurd (both_ways _ x e) | inr y ↦ y ])))
+      (λ e. prepend_events_none (marks_of_nothing g) x
+      (f (elim (and_cases _ _ h) [ inl x ↦ absurd (both_ways _ x e) | inr y ↦ y ])))
 
   pub into_none : (g : Grammar C N L) (k : List (Grammar C N L)) (c : C) → may_begin g c ≡ false
       → into rules g k c ≡ None
@@ -141,7 +145,7 @@ module _ {C N L : Type 0} (rules : N → Grammar C N L) where
       later a None = tt
       later a (Some v) = ap Some (append_assoc pre a v)
 
-      go : (s : Step C N L) → IfSome s (λ taken. step rules k2 c ≡ Some (pre ++ taken.0, taken.1))
+      go : (s : Transition C N L) → IfSome s (λ taken. step rules k2 c ≡ Some (pre ++ taken.0, taken.1))
           → IfSome (elim s as (λ y. Option (List (Event C L))) [
             | None ↦ None
             | Some taken ↦ ahead taken.0 (run rules taken.1 signs)
@@ -157,15 +161,15 @@ module _ {C N L : Type 0} (rules : N → Grammar C N L) where
   -- no sign of a grammar is read
   pub skip_extends : (g : Grammar C N L) (k : List (Grammar C N L)) → is_nullable g ≡ true
       → Apart (may_begin g) (starts k)
-      → Extends (skipped g) k (g ∷ k)
+      → Extends (marks_of_nothing g) k (g ∷ k)
   skip_extends g k h away = record {
     ending = λ e. (and_from _ _ h e, refl);
     steps = λ c. at c (step rules k c) (step_starts k c);
   }
     where
-      at : (c : C) (s : Step C N L) → IfSome s (λ taken. starts k c ≡ true)
-          → IfSome s (λ taken. or_else (into rules g k c) (only (is_nullable g) (behind (skipped g) s))
-          ≡ Some (skipped g ++ taken.0, taken.1))
+      at : (c : C) (s : Transition C N L) → IfSome s (λ taken. starts k c ≡ true)
+          → IfSome s (λ taken. or_else (into rules g k c) (only (is_nullable g) (prepend_events (marks_of_nothing g) s))
+          ≡ Some (marks_of_nothing g ++ taken.0, taken.1))
       at c None f = tt
       at c (Some taken) f =
           rw (into_none g k c (false_from_ne_true _ (λ x. away c x f)), h) refl
@@ -176,15 +180,16 @@ module _ {C N L : Type 0} (rules : N → Grammar C N L) where
     ending = λ e.
         let x = and_parts (is_nullable a) (is_nullable b && ends k) e in
         let y = and_parts (is_nullable b) (ends k) x.1 in
-        (and_from _ _ (and_from _ _ x.0 y.0) y.1, append_assoc (skipped a) (skipped b) (closing k));
+        (and_from _ _ (and_from _ _ x.0 y.0) y.1, append_assoc (marks_of_nothing a) (marks_of_nothing b) (closing k));
     steps = λ c. same_answer _ _
-        (same (into rules a (b ∷ k) c) (into rules b k c) (step rules k c) (is_nullable a) (is_nullable b) (skipped a)
-        (skipped b));
+        (same (into rules a (b ∷ k) c) (into rules b k c) (step rules k c) (is_nullable a) (is_nullable b)
+        (marks_of_nothing a)
+        (marks_of_nothing b));
   }
     where
-      same : (x y z : Step C N L) (ea eb : Bool) (sa sb : List (Event C L))
-          → or_else x (only ea (behind sa (or_else y (only eb (behind sb z)))))
-          ≡ or_else (or_else x (only ea (behind sa y))) (only (ea && eb) (behind (sa ++ sb) z))
+      same : (x y z : Transition C N L) (ea eb : Bool) (sa sb : List (Event C L))
+          → or_else x (only ea (prepend_events sa (or_else y (only eb (prepend_events sb z)))))
+          ≡ or_else (or_else x (only ea (prepend_events sa y))) (only (ea && eb) (prepend_events (sa ++ sb) z))
       same (Some x) y z ea eb sa sb = refl
       same None y z false eb sa sb = refl
       same None (Some y) z true eb sa sb = refl
@@ -202,15 +207,17 @@ module _ {C N L : Type 0} (rules : N → Grammar C N L) where
   }
     where
       ending : (ea eb : Bool) (end : List (Event C L)) → ea ≡ true → ends k ≡ true
-          → (((ea || eb) && ends k) ≡ true) × (((if ea then skipped a else skipped b) ++ end) ≡ skipped a ++ end)
+          → (((ea || eb) && ends k) ≡ true)
+          × (((if ea then marks_of_nothing a else marks_of_nothing b) ++ end) ≡ marks_of_nothing a ++ end)
       ending true eb end h e = (e, refl)
       ending false eb end h e = absurd (both_ways _ refl h)
 
-      at : (c : C) (x : Step C N L) (ea : Bool) → is_nullable a ≡ ea → (z : Step C N L)
+      at : (c : C) (x : Transition C N L) (ea : Bool) → is_nullable a ≡ ea → (z : Transition C N L)
           → IfSome z (λ taken. starts k c ≡ true)
-          → IfSome (or_else x (only ea (behind (skipped a) z)))
+          → IfSome (or_else x (only ea (prepend_events (marks_of_nothing a) z)))
           (λ taken. or_else (or_else x (into rules b k c))
-          (only (ea || is_nullable b) (behind (if ea then skipped a else skipped b) z)) ≡ Some (taken.0, taken.1))
+          (only (ea || is_nullable b) (prepend_events (if ea then marks_of_nothing a else marks_of_nothing b) z))
+          ≡ Some (taken.0, taken.1))
       at c (Some x) ea h z f = refl
       at c None false h z f = tt
       at c None true h None f = tt
@@ -230,16 +237,18 @@ module _ {C N L : Type 0} (rules : N → Grammar C N L) where
   }
     where
       ending : (ea eb : Bool) (end : List (Event C L)) → (ea ≡ true → ⊥) → eb ≡ true → ends k ≡ true
-          → (((ea || eb) && ends k) ≡ true) × (((if ea then skipped a else skipped b) ++ end) ≡ skipped b ++ end)
+          → (((ea || eb) && ends k) ≡ true)
+          × (((if ea then marks_of_nothing a else marks_of_nothing b) ++ end) ≡ marks_of_nothing b ++ end)
       ending true eb end f h e = absurd (f refl)
       ending false eb end f h e = (and_from _ _ h e, refl)
 
-      at : (c : C) (y : Step C N L) → IfSome y (λ taken. may_begin b c ≡ true) → (ea eb : Bool)
-          → is_nullable a ≡ ea → is_nullable b ≡ eb → (z : Step C N L)
+      at : (c : C) (y : Transition C N L) → IfSome y (λ taken. may_begin b c ≡ true) → (ea eb : Bool)
+          → is_nullable a ≡ ea → is_nullable b ≡ eb → (z : Transition C N L)
           → IfSome z (λ taken. starts k c ≡ true)
-          → IfSome (or_else y (only eb (behind (skipped b) z)))
+          → IfSome (or_else y (only eb (prepend_events (marks_of_nothing b) z)))
           (λ taken. or_else (or_else (into rules a k c) y)
-          (only (ea || eb) (behind (if ea then skipped a else skipped b) z)) ≡ Some (taken.0, taken.1))
+          (only (ea || eb) (prepend_events (if ea then marks_of_nothing a else marks_of_nothing b) z))
+          ≡ Some (taken.0, taken.1))
       at c (Some y) g ea eb h i z f =
           rw (into_none a k c (false_from_ne_true _ (λ x. away c (or_left _ _ x) (or_left _ _ g)))) refl
       at c None g ea false h i z f = tt
@@ -258,9 +267,10 @@ module _ {C N L : Type 0} (rules : N → Grammar C N L) where
     steps = λ c. at c (into rules a j c) (into rules g k c) (same c) (is_nullable a) h;
   }
     where
-      at : (c : C) (x y : Step C N L) → x ≡ y → (ea : Bool) → ea ≡ false
-          → IfSome (or_else x (only ea (behind (skipped a) (step rules j c))))
-          (λ taken. or_else y (only (is_nullable g) (behind (skipped g) (step rules k c))) ≡ Some (taken.0, taken.1))
+      at : (c : C) (x y : Transition C N L) → x ≡ y → (ea : Bool) → ea ≡ false
+          → IfSome (or_else x (only ea (prepend_events (marks_of_nothing a) (step rules j c))))
+          (λ taken. or_else y (only (is_nullable g) (prepend_events (marks_of_nothing g) (step rules k c)))
+          ≡ Some (taken.0, taken.1))
       at c None y e true h = absurd (both_ways _ h refl)
       at c None y e false h = tt
       at c (Some x) y e ea h = rw (← e) refl
@@ -269,8 +279,8 @@ module _ {C N L : Type 0} (rules : N → Grammar C N L) where
       → into rules s (Listed a s ∷ k) c ≡ into rules (further a s) k c
   further_into a s k c h = go (into rules s (Listed a s ∷ k) c) (is_nullable s) h
     where
-      go : (x : Step C N L) (es : Bool) → es ≡ false
-          → x ≡ or_else (or_else x (only es (behind (skipped s) (into rules (Listed a s) k c)))) None
+      go : (x : Transition C N L) (es : Bool) → es ≡ false
+          → x ≡ or_else (or_else x (only es (prepend_events (marks_of_nothing s) (into rules (Listed a s) k c)))) None
       go (Some x) es h = refl
       go None true h = absurd (both_ways _ h refl)
       go None false h = refl

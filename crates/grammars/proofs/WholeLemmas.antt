@@ -2,7 +2,7 @@
 use Rattle.std.proofs.Common.{◌≡◌, refl, sym, ◌∙◌, ap, subst, Bool, true, false, List, [], ◌∷◌, ◌++◌, Some, None}
 use Rattle.std.proofs.Common.{append_assoc, append-nil, if◌then◌else◌}
 use Rattle.grammars.specs.Grammar.{Grammar, Event}
-use Rattle.grammars.specs.Machine.{Step, behind, step, ends, closing, ahead, run, walk}
+use Rattle.grammars.specs.Machine.{Transition, prepend_events, step, ends, closing, ahead, run, walk}
 use Rattle.grammars.specs.Reading.{FaultAt, IsReading}
 use Rattle.grammars.specs.Find.{Found, Past, Stuck, front, scan}
 use Rattle.grammars.specs.Deterministic.{AllDeterministic, AllProductive, IsWellFormed}
@@ -42,7 +42,7 @@ module _ {C N L : Type 0} (rules : N → Grammar C N L) where
     before = c ∷ s.before;
     taken = (t.0 ++ s.taken.0, s.taken.1);
     whole = ap (λ x. c ∷ x) s.whole;
-    walks = walk_step rules k c s.before t e ∙ ap (behind t.0) s.walks;
+    walks = walk_step rules k c s.before t e ∙ ap (prepend_events t.0) s.walks;
     stops = s.stops;
   }
 
@@ -60,7 +60,7 @@ module _ {C N L : Type 0} (rules : N → Grammar C N L) where
       )
       later t e (Stuck left) s = (stopped_on k c signs left t e s.0, s.1)
 
-      go : (s : Step C N L) → step rules k c ≡ s
+      go : (s : Transition C N L) → step rules k c ≡ s
           → ((j : List (Grammar C N L)) → Ended j signs (scan rules j signs))
           → Ended k (c ∷ signs) (elim s as (λ x. Found C L) [
             | None ↦ if ends k then Past (closing k) (c ∷ signs) else Stuck (c ∷ signs)

@@ -4,7 +4,8 @@ use Rattle.std.proofs.Common.{◌++◌, Option, Some, None, append_assoc, append
 use Rattle.std.proofs.lemmas.Bool.{both_ways}
 use Rattle.grammars.specs.Grammar.{Grammar, Nothing, Sign, To, Mark, Then, Either, Many, Listed, Event, One, Marked}
 use Rattle.grammars.specs.Grammar.{further}
-use Rattle.grammars.specs.Machine.{is_nullable, skipped, Step, or_else, behind, only, into, step, ends, closing}
+use Rattle.grammars.specs.Machine.{is_nullable, marks_of_nothing, Transition, or_else, prepend_events, only, into, step}
+use Rattle.grammars.specs.Machine.{ends, closing}
 use Rattle.grammars.specs.First.{may_begin, heads}
 use Rattle.grammars.specs.Find.{Past, Stuck, front, and_then, scan, find}
 use Rattle.grammars.proofs.StepLemmas.{into_none}
@@ -18,8 +19,8 @@ some_or : {T : Type 0} (x y : Option T) → is_some (or_else x y) ≡ (is_some x
 some_or None y = refl
 some_or (Some x) y = refl
 
-some_only : {C N L : Type 0} (b : Bool) (e : List (Event C L)) (x : Step C N L)
-    → is_some (only b (behind e x)) ≡ (b && is_some x)
+some_only : {C N L : Type 0} (b : Bool) (e : List (Event C L)) (x : Transition C N L)
+    → is_some (only b (prepend_events e x)) ≡ (b && is_some x)
 some_only true e None = refl
 some_only true e (Some x) = refl
 some_only false e x = refl
@@ -36,7 +37,7 @@ module _ {C N L : Type 0} (rules : N → Grammar C N L) where
   into_is (Mark l) k c = refl
   into_is (Then a b) k c =
       some_or (into rules a (b ∷ k) c) _
-      ∙ rw (some_only (is_nullable a) (skipped a) (into rules b k c), into_is a (b ∷ k) c, into_is b k c) refl
+      ∙ rw (some_only (is_nullable a) (marks_of_nothing a) (into rules b k c), into_is a (b ∷ k) c, into_is b k c) refl
   into_is (Either a b) k c = some_or (into rules a k c) _ ∙ rw (into_is a k c, into_is b k c) refl
   into_is (Many a) k c = into_is a (Many a ∷ k) c
   into_is (Listed a s) k c = into_is a (further a s ∷ k) c
@@ -65,12 +66,12 @@ module _ {C N L : Type 0} (rules : N → Grammar C N L) where
       scan_step rules (g ∷ []) c signs None (rw (into_none rules g [] c h, e) refl) ∙ rw e refl
 
   pub find_skips : (g : Grammar C N L) (signs : List C) → heads g signs ≡ false → is_nullable g ≡ true
-      → find rules g signs ≡ Past (skipped g) signs
+      → find rules g signs ≡ Past (marks_of_nothing g) signs
   unfolding find
-  find_skips g [] h e = rw e (ap (λ x. Past x []) (append-nil (skipped g)))
+  find_skips g [] h e = rw e (ap (λ x. Past x []) (append-nil (marks_of_nothing g)))
   find_skips g (c ∷ signs) h e =
       scan_step rules (g ∷ []) c signs None (rw (into_none rules g [] c h, e) refl)
-      ∙ rw e (ap (λ x. Past x (c ∷ signs)) (append-nil (skipped g)))
+      ∙ rw e (ap (λ x. Past x (c ∷ signs)) (append-nil (marks_of_nothing g)))
 
   -- ---- constructor by constructor
 
@@ -99,12 +100,13 @@ module _ {C N L : Type 0} (rules : N → Grammar C N L) where
       scan_step rules (To passes n ∷ []) c signs (Some (One c ∷ [], rules n ∷ [])) (rw h refl)
 
   then_step : (a b : Grammar C N L) (c : C) → step rules (Then a b ∷ []) c ≡ step rules (a ∷ b ∷ []) c
-  then_step a b c = go (into rules a (b ∷ []) c) (into rules b [] c) (is_nullable a) (is_nullable b) (skipped a)
-      (skipped b)
+  then_step a b c = go (into rules a (b ∷ []) c) (into rules b [] c) (is_nullable a) (is_nullable b)
+      (marks_of_nothing a)
+      (marks_of_nothing b)
     where
-      go : (x y : Step C N L) (ea eb : Bool) (sa sb : List (Event C L))
-          → or_else (or_else x (only ea (behind sa y))) (only (ea && eb) None)
-          ≡ or_else x (only ea (behind sa (or_else y (only eb None))))
+      go : (x y : Transition C N L) (ea eb : Bool) (sa sb : List (Event C L))
+          → or_else (or_else x (only ea (prepend_events sa y))) (only (ea && eb) None)
+          ≡ or_else x (only ea (prepend_events sa (or_else y (only eb None))))
       go (Some x) y ea eb sa sb = refl
       go None y false eb sa sb = refl
       go None (Some y) true eb sa sb = refl
@@ -120,11 +122,11 @@ module _ {C N L : Type 0} (rules : N → Grammar C N L) where
           → (if ends (Then a b ∷ []) then Past (closing (Then a b ∷ [])) w else Stuck w)
           ≡ (if ends (a ∷ b ∷ []) then Past (closing (a ∷ b ∷ [])) w else Stuck w)
       ending w =
-          rw (append_assoc (skipped a) (skipped b) []) (go (is_nullable a) (is_nullable b))
+          rw (append_assoc (marks_of_nothing a) (marks_of_nothing b) []) (go (is_nullable a) (is_nullable b))
         where
           go : (x y : Bool)
-              → (if (x && y) && true then Past (skipped a ++ (skipped b ++ [])) w else Stuck w)
-              ≡ (if x && (y && true) then Past (skipped a ++ (skipped b ++ [])) w else Stuck w)
+              → (if (x && y) && true then Past (marks_of_nothing a ++ (marks_of_nothing b ++ [])) w else Stuck w)
+              ≡ (if x && (y && true) then Past (marks_of_nothing a ++ (marks_of_nothing b ++ [])) w else Stuck w)
           go true y = refl
           go false y = refl
 
@@ -132,7 +134,7 @@ module _ {C N L : Type 0} (rules : N → Grammar C N L) where
       split [] = ending []
       split (c ∷ signs) = at (step rules (a ∷ b ∷ []) c) refl
         where
-          at : (s : Step C N L) → step rules (a ∷ b ∷ []) c ≡ s
+          at : (s : Transition C N L) → step rules (a ∷ b ∷ []) c ≡ s
               → scan rules (Then a b ∷ []) (c ∷ signs) ≡ scan rules (a ∷ b ∷ []) (c ∷ signs)
           at None e =
               scan_step rules (Then a b ∷ []) c signs None (then_step a b c ∙ e)

@@ -4,7 +4,7 @@ use Rattle.grammars.specs.Grammar.{Grammar, Event, Derives, Listed, Reads, signs
 use Rattle.grammars.specs.Machine.{run}
 use Rattle.grammars.specs.Deterministic.{Deterministic, AllDeterministic, Productive, IsWellFormed, IsStart}
 use Rattle.grammars.specs.Find.{Past, Stuck, scan}
-use Rattle.grammars.specs.Lists.{written}
+use Rattle.grammars.specs.Lists.{list_grammar}
 use Rattle.grammars.specs.Reading.{FaultAt, IsReading}
 use Rattle.grammars.specs.Tests.{IsEvery, IsAny, is_deterministic, is_productive}
 
@@ -82,4 +82,4 @@ module _ (C N L : Type 0) where
   -- `Listed a s` derives the same events as `( a ( s a )* s? )?`
   abbrev pub ListIsWritten : Type 0
   ListIsWritten = (rules : N → Grammar C N L) (a s : Grammar C N L) (events : List (Event C L))
-      → Derives rules (Listed a s) events ↔ Derives rules (written a s) events
+      → Derives rules (Listed a s) events ↔ Derives rules (list_grammar a s) events

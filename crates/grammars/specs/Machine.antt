@@ -16,19 +16,19 @@ is_nullable (Many a) = true
 is_nullable (Listed a s) = true
 
 -- the marks that the grammar derives without a sign, if it can
-abbrev pub skipped : {C N L : Type 0} → Grammar C N L → List (Event C L)
-skipped Nothing = []
-skipped (Sign passes) = []
-skipped (To passes n) = []
-skipped (Mark l) = Marked l ∷ []
-skipped (Then a b) = skipped a ++ skipped b
-skipped (Either a b) = if is_nullable a then skipped a else skipped b
-skipped (Many a) = []
-skipped (Listed a s) = []
+abbrev pub marks_of_nothing : {C N L : Type 0} → Grammar C N L → List (Event C L)
+marks_of_nothing Nothing = []
+marks_of_nothing (Sign passes) = []
+marks_of_nothing (To passes n) = []
+marks_of_nothing (Mark l) = Marked l ∷ []
+marks_of_nothing (Then a b) = marks_of_nothing a ++ marks_of_nothing b
+marks_of_nothing (Either a b) = if is_nullable a then marks_of_nothing a else marks_of_nothing b
+marks_of_nothing (Many a) = []
+marks_of_nothing (Listed a s) = []
 
 -- the events of a step and the stack after it, if there is a step
-abbrev pub Step : Type 0 → Type 0 → Type 0 → Type 0
-Step C N L = Option (List (Event C L) × List (Grammar C N L))
+abbrev pub Transition : Type 0 → Type 0 → Type 0 → Type 0
+Transition C N L = Option (List (Event C L) × List (Grammar C N L))
 
 -- the first value if there is one, and otherwise the second
 abbrev pub or_else : {T : Type 0} → Option T → Option T → Option T
@@ -36,9 +36,9 @@ or_else None other = other
 or_else (Some x) other = Some x
 
 -- the step, with the given events put before its own
-abbrev pub behind : {C N L : Type 0} → List (Event C L) → Step C N L → Step C N L
-behind events None = None
-behind events (Some step) = Some (events ++ step.0, step.1)
+abbrev pub prepend_events : {C N L : Type 0} → List (Event C L) → Transition C N L → Transition C N L
+prepend_events events None = None
+prepend_events events (Some step) = Some (events ++ step.0, step.1)
 
 -- the value if the test holds, and otherwise none
 abbrev pub only : {T : Type 0} → Bool → Option T → Option T
@@ -46,21 +46,22 @@ only true x = x
 only false x = None
 
 -- the step into a grammar at a sign. `k` is to be read after the grammar
-abbrev pub into : {C N L : Type 0} → (N → Grammar C N L) → Grammar C N L → List (Grammar C N L) → C → Step C N L
+abbrev pub into : {C N L : Type 0} → (N → Grammar C N L) → Grammar C N L → List (Grammar C N L) → C → Transition C N L
 into rules Nothing k c = None
 into rules (Sign passes) k c = only (passes c) (Some (One c ∷ [], k))
 into rules (To passes n) k c = only (passes c) (Some (One c ∷ [], rules n ∷ k))
 into rules (Mark l) k c = None
 into rules (Then a b) k c =
-    or_else (into rules a (b ∷ k) c) (only (is_nullable a) (behind (skipped a) (into rules b k c)))
+    or_else (into rules a (b ∷ k) c) (only (is_nullable a) (prepend_events (marks_of_nothing a) (into rules b k c)))
 into rules (Either a b) k c = or_else (into rules a k c) (into rules b k c)
 into rules (Many a) k c = into rules a (Many a ∷ k) c
 into rules (Listed a s) k c = into rules a (further a s ∷ k) c
 
 -- the step of the stack at a sign
-abbrev pub step : {C N L : Type 0} → (N → Grammar C N L) → List (Grammar C N L) → C → Step C N L
+abbrev pub step : {C N L : Type 0} → (N → Grammar C N L) → List (Grammar C N L) → C → Transition C N L
 step rules [] c = None
-step rules (g ∷ k) c = or_else (into rules g k c) (only (is_nullable g) (behind (skipped g) (step rules k c)))
+step rules (g ∷ k) c = or_else (into rules g k c)
+    (only (is_nullable g) (prepend_events (marks_of_nothing g) (step rules k c)))
 
 -- whether the signs may end when this stack is left
 abbrev pub ends : {C N L : Type 0} → List (Grammar C N L) → Bool
@@ -70,7 +71,7 @@ ends (g ∷ k) = is_nullable g && ends k
 -- the marks that are still to come if the signs end here
 abbrev pub closing : {C N L : Type 0} → List (Grammar C N L) → List (Event C L)
 closing [] = []
-closing (g ∷ k) = skipped g ++ closing k
+closing (g ∷ k) = marks_of_nothing g ++ closing k
 
 -- the second events, if there are any, with the first ones put before them
 abbrev pub ahead : {C L : Type 0} → List (Event C L) → Option (List (Event C L)) → Option (List (Event C L))
@@ -84,7 +85,7 @@ run rules k (c ∷ signs) =
     elim (step rules k c) [ None ↦ None | Some taken ↦ ahead taken.0 (run rules taken.1 signs) ]
 
 -- the events of some signs and the stack after them, if there is a step at each sign
-abbrev pub walk : {C N L : Type 0} → (N → Grammar C N L) → List (Grammar C N L) → List C → Step C N L
+abbrev pub walk : {C N L : Type 0} → (N → Grammar C N L) → List (Grammar C N L) → List C → Transition C N L
 walk rules k [] = Some ([], k)
 walk rules k (c ∷ signs) =
-    elim (step rules k c) [ None ↦ None | Some taken ↦ behind taken.0 (walk rules taken.1 signs) ]
+    elim (step rules k c) [ None ↦ None | Some taken ↦ prepend_events taken.0 (walk rules taken.1 signs) ]

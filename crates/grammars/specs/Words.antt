@@ -1,7 +1,7 @@
 -- What each constructor of `Grammar` finds. These equations prove a reader that has a function for each rule.
 use Rattle.std.specs.Prelude.{◌≡◌, Bool, true, false, List, [], ◌∷◌}
 use Rattle.grammars.specs.Grammar.{Grammar, Nothing, Sign, To, Mark, Then, Either, Many, Listed, One, Marked, further}
-use Rattle.grammars.specs.Machine.{is_nullable, skipped}
+use Rattle.grammars.specs.Machine.{is_nullable, marks_of_nothing}
 use Rattle.grammars.specs.First.{heads}
 use Rattle.grammars.specs.Find.{Past, Stuck, front, and_then, find}
 
@@ -16,7 +16,7 @@ module _ (C N L : Type 0) where
   abbrev pub SkipsFinds : Type 0
   SkipsFinds = (rules : N → Grammar C N L) (g : Grammar C N L) (signs : List C) → heads g signs ≡ false
       → is_nullable g ≡ true
-      → find rules g signs ≡ Past (skipped g) signs
+      → find rules g signs ≡ Past (marks_of_nothing g) signs
 
   -- `Nothing` finds nothing, and leaves all signs
   abbrev pub NothingFinds : Type 0

@@ -5,7 +5,7 @@ use Rattle.std.specs.Prelude.{encode_utf8, if◌then◌else◌}
 use Rattle.std.proofs.lemmas.Bool.{ne_eqb}
 use Rattle.std.proofs.lemmas.List.{get_or-take, length-take-le, take-append-drop}
 use Rattle.std.proofs.lemmas.Str.{inside_one}
-use Rattle.highlight.specs.Page.{IsBare, anchor, escape, escaped, in_span, line_after}
+use Rattle.highlight.specs.Page.{IsBare, anchor, escape, escape_text, in_span, line_after}
 
 pub line_after-append : (line : ℕ) (s t : List ℕ) → line_after line (s ++ t) ≡ line_after (line_after line s) t
 line_after-append line [] t = refl
@@ -15,23 +15,23 @@ line_after-append line (c ∷ s) t =
     [ true ↦ line_after-append (line + 1) s t | false ↦ line_after-append line s t ]
 
 pub escaped-append : (line : ℕ) (s t : List ℕ)
-    → escaped line (s ++ t) ≡ escaped line s ++ escaped (line_after line s) t
+    → escape_text line (s ++ t) ≡ escape_text line s ++ escape_text (line_after line s) t
 escaped-append line [] t = refl
 escaped-append line (c ∷ s) t =
-    elim (c == 10) as (λ b. (if b then c ∷ (anchor (line + 1) ++ escaped (line + 1) (s ++ t))
-    else escape c ++ escaped line (s ++ t))
-    ≡ (if b then c ∷ (anchor (line + 1) ++ escaped (line + 1) s) else escape c ++ escaped line s)
-    ++ escaped (if b then line_after (line + 1) s else line_after line s) t) [
+    elim (c == 10) as (λ b. (if b then c ∷ (anchor (line + 1) ++ escape_text (line + 1) (s ++ t))
+    else escape c ++ escape_text line (s ++ t))
+    ≡ (if b then c ∷ (anchor (line + 1) ++ escape_text (line + 1) s) else escape c ++ escape_text line s)
+    ++ escape_text (if b then line_after (line + 1) s else line_after line s) t) [
       | true ↦ ap (λ l. c ∷ l) (ap (λ l. anchor (line + 1) ++ l) (escaped-append (line + 1) s t)
-          ∙ sym (append_assoc (anchor (line + 1)) (escaped (line + 1) s) _))
-      | false ↦ ap (λ l. escape c ++ l) (escaped-append line s t) ∙ sym (append_assoc (escape c) (escaped line s) _)
+          ∙ sym (append_assoc (anchor (line + 1)) (escape_text (line + 1) s) _))
+      | false ↦ ap (λ l. escape c ++ l) (escaped-append line s t) ∙ sym (append_assoc (escape c) (escape_text line s) _)
     ]
 
 -- none of the bytes is escaped, and none is a line feed
 pub record AreBare (text : List ℕ) : Type 0 where
   pub none : (k : ℕ) → k < length text → IsBare (get_or text k 0)
 
-bare_escaped : (line : ℕ) (text : List ℕ) → AreBare text → escaped line text ≡ text
+bare_escaped : (line : ℕ) (text : List ℕ) → AreBare text → escape_text line text ≡ text
 bare_escaped line [] bare = refl
 bare_escaped line (c ∷ text) bare =
     let here = bare.none 0 (omega arith) in
@@ -62,7 +62,7 @@ character_bare c feed less more ampersand quote = record {
       );
 }
 
-pub escaped_feed : (line c : ℕ) → c ≡ 10 → escaped line (encode_utf8 c) ≡ 10 ∷ anchor (line + 1)
+pub escaped_feed : (line c : ℕ) → c ≡ 10 → escape_text line (encode_utf8 c) ≡ 10 ∷ anchor (line + 1)
 unfolding lib.Utf8.encode
 escaped_feed line c is = rw is (ap (λ l. 10 ∷ l) (append-nil (anchor (line + 1))))
 
@@ -70,7 +70,7 @@ pub after_feed : (line c : ℕ) → c ≡ 10 → line_after line (encode_utf8 c)
 unfolding lib.Utf8.encode
 after_feed line c is = rw is refl
 
-pub escaped_less : (line c : ℕ) → c ≡ 60 → escaped line (encode_utf8 c) ≡ codes "&lt;"
+pub escaped_less : (line c : ℕ) → c ≡ 60 → escape_text line (encode_utf8 c) ≡ codes "&lt;"
 unfolding lib.Utf8.encode
 escaped_less line c is = rw is refl
 
@@ -78,7 +78,7 @@ pub after_less : (line c : ℕ) → c ≡ 60 → line_after line (encode_utf8 c)
 unfolding lib.Utf8.encode
 after_less line c is = rw is refl
 
-pub escaped_greater : (line c : ℕ) → c ≡ 62 → escaped line (encode_utf8 c) ≡ codes "&gt;"
+pub escaped_greater : (line c : ℕ) → c ≡ 62 → escape_text line (encode_utf8 c) ≡ codes "&gt;"
 unfolding lib.Utf8.encode
 escaped_greater line c is = rw is refl
 
@@ -86,7 +86,7 @@ pub after_greater : (line c : ℕ) → c ≡ 62 → line_after line (encode_utf8
 unfolding lib.Utf8.encode
 after_greater line c is = rw is refl
 
-pub escaped_ampersand : (line c : ℕ) → c ≡ 38 → escaped line (encode_utf8 c) ≡ codes "&amp;"
+pub escaped_ampersand : (line c : ℕ) → c ≡ 38 → escape_text line (encode_utf8 c) ≡ codes "&amp;"
 unfolding lib.Utf8.encode
 escaped_ampersand line c is = rw is refl
 
@@ -94,7 +94,7 @@ pub after_ampersand : (line c : ℕ) → c ≡ 38 → line_after line (encode_ut
 unfolding lib.Utf8.encode
 after_ampersand line c is = rw is refl
 
-pub escaped_quote : (line c : ℕ) → c ≡ 34 → escaped line (encode_utf8 c) ≡ codes "&quot;"
+pub escaped_quote : (line c : ℕ) → c ≡ 34 → escape_text line (encode_utf8 c) ≡ codes "&quot;"
 unfolding lib.Utf8.encode
 escaped_quote line c is = rw is refl
 
@@ -103,7 +103,7 @@ unfolding lib.Utf8.encode
 after_quote line c is = rw is refl
 
 pub escaped_character : (line c : ℕ) → (c ≡ 10 → ⊥) → (c ≡ 60 → ⊥) → (c ≡ 62 → ⊥) → (c ≡ 38 → ⊥) → (c ≡ 34 → ⊥)
-    → escaped line (encode_utf8 c) ≡ encode_utf8 c
+    → escape_text line (encode_utf8 c) ≡ encode_utf8 c
 escaped_character line c feed less more ampersand quote =
     bare_escaped line _ (character_bare c feed less more ampersand quote)
 
@@ -130,12 +130,12 @@ pub ruleset of_character = (
 -- ---- the loop over the characters of a text
 
 pub escaped_step : (before out : List ℕ) (line next : ℕ) (rest part after whole : List ℕ)
-    → rest ≡ part ++ after → out ≡ before ++ escaped line part → next ≡ line_after line part
-    → before ++ escaped line rest ≡ whole → out ++ escaped next after ≡ whole
+    → rest ≡ part ++ after → out ≡ before ++ escape_text line part → next ≡ line_after line part
+    → before ++ escape_text line rest ≡ whole → out ++ escape_text next after ≡ whole
 escaped_step before out line next rest part after whole split is moved all =
-    ap (λ l. l ++ escaped next after) is ∙ append_assoc before (escaped line part) (escaped next after)
-    ∙ ap (λ l. before ++ l) (ap (λ n. escaped line part ++ escaped n after) moved
-    ∙ sym (escaped-append line part after) ∙ ap (escaped line) (sym split))
+    ap (λ l. l ++ escape_text next after) is ∙ append_assoc before (escape_text line part) (escape_text next after)
+    ∙ ap (λ l. before ++ l) (ap (λ n. escape_text line part ++ escape_text n after) moved
+    ∙ sym (escaped-append line part after) ∙ ap (escape_text line) (sym split))
     ∙ all
 
 pub line_step : (line next : ℕ) (rest part after : List ℕ) (whole : ℕ)
@@ -185,16 +185,16 @@ are_bare text size within bare = record {
 
 pub bare_shown : (before out : List ℕ) (line : ℕ) (text : List ℕ) (size : ℕ) (front rest : List ℕ)
     → size ≤ length text → ((k : ℕ) → k < size → IsBare (get_or text k 0)) → front ≡ take size text
-    → rest ≡ drop size text → out ≡ before ++ front → out ++ escaped line rest ≡ before ++ escaped line text
+    → rest ≡ drop size text → out ≡ before ++ front → out ++ escape_text line rest ≡ before ++ escape_text line text
 bare_shown before out line text size front rest within bare fronts rests is =
     let each = are_bare text size within bare in
-    let whole : escaped line text ≡ take size text ++ escaped line (drop size text) =
-    ap (escaped line) (sym (take-append-drop size text))
+    let whole : escape_text line text ≡ take size text ++ escape_text line (drop size text) =
+    ap (escape_text line) (sym (take-append-drop size text))
     ∙ escaped-append line (take size text) (drop size text)
-    ∙ ap (λ l. l ++ escaped (line_after line (take size text)) (drop size text))
+    ∙ ap (λ l. l ++ escape_text (line_after line (take size text)) (drop size text))
     (bare_escaped line (take size text) each)
-    ∙ ap (λ n. take size text ++ escaped n (drop size text)) (bare_line line (take size text) each) in
-    rw (is, fronts, rests, whole) (append_assoc before (take size text) (escaped line (drop size text)))
+    ∙ ap (λ n. take size text ++ escape_text n (drop size text)) (bare_line line (take size text) each) in
+    rw (is, fronts, rests, whole) (append_assoc before (take size text) (escape_text line (drop size text)))
 
 pub bare_line_after : (line : ℕ) (text : List ℕ) (size : ℕ) (rest : List ℕ)
     → size ≤ length text → ((k : ℕ) → k < size → IsBare (get_or text k 0))

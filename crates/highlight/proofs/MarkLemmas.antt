@@ -1,7 +1,7 @@
 -- A text that is marked, unless it is empty.
 use Rattle.std.proofs.Common.{◌≡◌, ℕ, true, false, ◌==◌, List, [], ◌∷◌, arith, length, refl}
 use Rattle.std.proofs.lemmas.Bool.{eqb-true}
-use Rattle.highlight.specs.Page.{escaped, in_colour, in_span, line_past, marked_text}
+use Rattle.highlight.specs.Page.{escape_text, in_colour, in_span, line_past, marked_text}
 use Rattle.highlight.specs.declared.format.Format.{Format}
 use Rattle.highlight.specs.declared.format.Format.TheVariants.{Html, Term}
 
@@ -20,7 +20,7 @@ line_past_nothing Term line [] none = refl
 line_past_nothing format line (c ∷ text) none = absurd (some c text none)
 
 pub marked_html : (line : ℕ) (class colour text : List ℕ) → (length text == 0) ≡ false
-    → marked_text Html line class colour text ≡ in_span class (escaped line text)
+    → marked_text Html line class colour text ≡ in_span class (escape_text line text)
 marked_html line class colour [] some = absurd (cc)
 marked_html line class colour (c ∷ text) some = refl
 

@@ -8,7 +8,7 @@ use Rattle.highlight.specs.declared.style.Style.TheVariants.{Delimiter}
 use Rattle.std.proofs.lemmas.Bool.{eq-eqb}
 use Rattle.std.proofs.lemmas.List.{reverse-append, length-reverse}
 use Rattle.lexical.specs.Delimiter.{is_closer}
-use Rattle.highlight.specs.Delimiters.{Waiting, closed, from_match, spared}
+use Rattle.highlight.specs.Delimiters.{Waiting, close_delimiter, from_match, spare}
 use Rattle.highlight.specs.Nesting.{IsAwaited, Know, flag, outward, waiting_of}
 use Rattle.highlight.specs.declared.nesting.Opener.{Opener}
 use Rattle.highlight.specs.declared.nesting.Awaited.{Awaited}
@@ -54,24 +54,24 @@ none_left c awaited (opener ∷ openers) none known has = absurd (omega (arith, 
 
 pub spared_step : (styles next all : List Style) (openers after : List Opener) (opener : Opener) (depth : ℕ)
     → openers ≡ after ++ opener ∷ [] → depth ≡ length after → next ≡ slice_set styles opener.index (Delimiter depth)
-    → spared styles (waiting_of openers) ≡ all → spared next (waiting_of after) ≡ all
+    → spare styles (waiting_of openers) ≡ all → spare next (waiting_of after) ≡ all
 spared_step styles next all openers after opener depth popped deep is held =
-    let one : spared styles (waiting_of openers)
-    ≡ spared (slice_set styles opener.index (Delimiter (length (waiting_of after)))) (waiting_of after) =
-    ap (λ w. spared styles w) (ap waiting_of popped ∙ waiting_more after opener) in
+    let one : spare styles (waiting_of openers)
+    ≡ spare (slice_set styles opener.index (Delimiter (length (waiting_of after)))) (waiting_of after) =
+    ap (λ w. spare styles w) (ap waiting_of popped ∙ waiting_more after opener) in
     let same : next ≡ slice_set styles opener.index (Delimiter (length (waiting_of after))) =
     is ∙ ap (λ n. slice_set styles opener.index (Delimiter n)) (deep ∙ sym (length_waiting after)) in
-    ap (λ s. spared s (waiting_of after)) same ∙ sym one ∙ held
+    ap (λ s. spare s (waiting_of after)) same ∙ sym one ∙ held
 
 pub closed_step : (c : ℕ) (before after : List Opener) (opener : Opener) (found : List Waiting)
     (styles old next : List Style) (depth : ℕ)
     → before ≡ after ++ opener ∷ [] → opener.closer ≡ c → from_match c (waiting_of before) ≡ found
     → styles ≡ old → depth ≡ length after → next ≡ slice_set styles opener.index (Delimiter depth)
-    → next ++ Delimiter depth ∷ [] ≡ closed old found
+    → next ++ Delimiter depth ∷ [] ≡ close_delimiter old found
 closed_step c before after opener found styles old next depth popped same matches unchanged deep is =
     let here : (opener.closer == c) ≡ true = eq-eqb _ _ same in
     let first : from_match c (waiting_of before)
     ≡ record { closer = opener.closer; index = opener.index } ∷ waiting_of after =
     ap (from_match c) (ap waiting_of popped ∙ waiting_more after opener) ∙ rw here refl in
     let deeper : depth ≡ length (waiting_of after) = deep ∙ sym (length_waiting after) in
-    rw (is, unchanged, deeper) (ap (closed old) (sym first ∙ matches))
+    rw (is, unchanged, deeper) (ap (close_delimiter old) (sym first ∙ matches))

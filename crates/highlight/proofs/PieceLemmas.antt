@@ -49,7 +49,7 @@ all_from at next to more rest step are = (
   chars to.rest.now,
   step.whole,
   step.stands,
-  subst (λ first. AreAllPieces first (chars to.rest.now) more rest) step.behind are,
+  subst (λ first. AreAllPieces first (chars to.rest.now) more rest) step.front_after are,
 )
 
 pub closes : (first : Bool) (kind : PieceKind) (p r : List ℕ) → IsPiece first (kind_of kind p) p r → ClosesByCloser kind

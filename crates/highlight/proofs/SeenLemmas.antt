@@ -22,9 +22,9 @@ use Rattle.highlight.specs.Mark.{Mark, Styled, Faulty, class_of, colour_of}
 use Rattle.highlight.specs.Style.{class, colour, depth_class, depth_colour}
 use Rattle.highlight.specs.Pieces.{AreAllPieces, Shown, all_shown, fault_of, faulty, first_position, shown_from, stuck}
 use Rattle.highlight.specs.Pieces.{unread}
-use Rattle.highlight.specs.Page.{IsMarked, anchor, escape, escaped, in_span, in_colour, line_past, marked_piece}
+use Rattle.highlight.specs.Page.{IsMarked, anchor, escape, escape_text, in_span, in_colour, line_past, marked_piece}
 use Rattle.highlight.specs.Page.{marked_pieces, marked_text}
-use Rattle.highlight.specs.Seen.{InTag, can_be_seen, closes_tag, plain, seen, stays_in_tag}
+use Rattle.highlight.specs.Seen.{InTag, can_be_seen, closes_tag, plain, visible_text, stays_in_tag}
 use Rattle.highlight.specs.declared.style.Style.{Style}
 use Rattle.highlight.specs.declared.style.Style.TheVariants as styles
 use Rattle.highlight.specs.declared.format.Format.{Format}
@@ -59,7 +59,7 @@ Shows-append format v w s t first second = record {
 -- this text is seen of what follows the beginning of a tag
 record EndsTag (format : Format) (tail text : List ℕ) : Type 0 where
   pub ends : IsTrue (can_be_seen format text) → (rest : List ℕ)
-      → seen format InTag (tail ++ rest) ≡ text ++ plain format rest
+      → visible_text format InTag (tail ++ rest) ≡ text ++ plain format rest
 
 EndsTag-more : (format : Format) (front : List ℕ) {tail text : List ℕ} → stays_in_tag format front ≡ true
     → EndsTag format tail text
@@ -114,16 +114,16 @@ byte_shows c rest = byte_by c rest (cases_eq c 60) (cases_eq c 62) (cases_eq c 3
 
 -- an escaped byte shows the byte, also a line feed, which an anchor follows
 byte_first : (line c : ℕ) (text rest : List ℕ) → ((c ≡ 10) ⊎ (c ≡ 10 → ⊥))
-    → ((l : ℕ) → plain Html (escaped l text ++ rest) ≡ text ++ plain Html rest)
-    → plain Html (escaped line (c ∷ text) ++ rest) ≡ c ∷ (text ++ plain Html rest)
+    → ((l : ℕ) → plain Html (escape_text l text ++ rest) ≡ text ++ plain Html rest)
+    → plain Html (escape_text line (c ∷ text) ++ rest) ≡ c ∷ (text ++ plain Html rest)
 byte_first line c text rest (inl is) more = rw is (ap (λ l. 10 ∷ l)
-    (ap (plain Html) (append_assoc (anchor (line + 1)) (escaped (line + 1) text) rest)
-    ∙ (anchor_shows (line + 1)).shows refl (escaped (line + 1) text ++ rest) ∙ more (line + 1)))
+    (ap (plain Html) (append_assoc (anchor (line + 1)) (escape_text (line + 1) text) rest)
+    ∙ (anchor_shows (line + 1)).shows refl (escape_text (line + 1) text ++ rest) ∙ more (line + 1)))
 byte_first line c text rest (inr feed) more = rw (ne_eqb c 10 feed) (
-    ap (plain Html) (append_assoc (escape c) (escaped line text) rest)
-    ∙ byte_shows c (escaped line text ++ rest) ∙ ap (λ l. c ∷ l) (more line))
+    ap (plain Html) (append_assoc (escape c) (escape_text line text) rest)
+    ∙ byte_shows c (escape_text line text ++ rest) ∙ ap (λ l. c ∷ l) (more line))
 
-escaped_shows : (line : ℕ) (text rest : List ℕ) → plain Html (escaped line text ++ rest) ≡ text ++ plain Html rest
+escaped_shows : (line : ℕ) (text rest : List ℕ) → plain Html (escape_text line text ++ rest) ≡ text ++ plain Html rest
 escaped_shows line [] rest = refl
 escaped_shows line (c ∷ text) rest =
     byte_first line c text rest (cases_eq c 10) (λ l. escaped_shows l text rest)
@@ -302,7 +302,7 @@ text_shows : (format : Format) (line : ℕ) (mark : Mark) (text : List ℕ)
     → Shows format (marked_text format line (class_of mark) (colour_of mark) text) text
 text_shows format line mark [] = Shows-nil format
 text_shows Html line mark (c ∷ text) =
-    span_shows (class_of mark) (escaped line (c ∷ text)) (c ∷ text) (class_of_stays mark)
+    span_shows (class_of mark) (escape_text line (c ∷ text)) (c ∷ text) (class_of_stays mark)
     (record { shows = λ can rest. escaped_shows line (c ∷ text) rest })
 text_shows Term line mark (c ∷ text) = colour_shows (colour_of mark) (c ∷ text) (colour_of_stays mark)
 

@@ -16,7 +16,7 @@ use Rattle.lexical.proofs.TextLemmas.{first_byte}
 use Rattle.lexical.proofs.SpacedLemmas.{gaps, next_there, no_longer, none_passed, none_there, piece_of, still}
 use Rattle.highlight.specs.Delimiters.{Waiting, delimiter_styles}
 use Rattle.highlight.specs.Mark.{Styled}
-use Rattle.highlight.specs.Page.{escaped, line_past, marked_piece, marked_pieces}
+use Rattle.highlight.specs.Page.{escape_text, line_past, marked_piece, marked_pieces}
 use Rattle.explain.specs.declared.explained.Explained.{Explained}
 use Rattle.highlight.specs.Pieces.{AreAllPieces, shown_from}
 use Rattle.highlight.specs.Style.{gap_style}
@@ -48,7 +48,7 @@ all_white : (at : PieceWalk) (next : Spaced) (to : PieceWalk) (is : IsSpaced at 
 all_white at next to is more rest are =
     let white = next.white.now in
     let splits = is.passes.splits in
-    let front = is.passes.behind ∙ ap (λ none. at.at_front && none) (none_passed white splits.white_utf8) in
+    let front = is.passes.front_after ∙ ap (λ none. at.at_front && none) (none_passed white splits.white_utf8) in
     rw splits.whole (gaps_first at.at_front (chars white) (chars is.here.rest.now) more rest splits.stands.each
     (subst (λ b. AreAllPieces b (chars is.here.rest.now) more rest) front are))
 
@@ -89,7 +89,7 @@ no_slash c white = elim (cases_lt c 128) [
 ]
 
 -- a text of the style `Bare` is written without a mark
-bare_text : (line : ℕ) (text : List ℕ) → marked_piece Html line (Styled Bare, text) ≡ escaped line text
+bare_text : (line : ℕ) (text : List ℕ) → marked_piece Html line (Styled Bare, text) ≡ escape_text line text
 bare_text line [] = refl
 bare_text line (c ∷ text) = refl
 

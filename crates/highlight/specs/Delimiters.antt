@@ -20,9 +20,9 @@ from_match closer [] = []
 from_match closer (opener ∷ around) = if opener.closer == closer then opener ∷ around else from_match closer around
 
 -- the styles of the delimiters so far and of a closer, which matches the first of the openers, if there are any
-abbrev pub closed : List Style → List Waiting → List Style
-closed styles [] = styles ++ StrayCloser ∷ []
-closed styles (opener ∷ around) =
+abbrev pub close_delimiter : List Style → List Waiting → List Style
+close_delimiter styles [] = styles ++ StrayCloser ∷ []
+close_delimiter styles (opener ∷ around) =
     slice_set styles opener.index (Delimiter (length around)) ++ Delimiter (length around) ∷ []
 
 -- the openers that still wait after a closer
@@ -31,9 +31,9 @@ still_waiting all [] = all
 still_waiting all (opener ∷ around) = around
 
 -- the styles if the text was not read to its end: the openers that wait may be closed later, so they count as closed
-abbrev pub spared : List Style → List Waiting → List Style
-spared styles [] = styles
-spared styles (opener ∷ around) = spared (slice_set styles opener.index (Delimiter (length around))) around
+abbrev pub spare : List Style → List Waiting → List Style
+spare styles [] = styles
+spare styles (opener ∷ around) = spare (slice_set styles opener.index (Delimiter (length around))) around
 
 -- the styles of the delimiters after one more piece: an opener is `Unclosed` until a closer matches it
 abbrev pub styles_past : Kind → List Style → List Waiting → List Style
@@ -41,7 +41,7 @@ styles_past pieces.FrontMark styles waiting = styles
 styles_past pieces.Gap styles waiting = styles
 styles_past (pieces.Doc inner words) styles waiting = styles
 styles_past (pieces.Open c) styles waiting = styles ++ Unclosed ∷ []
-styles_past (pieces.Close c) styles waiting = closed styles (from_match c waiting)
+styles_past (pieces.Close c) styles waiting = close_delimiter styles (from_match c waiting)
 styles_past (pieces.Leaf token) styles waiting = styles
 
 -- the openers that wait after one more piece: a closer removes the opener that it matches and the openers inside it
@@ -55,6 +55,6 @@ waiting_past (pieces.Leaf token) styles waiting = waiting
 
 -- the styles of all delimiters, in order; `whole` says that the pieces are all of the text
 abbrev pub delimiter_styles : Bool → List Style → List Waiting → List Piece → List Style
-delimiter_styles whole styles waiting [] = if whole then styles else spared styles waiting
+delimiter_styles whole styles waiting [] = if whole then styles else spare styles waiting
 delimiter_styles whole styles waiting (piece ∷ more) =
     delimiter_styles whole (styles_past piece.0 styles waiting) (waiting_past piece.0 styles waiting) more

@@ -29,10 +29,10 @@ abbrev pub IsBare : ℕ → Type 0
 IsBare c = ((c == 10) ≡ false) × (escape c ≡ c ∷ [])
 
 -- a text that begins on this line, escaped, with an anchor after each line feed (10)
-abbrev pub escaped : ℕ → List ℕ → List ℕ
-escaped line [] = []
-escaped line (c ∷ rest) =
-    if c == 10 then c ∷ (anchor (line + 1) ++ escaped (line + 1) rest) else escape c ++ escaped line rest
+abbrev pub escape_text : ℕ → List ℕ → List ℕ
+escape_text line [] = []
+escape_text line (c ∷ rest) =
+    if c == 10 then c ∷ (anchor (line + 1) ++ escape_text (line + 1) rest) else escape c ++ escape_text line rest
 
 -- the line on which a text ends
 abbrev pub line_after : ℕ → List ℕ → ℕ
@@ -60,7 +60,7 @@ in_colour colour text =
 -- the text with this class or in this colour; an empty text has no mark
 abbrev pub marked_text : Format → ℕ → List ℕ → List ℕ → List ℕ → List ℕ
 marked_text format line class colour [] = []
-marked_text Html line class colour (c ∷ text) = in_span class (escaped line (c ∷ text))
+marked_text Html line class colour (c ∷ text) = in_span class (escape_text line (c ∷ text))
 marked_text Term line class colour (c ∷ text) = in_colour colour (c ∷ text)
 
 abbrev pub marked_piece : Format → ℕ → Shown → List ℕ

@@ -22,8 +22,8 @@ opens_escape Html c = c == 38
 opens_escape Term c = false
 
 -- the text of an escape, by its name between `&` and `;`
-abbrev pub unescaped : List ℕ → List ℕ
-unescaped name =
+abbrev pub escape_value : List ℕ → List ℕ
+escape_value name =
     if pointwise nat_eq name (codes "lt") then codes "<"
     else (if pointwise nat_eq name (codes "gt") then codes ">"
     else (if pointwise nat_eq name (codes "amp") then codes "&"
@@ -36,18 +36,20 @@ pub data ReaderState : Type 0 where
   InEscape : List ℕ → ReaderState
 
 -- what is seen of a text from this state on: tags are left out, and an escape, which ends with `;` (59), is undone
-abbrev pub seen : Format → ReaderState → List ℕ → List ℕ
-seen format state [] = []
-seen format InText (c ∷ rest) =
-    if opens_tag format c then seen format InTag rest
-    else (if opens_escape format c then seen format (InEscape []) rest else c ∷ seen format InText rest)
-seen format InTag (c ∷ rest) = if closes_tag format c then seen format InText rest else seen format InTag rest
-seen format (InEscape name) (c ∷ rest) =
-    if c == 59 then unescaped name ++ seen format InText rest else seen format (InEscape (name ++ c ∷ [])) rest
+abbrev pub visible_text : Format → ReaderState → List ℕ → List ℕ
+visible_text format state [] = []
+visible_text format InText (c ∷ rest) =
+    if opens_tag format c then visible_text format InTag rest
+    else (if opens_escape format c then visible_text format (InEscape []) rest else c ∷ visible_text format InText rest)
+visible_text format InTag (c ∷ rest) =
+    if closes_tag format c then visible_text format InText rest else visible_text format InTag rest
+visible_text format (InEscape name) (c ∷ rest) =
+    if c == 59 then escape_value name
+    ++ visible_text format InText rest else visible_text format (InEscape (name ++ c ∷ [])) rest
 
 -- what is seen of a whole output
 abbrev pub plain : Format → List ℕ → List ℕ
-plain format = seen format InText
+plain format = visible_text format InText
 
 -- whether none of the bytes ends a tag
 abbrev pub stays_in_tag : Format → List ℕ → Bool

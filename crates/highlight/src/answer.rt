@@ -5,7 +5,7 @@ ghost use Rattle.highlight.specs.Page.{IsMarked, foot, head};
 ghost use Rattle.highlight.specs.Seen.{can_be_seen, plain};
 
 use crate::format::Format;
-use crate::marking::marked;
+use crate::marking::mark_pieces;
 use crate::page::frame_of;
 use messages::Failure;
 use std::alloc::Global;
@@ -28,7 +28,7 @@ pub fn write_marked<W: Write>(
         × Appends (W.contents writer.old) (W.contents writer.new) (head format ++ (body ++ foot format))
         × (IsTrue (can_be_seen format text.now) → plain format body ≡ text.now)) }
 {
-    let body = marked(alloc, format, text)?;
+    let body = mark_pieces(alloc, format, text)?;
     let frame = frame_of(format);
     Ok(write!(writer, "{}{body}{}", frame.head, frame.foot)?)
 }

@@ -24,7 +24,7 @@ use std::alloc::{AllocError, Global};
 /// A closer that matches no opener is marked as an error, and so is an opener that is never closed. If the text could
 /// not be read to its end, openers that still wait are not marked, since their closers may follow. Where no piece
 /// begins, the part that is wrong is marked with the reason, and the text around it is marked as not read.
-pub fn marked(alloc: Global, format: Format, text: &str) -> Result<String, Failure>
+pub fn mark_pieces(alloc: Global, format: Format, text: &str) -> Result<String, Failure>
     ensures { IfOk result (λ out. IsMarked format text.now (string_bytes out)) }
 {
     let mut styling = Styling {
@@ -38,7 +38,7 @@ pub fn marked(alloc: Global, format: Format, text: &str) -> Result<String, Failu
         styling.is_after_quote = styling.is_after_quote & next.white.is_empty();
         let Some(piece) = next.piece else {
             sheet.push_piece(Style::Bare, next.white)?;
-            let answer = explained(alloc, next.rest)?;
+            let answer = explanation_of(alloc, next.rest)?;
             push_unread(alloc, &mut sheet, &answer, next.rest)?;
             return Ok(sheet.out);
         };
@@ -106,7 +106,7 @@ fn is_quote(kind: PieceKind<'_>) -> bool
 }
 
 /// Returns why the text doesn't parse, if it doesn't.
-fn explained(alloc: Global, text: &str) -> Result<Option<Explained>, Failure>
+fn explanation_of(alloc: Global, text: &str) -> Result<Option<Explained>, Failure>
     ensures { IfOk result (λ answer. MatchOption answer
         (Parses first_position (chars text.now)) (IsExplained first_position (chars text.now))) }
 {

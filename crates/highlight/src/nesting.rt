@@ -3,7 +3,7 @@ ghost use Rattle.std.specs.Prelude.{◌≡◌, ◌++◌, [], ◌∷◌, IsTrue, 
 ghost use Rattle.highlight.specs.declared.style.Style.TheVariants.{Unclosed};
 ghost use Rattle.lexical.specs.Delimiter.{is_closer};
 ghost use Rattle.lexical.specs.Found.{kind_of};
-ghost use Rattle.highlight.specs.Delimiters.{closed, closer_of, from_match, spared, still_waiting, styles_past};
+ghost use Rattle.highlight.specs.Delimiters.{close_delimiter, closer_of, from_match, spare, still_waiting, styles_past};
 ghost use Rattle.highlight.specs.Delimiters.{waiting_past};
 ghost use Rattle.highlight.specs.Nesting.{ClosesByCloser, IsAwaited, flag, waiting_of};
 
@@ -105,22 +105,22 @@ impl Nesting {
         requires awaited { IsAwaited self.old.awaited self.old.openers.items }
         requires closer { IsTrue (is_closer closer) }
         ensures styles { OnOk result (self.new.styles.items
-            ≡ closed self.old.styles.items (from_match closer (waiting_of self.old.openers.items))) }
+            ≡ close_delimiter self.old.styles.items (from_match closer (waiting_of self.old.openers.items))) }
         ensures waiting { OnOk result (waiting_of self.new.openers.items
             ≡ still_waiting (waiting_of self.old.openers.items)
             (from_match closer (waiting_of self.old.openers.items))) }
         ensures awaited { OnOk result (IsAwaited self.new.awaited self.new.openers.items) }
     {
-        let style = self.matched(closer);
+        let style = self.take_match(closer);
         Ok(self.styles.push(style)?)
     }
 
     /// Removes the opener that the closer matches and the openers inside it, and returns the style of the pair.
-    fn matched(&mut self, closer: char) -> Style
+    fn take_match(&mut self, closer: char) -> Style
         requires awaited { IsAwaited self.old.awaited self.old.openers.items }
         requires closer { IsTrue (is_closer closer) }
         ensures styles { self.new.styles.items ++ result ∷ []
-            ≡ closed self.old.styles.items (from_match closer (waiting_of self.old.openers.items)) }
+            ≡ close_delimiter self.old.styles.items (from_match closer (waiting_of self.old.openers.items)) }
         ensures waiting { waiting_of self.new.openers.items
             ≡ still_waiting (waiting_of self.old.openers.items)
             (from_match closer (waiting_of self.old.openers.items)) }
@@ -144,7 +144,7 @@ impl Nesting {
     /// since their closers may follow.
     pub fn into_styles(self, is_whole: bool) -> Vec<Style>
         ensures { result.items
-            ≡ (if is_whole then self.styles.items else spared self.styles.items (waiting_of self.openers.items)) }
+            ≡ (if is_whole then self.styles.items else spare self.styles.items (waiting_of self.openers.items)) }
     {
         let Nesting {
             mut styles,

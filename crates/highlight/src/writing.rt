@@ -3,7 +3,7 @@ ghost use Rattle.std.specs.Prelude.{◌≡◌, ◌+◌, ◌++◌, [], OnOk, code
 ghost use Rattle.std.specs.Prelude.{◌<◌, ◌≤◌, ℕ, IfOk, false, length, slice_index, true};
 ghost use Rattle.std.specs.Str.{IsUtf8};
 ghost use Rattle.highlight.specs.Mark.{Faulty, Styled};
-ghost use Rattle.highlight.specs.Page.{IsBare, anchor, escaped, in_span, in_colour, line_after, line_past};
+ghost use Rattle.highlight.specs.Page.{IsBare, anchor, escape_text, in_span, in_colour, line_after, line_past};
 ghost use Rattle.highlight.specs.Page.{marked_piece, marked_text};
 
 use crate::format::Format;
@@ -84,7 +84,7 @@ impl Sheet {
     /// Appends the text in a `<span>` of the class, or without one if the class is empty.
     fn push_span(&mut self, class: &str, text: &str) -> Result<(), AllocError>
         ensures shown { OnOk result (string_bytes self.new.out
-            ≡ string_bytes self.old.out ++ in_span class.now (escaped self.old.line text.now)) }
+            ≡ string_bytes self.old.out ++ in_span class.now (escape_text self.old.line text.now)) }
         ensures line { OnOk result (self.new.line ≡ line_after self.old.line text.now) }
         ensures kept { self.new.format ≡ self.old.format }
     {
@@ -119,7 +119,7 @@ impl Sheet {
     /// Appends the text, escaped, with an anchor after each line feed.
     fn push_escaped(&mut self, text: &str) -> Result<(), AllocError>
         ensures shown { OnOk result (string_bytes self.new.out
-            ≡ string_bytes self.old.out ++ escaped self.old.line text.now) }
+            ≡ string_bytes self.old.out ++ escape_text self.old.line text.now) }
         ensures line { OnOk result (self.new.line ≡ line_after self.old.line text.now) }
         ensures kept { self.new.format ≡ self.old.format }
     {
@@ -133,8 +133,8 @@ impl Sheet {
 
     /// Appends the part of the text before the first byte that is escaped, and returns the rest.
     fn push_bare<'a>(&mut self, text: &'a str) -> Result<&'a str, AllocError>
-        ensures shown { IfOk result (λ rest. string_bytes self.new.out ++ escaped self.old.line rest.now
-            ≡ string_bytes self.old.out ++ escaped self.old.line text.now) }
+        ensures shown { IfOk result (λ rest. string_bytes self.new.out ++ escape_text self.old.line rest.now
+            ≡ string_bytes self.old.out ++ escape_text self.old.line text.now) }
         ensures line { IfOk result (λ rest. line_after self.old.line rest.now ≡ line_after self.old.line text.now) }
         ensures shorter { IfOk result (λ rest. length rest.now ≤ length text.now) }
         ensures utf8 { IfOk result (λ rest. IsUtf8 rest.now) }
@@ -150,7 +150,7 @@ impl Sheet {
     #[tactic(auto, using(crate::proofs::EscapeLemmas::of_character))]
     fn push_character(&mut self, c: char) -> Result<(), AllocError>
         ensures shown { OnOk result (string_bytes self.new.out
-            ≡ string_bytes self.old.out ++ escaped self.old.line (encode_utf8 c)) }
+            ≡ string_bytes self.old.out ++ escape_text self.old.line (encode_utf8 c)) }
         ensures line { OnOk result (self.new.line ≡ line_after self.old.line (encode_utf8 c)) }
         ensures kept { self.new.format ≡ self.old.format }
     {

@@ -7,7 +7,7 @@ ghost use Rattle.messages.specs.Parsed.{MayFail, first};
 ghost use Rattle.messages.specs.declared.errors.Failure.TheVariants.{Memory};
 ghost use Rattle.indent.specs.Indented.{IsIndented, Writes};
 
-use crate::choosing::{Step, choices};
+use crate::choosing::{IndentStyle, choices};
 use explain::{ExplainError, explain};
 use messages::Failure;
 use proc_macro2::{SourceMap, TokenStream};
@@ -22,7 +22,7 @@ use std::io::Write;
 pub fn print_text<W: Write>(
     alloc: Global,
     text: &str,
-    step: Step,
+    step: IndentStyle,
     writer: &mut W,
 ) -> Result<(), Failure>
     ensures ok { OnOk result (Writes (chars text.now) (W.contents writer.old) (W.contents writer.new)) }
@@ -40,7 +40,7 @@ pub fn print_text<W: Write>(
 /// Returns whether indenting its lines leaves the text as it is.
 ///
 /// Returns `Fault`, `MapFull` or `Memory` as an error, for the same reasons as `print_text`.
-pub fn is_indented(alloc: Global, text: &str, step: Step) -> Result<bool, Failure>
+pub fn is_indented(alloc: Global, text: &str, step: IndentStyle) -> Result<bool, Failure>
     ensures ok { IfOk result (λ same. (out : List ℕ) × IsIndented (chars text.now) out
         × (IsTrue same ↔ (out ≡ chars text.now))) }
     ensures err { IfErr result (λ failure. (known : Option (List ℕ)) → MayFail (chars text.now) known known failure) }
@@ -50,7 +50,7 @@ pub fn is_indented(alloc: Global, text: &str, step: Step) -> Result<bool, Failur
 }
 
 /// Returns the text with its lines indented. It finds out whether the text parses without building trees.
-fn indent(alloc: Global, text: &str, step: Step) -> Result<String, Failure>
+fn indent(alloc: Global, text: &str, step: IndentStyle) -> Result<String, Failure>
     ensures ok { IfOk result (λ out. IsIndented (chars text.now) (chars (string_bytes out))) }
     ensures err { IfErr result (λ failure. (known : Option (List ℕ)) → MayFail (chars text.now) known known failure) }
 {
@@ -70,12 +70,12 @@ fn fault_of(alloc: Global, text: &str) -> Failure
     let mut map = SourceMap::new(alloc);
     match TokenStream::from_str(text, &mut map) {
         Ok(_) => unreachable!(),
-        Err(error) => Failure::unparsed(error, &map),
+        Err(error) => Failure::parse_failure(error, &map),
     }
 }
 
 /// Returns a text that parses with its lines indented. The only error is that memory runs out.
-fn indent_parsed(alloc: Global, text: &str, step: Step) -> Result<String, Failure>
+fn indent_parsed(alloc: Global, text: &str, step: IndentStyle) -> Result<String, Failure>
     requires { Parses first (chars text.now) }
     ensures ok { IfOk result (λ out. IsIndented (chars text.now) (chars (string_bytes out))) }
     ensures err { IfErr result (λ failure. failure ≡ Memory) }

@@ -9,7 +9,7 @@ use std::alloc::{AllocError, Global};
 
 /// By how much each open group indents a line.
 #[derive(Clone, Copy, Debug, PartialEq, Eq)]
-pub enum Step {
+pub enum IndentStyle {
     /// By one tab.
     Tab,
     /// By this number of spaces.
@@ -20,7 +20,7 @@ pub enum Step {
 /// open.
 ///
 /// Closers at the start of a line count as closed before the line.
-pub fn choices(alloc: Global, text: &str, step: Step) -> Result<Vec<White>, AllocError>
+pub fn choices(alloc: Global, text: &str, step: IndentStyle) -> Result<Vec<White>, AllocError>
     ensures { IfOk result (λ choices. All KeepsLines choices.items) }
 {
     let mut choices = Vec::new(alloc);
@@ -53,7 +53,7 @@ fn push_choice(
     run: &str,
     rest: &str,
     open: usize,
-    step: Step,
+    step: IndentStyle,
 ) -> Result<(), AllocError>
     ensures { All KeepsLines choices.old.items → OnOk result (All KeepsLines choices.new.items) }
 {
@@ -83,15 +83,15 @@ fn closers(line: &str) -> usize {
 }
 
 /// Returns the white space that begins a line on this level.
-fn indentation(level: usize, step: Step) -> White
+fn indentation(level: usize, step: IndentStyle) -> White
     ensures { KeepsLines result }
 {
     match step {
-        Step::Tab => White::Lines {
+        IndentStyle::Tab => White::Lines {
             tabs: level,
             spaces: 0,
         },
-        Step::Spaces(width) => White::Lines {
+        IndentStyle::Spaces(width) => White::Lines {
             tabs: 0,
             spaces: level.saturating_mul(usize::from(width)),
         },

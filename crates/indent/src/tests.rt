@@ -1,7 +1,7 @@
 //! Compares the chosen white space with that of a simpler implementation, for random texts.
 ghost use Rattle.std.specs.Prelude.{◌<◌};
 
-use crate::choosing::{Step, choices as choices_now};
+use crate::choosing::{IndentStyle, choices as choices_now};
 use lexical::parts::begins;
 use lexical::{PieceKind, PlacedPiece, pieces};
 use relayout::White;
@@ -91,9 +91,9 @@ fn the_same_is_chosen_as_by_the_code_of_the_start(rt: HostRuntime) -> Result<(),
     for number in 0..TEXTS {
         let text = random.text(alloc)?;
         let step = if number % 2 == 0 {
-            Step::Tab
+            IndentStyle::Tab
         } else {
-            Step::Spaces(3)
+            IndentStyle::Spaces(3)
         };
         let now = choices_now(alloc, text.as_str(), step)?;
         let then = choices(alloc, text.as_str(), step)?;
@@ -117,7 +117,7 @@ enum Run {
     EndsLine,
 }
 
-fn choices(alloc: Global, text: &str, step: Step) -> Result<Vec<White>, AllocError> {
+fn choices(alloc: Global, text: &str, step: IndentStyle) -> Result<Vec<White>, AllocError> {
     let mut choices = Vec::new(alloc);
     let mut open: usize = 0;
     let mut run = Run::Nothing;
@@ -170,7 +170,7 @@ fn push_choice(
     run: Run,
     rest: &str,
     open: usize,
-    step: Step,
+    step: IndentStyle,
 ) -> Result<(), AllocError> {
     match run {
         Run::Nothing => {}
@@ -194,13 +194,13 @@ fn closers(line: &str) -> usize {
 }
 
 /// Returns the white space that begins a line on this level.
-fn indentation(level: usize, step: Step) -> White {
+fn indentation(level: usize, step: IndentStyle) -> White {
     match step {
-        Step::Tab => White::Lines {
+        IndentStyle::Tab => White::Lines {
             tabs: level,
             spaces: 0,
         },
-        Step::Spaces(width) => White::Lines {
+        IndentStyle::Spaces(width) => White::Lines {
             tabs: 0,
             spaces: level.saturating_mul(usize::from(width)),
         },

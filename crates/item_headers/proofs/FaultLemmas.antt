@@ -14,11 +14,12 @@ use Rattle.pm_stream.specs.declared.stream.TokenTree.TheVariants.{Group, Ident, 
 -- ---- the meaning of errors
 
 -- a statement that holds is true of every error
-pub told : {T : Type 0} → (result : Result T HeaderError) (P : Type 0) → P → IfErr result (λ error. IfFault error P)
-told (Ok found) P holds = tt
-told (Err (errors.Fault fault)) P holds = holds
-told (Err (errors.Keyword error)) P holds = tt
-told (Err (errors.Quote error)) P holds = tt
+pub fault_statement : {T : Type 0} → (result : Result T HeaderError) (P : Type 0) → P
+    → IfErr result (λ error. IfFault error P)
+fault_statement (Ok found) P holds = tt
+fault_statement (Err (errors.Fault fault)) P holds = holds
+fault_statement (Err (errors.Keyword error)) P holds = tt
+fault_statement (Err (errors.Quote error)) P holds = tt
 
 -- the meaning of an error that another call returned
 pub fault_weaker : (error : HeaderError) (P Q : Type 0) → (P → Q) → IfFault error P → IfFault error Q

@@ -5,15 +5,15 @@ use Rattle.declarations.proofs.ParamLemmas.{fewer_param, one_param}
 use Rattle.declarations.specs.Param.{IsParamAt, IsPredicateAt, IsWithin, ParamTrees, PredicateTrees}
 use Rattle.declarations.specs.declared.generics.ParamKind.TheVariants as kinds
 use Rattle.item_headers.specs.Header.{AreParams, ArePredicates, HasParams, param_in, predicate_in}
-use Rattle.item_headers.specs.Header.{bounded, bounded_as, bounds_on_types}
-use Rattle.item_headers.specs.Lists.{any_of, lead_of, listed, listed_after, mark, put}
+use Rattle.item_headers.specs.Header.{with_bound, bounded_as, bounds_on_types}
+use Rattle.item_headers.specs.Lists.{any_of, lead_of, list_trees, listed_after, mark, pushed_trees}
 use Rattle.item_headers.specs.declared.lists.Lead.{Lead}
 use Rattle.item_headers.specs.declared.lists.Lead.TheVariants as leads
 use Rattle.item_headers.specs.declared.params.Form.{Form}
 use Rattle.pm_stream.proofs.BuildingLemmas.{joined_assoc, joined_nil}
 use Rattle.pm_stream.specs.declared.stream.TokenTree.{TokenTree}
 use Rattle.proc_macro2.specs.Building.{split}
-use Rattle.proc_macro2.specs.Forest.{Forest, joined}
+use Rattle.proc_macro2.specs.Forest.{Forest, chain}
 
 -- ---- lists with more elements at the end
 
@@ -38,23 +38,23 @@ any-map f any (element ∷ elements) = refl
 
 pub listed-append : (any : Bool) (lead : Lead) (front back : List Forest)
     → listed_after any lead (front ++ back)
-    ≡ joined (listed_after any lead front) (listed_after (any_of any front) lead back)
+    ≡ chain (listed_after any lead front) (listed_after (any_of any front) lead back)
 listed-append any lead [] back = refl
 listed-append any lead (element ∷ front) back =
     let rest = listed_after true lead front in
     let after = listed_after true lead back in
-    let more : listed_after true lead (front ++ back) ≡ joined rest after =
-    listed-append true lead front back ∙ ap (λ b. joined rest (listed_after b lead back)) (any_more front) in
-    ap (λ r. joined (lead_of any lead) (joined element r)) more
-    ∙ sym (joined_assoc (lead_of any lead) (joined element rest) after
-    ∙ ap (λ r. joined (lead_of any lead) r) (joined_assoc element rest after))
+    let more : listed_after true lead (front ++ back) ≡ chain rest after =
+    listed-append true lead front back ∙ ap (λ b. chain rest (listed_after b lead back)) (any_more front) in
+    ap (λ r. chain (lead_of any lead) (chain element r)) more
+    ∙ sym (joined_assoc (lead_of any lead) (chain element rest) after
+    ∙ ap (λ r. chain (lead_of any lead) r) (joined_assoc element rest after))
 
 pub listed-snoc : (any : Bool) (lead : Lead) (front : List Forest) (element : Forest)
     → listed_after any lead (front ++ element ∷ [])
-    ≡ joined (listed_after any lead front) (joined (lead_of (any_of any front) lead) element)
+    ≡ chain (listed_after any lead front) (chain (lead_of (any_of any front) lead) element)
 listed-snoc any lead front element =
     listed-append any lead front (element ∷ [])
-    ∙ ap (λ r. joined (listed_after any lead front) (joined (lead_of (any_of any front) lead) r)) (joined_nil element)
+    ∙ ap (λ r. chain (listed_after any lead front) (chain (lead_of (any_of any front) lead) r)) (joined_nil element)
 
 pub map-snoc : {A B : Type 0} → (f : A → B) (front : List A) (element : A)
     → map f (front ++ element ∷ []) ≡ map f front ++ f element ∷ []
@@ -63,14 +63,14 @@ map-snoc f (first ∷ front) element = ap (λ r. f first ∷ r) (map-snoc f fron
 
 -- one more element after those that were added
 pub put_more : (any : Bool) (lead : Lead) (old now lead_done new : Forest) (front : List Forest) (element : Forest)
-    → now ≡ joined old (listed_after any lead front) → lead_done ≡ joined now (lead_of (any_of any front) lead)
-    → new ≡ joined lead_done element → new ≡ joined old (listed_after any lead (front ++ element ∷ []))
+    → now ≡ chain old (listed_after any lead front) → lead_done ≡ chain now (lead_of (any_of any front) lead)
+    → new ≡ chain lead_done element → new ≡ chain old (listed_after any lead (front ++ element ∷ []))
 put_more any lead old now lead_done new front element is led is_new =
     let before = listed_after any lead front in
     let lead_here = lead_of (any_of any front) lead in
-    is_new ∙ ap (λ f. joined f element) led ∙ joined_assoc now lead_here element
-    ∙ ap (λ f. joined f (joined lead_here element)) is ∙ joined_assoc old before (joined lead_here element)
-    ∙ ap (joined old) (sym (listed-snoc any lead front element))
+    is_new ∙ ap (λ f. chain f element) led ∙ joined_assoc now lead_here element
+    ∙ ap (λ f. chain f (chain lead_here element)) is ∙ joined_assoc old before (chain lead_here element)
+    ∙ ap (chain old) (sym (listed-snoc any lead front element))
 
 -- ---- parameters and predicates one after the other
 
@@ -96,7 +96,7 @@ pub record PutParams (lead : Lead) (form : Form) (inside left : List TokenTree) 
     : Type 0 where
   pub done : List ParamTrees
   pub read : AreParams inside done left
-  pub is : now ≡ joined old (listed lead (map (param_in form) done))
+  pub is : now ≡ chain old (list_trees lead (map (param_in form) done))
   pub counted : any ≡ any_of false done
 
 pub no_params : (lead : Lead) (form : Form) (inside : List TokenTree) (old : Forest)
@@ -105,7 +105,7 @@ no_params lead form inside old = record { done = []; read = refl; is = sym (join
 
 pub param_more : (lead : Lead) (form : Form) (inside left rest : List TokenTree) (old now led new : Forest) (any : Bool)
     (param : ParamTrees) → PutParams lead form inside left old now any → IsParamAt left param rest
-    → led ≡ joined now (lead_of any lead) → new ≡ joined led (param_in form param)
+    → led ≡ chain now (lead_of any lead) → new ≡ chain led (param_in form param)
     → PutParams lead form inside rest old new true
 param_more lead form inside left rest old now led new any param put_so_far is led_is new_is =
     let written = map (param_in form) put_so_far.done in
@@ -116,15 +116,15 @@ param_more lead form inside left rest old now led new any param put_so_far is le
       read = params-snoc inside put_so_far.done left param rest put_so_far.read is;
       is =
           put_more false lead old now led new written (param_in form param) put_so_far.is
-          (led_is ∙ ap (λ b. joined now (lead_of b lead)) (sym counted)) new_is
-          ∙ ap (λ fs. joined old (listed lead fs)) (sym (map-snoc (param_in form) put_so_far.done param));
+          (led_is ∙ ap (λ b. chain now (lead_of b lead)) (sym counted)) new_is
+          ∙ ap (λ fs. chain old (list_trees lead fs)) (sym (map-snoc (param_in form) put_so_far.done param));
       counted = sym (any-append false put_so_far.done param);
     }
 
 pub record PutPredicates (inside left : List TokenTree) (old now : Forest) (any : Bool) : Type 0 where
   pub done : List PredicateTrees
   pub read : ArePredicates inside done left
-  pub is : now ≡ joined old (listed leads.Where (map predicate_in done))
+  pub is : now ≡ chain old (list_trees leads.Where (map predicate_in done))
   pub counted : any ≡ any_of false done
 
 pub no_predicates : (inside : List TokenTree) (old : Forest) → PutPredicates inside inside old old false
@@ -132,7 +132,7 @@ no_predicates inside old = record { done = []; read = refl; is = sym (joined_nil
 
 pub predicate_more : (inside left rest : List TokenTree) (old now led new : Forest) (any : Bool)
     (predicate : PredicateTrees) → PutPredicates inside left old now any → IsPredicateAt left predicate rest
-    → led ≡ joined now (lead_of any leads.Where) → new ≡ joined led (predicate_in predicate)
+    → led ≡ chain now (lead_of any leads.Where) → new ≡ chain led (predicate_in predicate)
     → PutPredicates inside rest old new true
 predicate_more inside left rest old now led new any predicate put_so_far is led_is new_is =
     let written = map predicate_in put_so_far.done in
@@ -143,8 +143,8 @@ predicate_more inside left rest old now led new any predicate put_so_far is led_
       read = predicates-snoc inside put_so_far.done left predicate rest put_so_far.read is;
       is =
           put_more false leads.Where old now led new written (predicate_in predicate) put_so_far.is
-          (led_is ∙ ap (λ b. joined now (lead_of b leads.Where)) (sym counted)) new_is
-          ∙ ap (λ fs. joined old (listed leads.Where fs)) (sym (map-snoc predicate_in put_so_far.done predicate));
+          (led_is ∙ ap (λ b. chain now (lead_of b leads.Where)) (sym counted)) new_is
+          ∙ ap (λ fs. chain old (list_trees leads.Where fs)) (sym (map-snoc predicate_in put_so_far.done predicate));
       counted = sym (any-append false put_so_far.done predicate);
     }
 
@@ -158,7 +158,7 @@ bounds-append bound (param ∷ front) back =
     ≡ bounded_as bound param k (bounds_on_types bound front) ++ bounds_on_types bound back) [
       | kinds.Lifetime ↦ bounds-append bound front back
       | kinds.Type ↦
-          ap (λ r. joined (put param.name) (joined (mark 58) bound) ∷ r) (bounds-append bound front back)
+          ap (λ r. chain (pushed_trees param.name) (chain (mark 58) bound) ∷ r) (bounds-append bound front back)
       | kinds.Const ↦ bounds-append bound front back
     ]
 
@@ -166,7 +166,7 @@ pub record PutBounds (bound : Forest) (any_before : Bool) (inside left : List To
     (any : Bool) : Type 0 where
   pub done : List ParamTrees
   pub read : AreParams inside done left
-  pub is : now ≡ joined old (listed_after any_before leads.Where (bounds_on_types bound done))
+  pub is : now ≡ chain old (listed_after any_before leads.Where (bounds_on_types bound done))
   pub counted : any ≡ any_of any_before (bounds_on_types bound done)
 
 pub no_bounds : (bound : Forest) (any : Bool) (inside : List TokenTree) (old : Forest)
@@ -175,11 +175,11 @@ no_bounds bound any inside old = record { done = []; read = refl; is = sym (join
 
 pub bound_more : (bound : Forest) (any_before : Bool) (inside left rest : List TokenTree) (old now new : Forest)
     (any any_now : Bool) (param : ParamTrees) → PutBounds bound any_before inside left old now any
-    → IsParamAt left param rest → new ≡ joined now (listed_after any leads.Where (bounded bound param []))
-    → any_now ≡ any_of any (bounded bound param []) → PutBounds bound any_before inside rest old new any_now
+    → IsParamAt left param rest → new ≡ chain now (listed_after any leads.Where (with_bound bound param []))
+    → any_now ≡ any_of any (with_bound bound param []) → PutBounds bound any_before inside rest old new any_now
 bound_more bound any_before inside left rest old now new any any_now param so_far is new_is any_is =
     let before = bounds_on_types bound so_far.done in
-    let one = bounded bound param [] in
+    let one = with_bound bound param [] in
     let all : bounds_on_types bound (so_far.done ++ param ∷ []) ≡ before ++ one =
     bounds-append bound so_far.done (param ∷ []) in
     let written = listed_after any_before leads.Where before in
@@ -187,11 +187,11 @@ bound_more bound any_before inside left rest old now new any any_now param so_fa
       done = so_far.done ++ param ∷ [];
       read = params-snoc inside so_far.done left param rest so_far.read is;
       is =
-          new_is ∙ ap (λ f. joined f (listed_after any leads.Where one)) so_far.is
-          ∙ ap (λ b. joined (joined old written) (listed_after b leads.Where one)) so_far.counted
+          new_is ∙ ap (λ f. chain f (listed_after any leads.Where one)) so_far.is
+          ∙ ap (λ b. chain (chain old written) (listed_after b leads.Where one)) so_far.counted
           ∙ joined_assoc old written (listed_after (any_of any_before before) leads.Where one)
-          ∙ ap (joined old) (sym (listed-append any_before leads.Where before one))
-          ∙ ap (λ fs. joined old (listed_after any_before leads.Where fs)) (sym all);
+          ∙ ap (chain old) (sym (listed-append any_before leads.Where before one))
+          ∙ ap (λ fs. chain old (listed_after any_before leads.Where fs)) (sym all);
       counted =
           any_is ∙ ap (λ b. any_of b one) so_far.counted ∙ sym (any-more any_before before one)
           ∙ ap (λ fs. any_of any_before fs) (sym all);
@@ -242,10 +242,10 @@ one_params generics params params2 has has2 =
 
 -- ---- several parts that are added one after the other
 
-pub joined_two : (old first second now new : Forest) → now ≡ joined old first → new ≡ joined now second
-    → new ≡ joined old (joined first second)
+pub joined_two : (old first second now new : Forest) → now ≡ chain old first → new ≡ chain now second
+    → new ≡ chain old (chain first second)
 joined_two old first second now new now_is new_is =
-    new_is ∙ ap (λ f. joined f second) now_is ∙ joined_assoc old first second
+    new_is ∙ ap (λ f. chain f second) now_is ∙ joined_assoc old first second
 
 -- ---- trees that are added one after the other
 
@@ -254,13 +254,14 @@ no_trees [] none = refl
 no_trees (tree ∷ trees) none = absurd (omega arith)
 
 pub put_step : (start now new : Forest) (trees left : List TokenTree) (tree copy : TokenTree) (rest : List TokenTree)
-    → left ≡ tree ∷ rest → copy ≡ tree → new ≡ joined now (split copy)
-    → joined now (put left) ≡ joined start (put trees) → joined new (put rest) ≡ joined start (put trees)
+    → left ≡ tree ∷ rest → copy ≡ tree → new ≡ chain now (split copy)
+    → chain now (pushed_trees left) ≡ chain start (pushed_trees trees)
+    → chain new (pushed_trees rest) ≡ chain start (pushed_trees trees)
 put_step start now new trees left tree copy rest whole same is so_far =
-    ap (λ f. joined f (put rest)) (is ∙ ap (λ t. joined now (split t)) same)
-    ∙ joined_assoc now (split tree) (put rest) ∙ ap (λ ts. joined now (put ts)) (sym whole) ∙ so_far
+    ap (λ f. chain f (pushed_trees rest)) (is ∙ ap (λ t. chain now (split t)) same)
+    ∙ joined_assoc now (split tree) (pushed_trees rest) ∙ ap (λ ts. chain now (pushed_trees ts)) (sym whole) ∙ so_far
 
 pub put_done : (start now : Forest) (trees left : List TokenTree) → length left ≡ 0
-    → joined now (put left) ≡ joined start (put trees) → now ≡ joined start (put trees)
+    → chain now (pushed_trees left) ≡ chain start (pushed_trees trees) → now ≡ chain start (pushed_trees trees)
 put_done start now trees left none so_far =
-    sym (joined_nil now) ∙ ap (λ ts. joined now (put ts)) (sym (no_trees left none)) ∙ so_far
+    sym (joined_nil now) ∙ ap (λ ts. chain now (pushed_trees ts)) (sym (no_trees left none)) ∙ so_far

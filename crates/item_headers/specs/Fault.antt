@@ -8,9 +8,9 @@ use Rattle.pm_stream.specs.declared.stream.TokenTree.{TokenTree}
 
 -- if the error is `Fault`, the statement holds
 abbrev pub IfFault : HeaderError → Type 0 → Type 0
-IfFault (errors.Fault fault) told = told
-IfFault (errors.Keyword error) told = Unit {0}
-IfFault (errors.Quote error) told = Unit {0}
+IfFault (errors.Fault fault) statement = statement
+IfFault (errors.Keyword error) statement = Unit {0}
+IfFault (errors.Quote error) statement = Unit {0}
 
 -- whether the trees are not the generic parameters of an item
 abbrev pub HasNoParams : List TokenTree → Type 0

@@ -2,11 +2,11 @@
 ghost use Rattle.std.specs.Prelude.{◌≡◌, ◌∷◌, [], IfErr, IfOk, List, OnOk, false, map};
 ghost use Rattle.declarations.specs.Param.{ParamTrees, PredicateTrees, param_trees, predicate_trees};
 ghost use Rattle.item_headers.specs.Fault.{HasNoParams, HasNoPredicates, HasNotBoth, IfFault};
-ghost use Rattle.item_headers.specs.Header.{HasParams, HasPredicates, bounded, bounds_on_types, predicate_in};
+ghost use Rattle.item_headers.specs.Header.{HasParams, HasPredicates, with_bound, bounds_on_types, predicate_in};
 ghost use Rattle.item_headers.specs.Header.{where_with};
-ghost use Rattle.item_headers.specs.Lists.{any_of, listed, listed_after};
+ghost use Rattle.item_headers.specs.Lists.{any_of, list_trees, listed_after};
 ghost use Rattle.item_headers.specs.declared.lists.Lead.TheVariants as leads;
-ghost use Rattle.proc_macro2.specs.Forest.{Forest, joined};
+ghost use Rattle.proc_macro2.specs.Forest.{Forest, chain};
 
 use crate::errors::HeaderError;
 use crate::lists::{Lead, push_lead, push_mark, push_trees};
@@ -82,7 +82,7 @@ pub(crate) fn push_where(
     where_clause: &[TokenTree],
 ) -> Result<bool, HeaderError>
     ensures ok { IfOk result (λ any. (predicates : List PredicateTrees) × HasPredicates where_clause.now predicates
-        × (quote.new ≡ joined quote.old (listed leads.Where (map predicate_in predicates)))
+        × (quote.new ≡ chain quote.old (list_trees leads.Where (map predicate_in predicates)))
         × (any ≡ any_of false predicates)) }
     ensures fault { IfErr result (λ error. IfFault error (HasNoPredicates where_clause.now)) }
 {
@@ -100,7 +100,7 @@ pub(crate) fn push_where(
 
 /// Writes a predicate at the end of the quote.
 fn push_predicate(quote: &mut Quote, predicate: &Predicate<'_>) -> Result<(), AllocError>
-    ensures { OnOk result (quote.new ≡ joined quote.old (predicate_in (predicate_trees predicate.now))) }
+    ensures { OnOk result (quote.new ≡ chain quote.old (predicate_in (predicate_trees predicate.now))) }
 {
     push_trees(quote, predicate.bounded)?;
     push_mark(quote, ':')?;
@@ -118,7 +118,7 @@ fn push_bounds(
     any: bool,
 ) -> Result<(), HeaderError>
     ensures ok { OnOk result ((params : List ParamTrees) × HasParams generics.now params
-        × (quote.new ≡ joined quote.old (listed_after any leads.Where (bounds_on_types bound.now params)))) }
+        × (quote.new ≡ chain quote.old (listed_after any leads.Where (bounds_on_types bound.now params)))) }
     ensures fault { IfErr result (λ error. IfFault error (HasNoParams generics.now)) }
 {
     let mut left = within_generics(generics)?;
@@ -142,8 +142,8 @@ fn push_bound(
     any: bool,
 ) -> Result<bool, IdentError>
     ensures { IfOk result (λ more. (quote.new
-        ≡ joined quote.old (listed_after any leads.Where (bounded bound.now (param_trees param.now) [])))
-        × (more ≡ any_of any (bounded bound.now (param_trees param.now) []))) }
+        ≡ chain quote.old (listed_after any leads.Where (with_bound bound.now (param_trees param.now) [])))
+        × (more ≡ any_of any (with_bound bound.now (param_trees param.now) []))) }
 {
     match param.kind {
         ParamKind::Lifetime => Ok(any),

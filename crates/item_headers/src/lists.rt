@@ -1,9 +1,9 @@
 //! Adds words, marks and trees to a quote, and the marks and words before each element of a list.
 ghost use Rattle.std.specs.Prelude.{◌≡◌, IsTrue, OnOk, true};
 ghost use Rattle.std.specs.Str.{chars};
-ghost use Rattle.item_headers.specs.Lists.{first_lead, lead_of, led, mark, put, word};
+ghost use Rattle.item_headers.specs.Lists.{first_lead, lead_of, led, mark, pushed_trees, word};
 ghost use Rattle.item_headers.specs.declared.lists.Lead.TheVariants as leads;
-ghost use Rattle.proc_macro2.specs.Forest.{joined, leaf, nil};
+ghost use Rattle.proc_macro2.specs.Forest.{chain, leaf, nil};
 ghost use Rattle.proc_macro2.specs.Mark.{is_mark};
 ghost use Rattle.proc_macro2.specs.Token.{Mark};
 
@@ -25,14 +25,14 @@ pub(crate) enum Lead {
 /// Adds a mark that is Alone at the end of the quote.
 pub(crate) fn push_mark(quote: &mut Quote, character: char) -> Result<(), AllocError>
     requires { IsTrue (is_mark character) }
-    ensures { OnOk result (quote.new ≡ joined quote.old (mark character)) }
+    ensures { OnOk result (quote.new ≡ chain quote.old (mark character)) }
 {
     quote.push(TokenTree::Punct(Punct::new(character, Spacing::Alone)))
 }
 
 /// Adds a word at the end of the quote.
 pub(crate) fn push_word(quote: &mut Quote, alloc: Global, name: &str) -> Result<(), IdentError>
-    ensures { OnOk result (quote.new ≡ joined quote.old (word (chars name.now))) }
+    ensures { OnOk result (quote.new ≡ chain quote.old (word (chars name.now))) }
 {
     let ident = Ident::new(alloc, name, Span::call_site())?;
     quote.push(TokenTree::Ident(ident))?;
@@ -41,7 +41,7 @@ pub(crate) fn push_word(quote: &mut Quote, alloc: Global, name: &str) -> Result<
 
 /// Adds copies of the trees at the end of the quote.
 pub(crate) fn push_trees(quote: &mut Quote, trees: &[TokenTree]) -> Result<(), AllocError>
-    ensures { OnOk result (quote.new ≡ joined quote.old (put trees.now)) }
+    ensures { OnOk result (quote.new ≡ chain quote.old (pushed_trees trees.now)) }
 {
     let mut left = trees;
     while let Some((tree, rest)) = left.split_first() {
@@ -54,7 +54,7 @@ pub(crate) fn push_trees(quote: &mut Quote, trees: &[TokenTree]) -> Result<(), A
 
 /// Adds `:` and copies of the trees at the end of the quote, or nothing if there are no trees.
 pub(crate) fn push_led(quote: &mut Quote, trees: &[TokenTree]) -> Result<(), AllocError>
-    ensures { OnOk result (quote.new ≡ joined quote.old (led 58 trees.now)) }
+    ensures { OnOk result (quote.new ≡ chain quote.old (led 58 trees.now)) }
 {
     if trees.is_empty() {
         return Ok(());
@@ -71,7 +71,7 @@ pub(crate) fn push_lead(
     lead: Lead,
     any: bool,
 ) -> Result<(), IdentError>
-    ensures { OnOk result (quote.new ≡ joined quote.old (lead_of any lead)) }
+    ensures { OnOk result (quote.new ≡ chain quote.old (lead_of any lead)) }
 {
     if any {
         return Ok(push_mark(quote, ',')?);
@@ -81,7 +81,7 @@ pub(crate) fn push_lead(
 
 /// Adds the marks or the word before the first element of a list.
 fn push_first_lead(quote: &mut Quote, alloc: Global, lead: Lead) -> Result<(), IdentError>
-    ensures { OnOk result (quote.new ≡ joined quote.old (first_lead lead)) }
+    ensures { OnOk result (quote.new ≡ chain quote.old (first_lead lead)) }
 {
     match lead {
         Lead::Angle => Ok(push_mark(quote, '<')?),
@@ -92,7 +92,7 @@ fn push_first_lead(quote: &mut Quote, alloc: Global, lead: Lead) -> Result<(), I
 
 /// Adds `::<` at the end of the quote.
 fn push_turbofish(quote: &mut Quote) -> Result<(), AllocError>
-    ensures { OnOk result (quote.new ≡ joined quote.old (first_lead leads.Turbofish)) }
+    ensures { OnOk result (quote.new ≡ chain quote.old (first_lead leads.Turbofish)) }
 {
     push_joint_colon(quote)?;
     push_mark(quote, ':')?;
@@ -102,7 +102,7 @@ fn push_turbofish(quote: &mut Quote) -> Result<(), AllocError>
 
 /// Adds a `:` that is Joint at the end of the quote.
 fn push_joint_colon(quote: &mut Quote) -> Result<(), AllocError>
-    ensures { OnOk result (quote.new ≡ joined quote.old (leaf (Mark 58 true) 0 0 nil)) }
+    ensures { OnOk result (quote.new ≡ chain quote.old (leaf (Mark 58 true) 0 0 nil)) }
 {
     quote.push(TokenTree::Punct(Punct::new(':', Spacing::Joint)))
 }

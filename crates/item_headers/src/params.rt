@@ -6,7 +6,7 @@ ghost use Rattle.item_headers.specs.Header.{HasParams, generics, impl_generics, 
 ghost use Rattle.item_headers.specs.Header.{type_generics};
 ghost use Rattle.item_headers.specs.declared.lists.Lead.TheVariants as leads;
 ghost use Rattle.item_headers.specs.declared.params.Form.TheVariants as forms;
-ghost use Rattle.proc_macro2.specs.Forest.{joined};
+ghost use Rattle.proc_macro2.specs.Forest.{chain};
 
 use crate::errors::HeaderError;
 use crate::lists::{Lead, push_lead, push_led, push_mark, push_trees, push_word};
@@ -86,7 +86,7 @@ pub(crate) fn push_generics(
     form: Form,
 ) -> Result<(), HeaderError>
     ensures ok { OnOk result ((params : List ParamTrees) × HasParams trees.now params
-        × (quote.new ≡ joined quote.old (generics lead form params))) }
+        × (quote.new ≡ chain quote.old (generics lead form params))) }
     ensures fault { IfErr result (λ error. IfFault error (HasNoParams trees.now)) }
 {
     let mut left = within_generics(trees)?;
@@ -111,7 +111,7 @@ fn push_param(
     param: &Param<'_>,
     form: Form,
 ) -> Result<(), IdentError>
-    ensures { OnOk result (quote.new ≡ joined quote.old (param_in form (param_trees param.now))) }
+    ensures { OnOk result (quote.new ≡ chain quote.old (param_in form (param_trees param.now))) }
 {
     match form {
         Form::Declared => push_declared(quote, alloc, param),
@@ -121,7 +121,7 @@ fn push_param(
 
 /// Writes a parameter without its default at the end of the quote.
 fn push_declared(quote: &mut Quote, alloc: Global, param: &Param<'_>) -> Result<(), IdentError>
-    ensures { OnOk result (quote.new ≡ joined quote.old (param_in forms.Declared (param_trees param.now))) }
+    ensures { OnOk result (quote.new ≡ chain quote.old (param_in forms.Declared (param_trees param.now))) }
 {
     push_trees(quote, param.attributes)?;
     push_keyword(quote, alloc, param.kind)?;
@@ -131,7 +131,7 @@ fn push_declared(quote: &mut Quote, alloc: Global, param: &Param<'_>) -> Result<
 
 /// Writes the keyword of a parameter, if it has one, at the end of the quote.
 fn push_keyword(quote: &mut Quote, alloc: Global, kind: ParamKind) -> Result<(), IdentError>
-    ensures { OnOk result (quote.new ≡ joined quote.old (keyword kind)) }
+    ensures { OnOk result (quote.new ≡ chain quote.old (keyword kind)) }
 {
     match kind {
         ParamKind::Lifetime => Ok(()),

@@ -24,10 +24,10 @@ use Rattle.pm_stream.specs.WellSpaced.{fits, follows_quote, follows_joint, next_
 use Rattle.proc_macro2.specs.Laws.{Gives}
 use Rattle.proc_macro2.proofs.PieceStarts.{tick_comment, no_comment, no_mark_plain, joint_stands, white_no_mark}
 use Rattle.proc_macro2.proofs.PieceStarts.{whole_any}
-use Rattle.proc_macro2.proofs.EventSpans.{bare, said, same_from_said}
+use Rattle.proc_macro2.proofs.EventSpans.{bare, piece_events, same_from_events}
 use Rattle.proc_macro2.proofs.PrintedCover.{opener_of, closer_of, open_piece, close_piece, token_piece, stand_open}
-use Rattle.proc_macro2.proofs.PrintedCover.{stand_close, said_open, said_close, tick_stands}
-use Rattle.proc_macro2.proofs.Returns.{next_event, spaced, spaced-flat}
+use Rattle.proc_macro2.proofs.PrintedCover.{stand_close, events_of_open, events_of_close, tick_stands}
+use Rattle.proc_macro2.proofs.Returns.{next_event, events_fit, events_fit-flat}
 use Rattle.layout.specs.Layout.{parts_name, parts_from, event_text, goes_on, must_part, is_joint, may_part, Laid}
 use Rattle.layout.specs.Layout.{laid_onto}
 use Rattle.layout.specs.Layout.{begins_range, is_dot, is_plain}
@@ -251,11 +251,11 @@ plain_inside (x ∷ xs) last gaps end h = by_gap x.0 x.1 gaps.0 h
 -- ---- Joint marks
 
 -- an identifier may follow `'` if it is kept apart from what follows it
-quoted : (e : Event) (xs : List Laid) (last : List ℕ) → AreWritten (events_of xs) → AreGaps xs
+quote_stands : (e : Event) (xs : List Laid) (last : List ℕ) → AreWritten (events_of xs) → AreGaps xs
     → IsGap last → may_follow e xs ≡ true → follows_quote (next_event (e ∷ events_of xs)) ≡ true
     → IsPiece false (event_piece e).0 (event_piece e).1 (onto (laid_pieces xs last) [])
     → FollowsQuote ((event_piece e).1 ++ onto (laid_pieces xs last) [])
-quoted (One (Name true name) lo hi) xs last written gaps end kept fit h = record {
+quote_stands (One (Name true name) lo hi) xs last written gaps end kept fit h = record {
   raw = true;
   name = name;
   rest = onto (laid_pieces xs last) [];
@@ -265,7 +265,7 @@ quoted (One (Name true name) lo hi) xs last written gaps end kept fit h = record
       stops_within (bars_quote true) parts_name (bars_parts true) (onto (laid_pieces xs last) [])
       (calm_after (Name true name) lo hi xs last refl (no_range (Name true name) lo hi xs refl) written gaps end kept);
 }
-quoted (One (Name false name) lo hi) xs last written gaps end kept fit h = record {
+quote_stands (One (Name false name) lo hi) xs last written gaps end kept fit h = record {
   raw = false;
   name = name;
   rest = onto (laid_pieces xs last) [];
@@ -276,26 +276,26 @@ quoted (One (Name false name) lo hi) xs last written gaps end kept fit h = recor
       (calm_after (Name false name) lo hi xs last refl (no_range (Name false name) lo hi xs refl)
       written gaps end kept);
 }
-quoted (One (Mark d joint) lo hi) xs last written gaps end kept fit h = absurd (both_ways false refl fit)
-quoted (One (Literal text) lo hi) xs last written gaps end kept fit h =
+quote_stands (One (Mark d joint) lo hi) xs last written gaps end kept fit h = absurd (both_ways false refl fit)
+quote_stands (One (Literal text) lo hi) xs last written gaps end kept fit h =
     prefixed_follows text (onto (laid_pieces xs last) []) fit
-quoted (Opens d lo) xs last written gaps end kept fit h = absurd (both_ways false refl fit)
-quoted (Closes d hi) xs last written gaps end kept fit h = absurd (both_ways false refl fit)
+quote_stands (Opens d lo) xs last written gaps end kept fit h = absurd (both_ways false refl fit)
+quote_stands (Closes d hi) xs last written gaps end kept fit h = absurd (both_ways false refl fit)
 
 -- each mark but `'` may be Joint before the tokens that fit it
-joined : (c : ℕ) (e : Event) (xs : List Laid) (last : List ℕ) → is_mark c ≡ true → (c ≡ 39 → ⊥)
+joint_may_stand : (c : ℕ) (e : Event) (xs : List Laid) (last : List ℕ) → is_mark c ≡ true → (c ≡ 39 → ⊥)
     → follows_joint c (next_event (e ∷ events_of xs)) ≡ true
     → IsPiece false (event_piece e).0 (event_piece e).1 (onto (laid_pieces xs last) [])
     → Stands (Mark c true) ((event_piece e).1 ++ onto (laid_pieces xs last) [])
-joined c (One (Name raw name) lo hi) xs last m other fit h = absurd (both_ways false refl fit)
-joined c (One (Mark d joint) lo hi) xs last m other fit h =
+joint_may_stand c (One (Name raw name) lo hi) xs last m other fit h = absurd (both_ways false refl fit)
+joint_may_stand c (One (Mark d joint) lo hi) xs last m other fit h =
     joint_stands c false (Leaf (Mark d joint)) (d ∷ []) (onto (laid_pieces xs last) []) m other h refl
     (not-true (begins_any comment_fronts (c ∷ d ∷ [])) fit)
-joined c (One (Literal text) lo hi) xs last m other fit h =
+joint_may_stand c (One (Literal text) lo hi) xs last m other fit h =
     joint_stands c false (Leaf (Literal text)) text (onto (laid_pieces xs last) []) m other h fit
     (tick_comment c text (onto (laid_pieces xs last) []) fit)
-joined c (Opens d lo) xs last m other fit h = absurd (both_ways false refl fit)
-joined c (Closes d hi) xs last m other fit h = absurd (both_ways false refl fit)
+joint_may_stand c (Opens d lo) xs last m other fit h = absurd (both_ways false refl fit)
+joint_may_stand c (Closes d hi) xs last m other fit h = absurd (both_ways false refl fit)
 
 -- a Joint mark is a token before what is laid out after it
 joint_fits : (c lo hi : ℕ) (xs : List Laid) (last : List ℕ) → is_mark c ≡ true
@@ -321,15 +321,15 @@ joint_fits c lo hi (x ∷ xs) last m fit written gaps end next kept h =
       | inl same ↦
           subst (λ x. Stands (Mark x true) (onto (event_piece e ∷ laid_pieces xs last) [])) (sym (eqb-true c 39 same))
           (tick_stands (onto (event_piece e ∷ laid_pieces xs last) [])
-          (quoted e xs last written.1 gaps.1 end follow (sym (cond-true (c == 39) _ _ same) ∙ fit) h.0))
+          (quote_stands e xs last written.1 gaps.1 end follow (sym (cond-true (c == 39) _ _ same) ∙ fit) h.0))
       | inr other ↦
-          joined c e xs last m (eqb-false c 39 other) (sym (cond-false (c == 39) _ _ other) ∙ fit) h.0
+          joint_may_stand c e xs last m (eqb-false c 39 other) (sym (cond-false (c == 39) _ _ other) ∙ fit) h.0
     ]
 
 -- ---- all pieces
 
 stand_event : (b : Bool) (e : Event) (xs : List Laid) (last : List ℕ) → AreWritten (e ∷ events_of xs)
-    → AreGaps xs → IsGap last → spaced (e ∷ events_of xs) ≡ true
+    → AreGaps xs → IsGap last → events_fit (e ∷ events_of xs) ≡ true
     → may_follow e xs ≡ true → keeps_apart xs ≡ true → StandBefore false (laid_pieces xs last) []
     → IsPiece b (event_piece e).0 (event_piece e).1 (onto (laid_pieces xs last) [])
 stand_event b (One (Name raw name) lo hi) xs last written gaps end w next kept h = (
@@ -338,14 +338,14 @@ stand_event b (One (Name raw name) lo hi) xs last written gaps end w next kept h
       (calm_after (Name raw name) lo hi xs last refl (no_range (Name raw name) lo hi xs refl) written.1 gaps end next),
 )
 stand_event b (One (Mark c false) lo hi) xs last written gaps end w next kept h =
-    let fit = (and_parts (fits (Mark c false) (next_event (events_of xs))) (spaced (events_of xs)) w).0 in (
+    let fit = (and_parts (fits (Mark c false) (next_event (events_of xs))) (events_fit (events_of xs)) w).0 in (
       refl,
       alone_stands c _ written.0 (eqb-false c 39 (not-true (c == 39) fit))
           (calm_after (Mark c false) lo hi xs last refl (no_range (Mark c false) lo hi xs refl) written.1 gaps end
           next),
     )
 stand_event b (One (Mark c true) lo hi) xs last written gaps end w next kept h =
-    let fit = (and_parts (fits (Mark c true) (next_event (events_of xs))) (spaced (events_of xs)) w).0 in
+    let fit = (and_parts (fits (Mark c true) (next_event (events_of xs))) (events_fit (events_of xs)) w).0 in
     (refl, joint_fits c lo hi xs last written.0 fit written.1 gaps end next kept h)
 stand_event b (One (Literal text) lo hi) xs last written gaps end w next kept h =
     (refl, literal_there text lo hi xs last written.0 written.1 gaps end next kept)
@@ -354,13 +354,13 @@ stand_event b (Opens d lo) xs last written gaps end w next kept h =
 stand_event b (Closes d hi) xs last written gaps end w next kept h =
     stand_close d b (onto (laid_pieces xs last) []) written.0
 
-later_spaced : (e : Event) (es : List Event) → spaced (e ∷ es) ≡ true → spaced es ≡ true
-later_spaced (One token lo hi) es w = (and_parts (fits token (next_event es)) (spaced es) w).1
-later_spaced (Opens d lo) es w = (and_parts (is_shown d) (spaced es) w).1
+later_spaced : (e : Event) (es : List Event) → events_fit (e ∷ es) ≡ true → events_fit es ≡ true
+later_spaced (One token lo hi) es w = (and_parts (fits token (next_event es)) (events_fit es) w).1
+later_spaced (Opens d lo) es w = (and_parts (is_shown d) (events_fit es) w).1
 later_spaced (Closes d hi) es w = w
 
 pub stand_laid : (b : Bool) (xs : List Laid) (last : List ℕ) → AreWritten (events_of xs)
-    → AreGaps xs → IsGap last → spaced (events_of xs) ≡ true → keeps_apart xs ≡ true
+    → AreGaps xs → IsGap last → events_fit (events_of xs) ≡ true → keeps_apart xs ≡ true
     → StandBefore b (laid_pieces xs last) []
 stand_laid b [] last written gaps end w kept = stand_gaps last b [] end (λ c. tt)
 stand_laid b (x ∷ xs) last written gaps end w kept =
@@ -372,22 +372,22 @@ stand_laid b (x ∷ xs) last written gaps end w kept =
 
 -- ---- the tokens that the pieces mean
 
-said_gaps : (gap : List ℕ) (ps : List Piece) → said (gap_pieces gap ps) ≡ said ps
-said_gaps [] ps = refl
-said_gaps (c ∷ gap) ps = said_gaps gap ps
+events_of_gaps : (gap : List ℕ) (ps : List Piece) → piece_events (gap_pieces gap ps) ≡ piece_events ps
+events_of_gaps [] ps = refl
+events_of_gaps (c ∷ gap) ps = events_of_gaps gap ps
 
-pub said_laid : (xs : List Laid) (last : List ℕ) → AreWritten (events_of xs)
-    → said (laid_pieces xs last) ≡ bare (events_of xs)
-said_laid [] last written = said_gaps last []
-said_laid (x ∷ xs) last written =
-    said_gaps x.0 (event_piece x.1 ∷ laid_pieces xs last)
-    ∙ said_event x.1 (laid_pieces xs last) (events_of xs) written.0 (said_laid xs last written.1)
+pub events_of_laid : (xs : List Laid) (last : List ℕ) → AreWritten (events_of xs)
+    → piece_events (laid_pieces xs last) ≡ bare (events_of xs)
+events_of_laid [] last written = events_of_gaps last []
+events_of_laid (x ∷ xs) last written =
+    events_of_gaps x.0 (event_piece x.1 ∷ laid_pieces xs last)
+    ∙ events_of_event x.1 (laid_pieces xs last) (events_of xs) written.0 (events_of_laid xs last written.1)
   where
-    said_event : (e : Event) (ps : List Piece) (es : List Event) → IsWritten e → said ps ≡ bare es
-        → said (event_piece e ∷ ps) ≡ bare (e ∷ es)
-    said_event (One token lo hi) ps es written h = ap (λ x. One token 0 0 ∷ x) h
-    said_event (Opens d lo) ps es written h = said_open d ps written ∙ ap (λ x. Opens d 0 ∷ x) h
-    said_event (Closes d hi) ps es written h = said_close d ps written ∙ ap (λ x. Closes d 0 ∷ x) h
+    events_of_event : (e : Event) (ps : List Piece) (es : List Event) → IsWritten e → piece_events ps ≡ bare es
+        → piece_events (event_piece e ∷ ps) ≡ bare (e ∷ es)
+    events_of_event (One token lo hi) ps es written h = ap (λ x. One token 0 0 ∷ x) h
+    events_of_event (Opens d lo) ps es written h = events_of_open d ps written ∙ ap (λ x. Opens d 0 ∷ x) h
+    events_of_event (Closes d hi) ps es written h = events_of_close d ps written ∙ ap (λ x. Closes d 0 ∷ x) h
 
 -- ---- the law
 
@@ -396,10 +396,10 @@ pub layout_returns : (base : ℕ) (stream : Forest) (text : List ℕ) → IsBuil
 layout_returns base stream text built w layout =
     let written : AreWritten (events_of layout.laid) =
     subst (AreWritten) (sym layout.events) (written_flat stream [] built w tt) in
-    let fit : spaced (events_of layout.laid) ≡ true =
-    ap spaced layout.events ∙ (spaced-flat stream [] refl ∙ and_from (well_spaced stream) true w refl) in
+    let fit : events_fit (events_of layout.laid) ≡ true =
+    ap events_fit layout.events ∙ (events_fit-flat stream [] refl ∙ and_from (well_spaced stream) true w refl) in
     let ps = laid_pieces layout.laid layout.last in
-    let x = same_from_said base stream ps (said_laid layout.laid layout.last written ∙ ap bare layout.events) in
+    let x = same_from_events base stream ps (events_of_laid layout.laid layout.last written ∙ ap bare layout.events) in
     let covers : IsCover ps text = record {
       whole = layout.whole ∙ sym (onto_laid layout.laid layout.last);
       stand = stand_laid true layout.laid layout.last written layout.gaps layout.end fit layout.apart;

@@ -56,5 +56,5 @@ mark_name = refl
 joint : may_part (one (Mark 43 true)) (codes " ") (one (Mark 61 false)) [] ≡ false
 joint = refl
 
-glued : may_part (one (Mark 43 true)) (codes "") (one (Mark 61 false)) [] ≡ true
-glued = refl
+glue_example : may_part (one (Mark 43 true)) (codes "") (one (Mark 61 false)) [] ≡ true
+glue_example = refl

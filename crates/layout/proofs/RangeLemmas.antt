@@ -24,14 +24,14 @@ use Rattle.pm_token.specs.Built.{IsBuiltToken}
 use Rattle.proc_macro2.proofs.PieceStarts.{whole_any}
 
 -- the characters of a float that has no dot
-abbrev undotted : ℕ → Bool
-undotted c = is_ident_continue c || is_sign c
+abbrev is_dotless : ℕ → Bool
+is_dotless c = is_ident_continue c || is_sign c
 
 no_dot : is_ident_continue 46 ≡ false
 unfolding unicode_ident
 no_dot = refl
 
-undotted_dot : undotted 46 ≡ false
+undotted_dot : is_dotless 46 ≡ false
 unfolding unicode_ident
 undotted_dot = refl
 
@@ -50,14 +50,14 @@ no_dotted q d s all is =
     ∙ append_assoc is.front (46 ∷ after.back) d in
     out_of_plain (q ++ d) is.front (after.back ++ d) 46 all whole refl
 
-sub_undotted : (passes : ℕ → Bool) → Sub passes is_ident_continue → Sub passes undotted
+sub_undotted : (passes : ℕ → Bool) → Sub passes is_ident_continue → Sub passes is_dotless
 sub_undotted passes on c is = or_left (is_ident_continue c) _ (on c is)
 
 -- a float with an exponent but no dot has no dot in its exponent either
-on_exponential : (q t : List ℕ) → Exponential q t → list_all undotted q ≡ true
+on_exponential : (q t : List ℕ) → Exponential q t → list_all is_dotless q ≡ true
 on_exponential q t is =
     let underscore = sub_undotted _ underscore_continues in
-    let within : Within undotted (Then rule.digits (Then rule.exponent rule.end)) = (
+    let within : Within is_dotless (Then rule.digits (Then rule.exponent rule.end)) = (
       (sub_undotted _ digit_continues, sub_undotted _ digits_continue),
       (
         (
@@ -70,10 +70,10 @@ on_exponential q t is =
             ),
           ),
         ),
-        within_suffix undotted (λ c is. or_left (is_ident_continue c) _ is),
+        within_suffix is_dotless (λ c is. or_left (is_ident_continue c) _ is),
       ),
     ) in
-    all_in undotted (Then rule.digits (Then rule.exponent rule.end)) within q t is
+    all_in is_dotless (Then rule.digits (Then rule.exponent rule.end)) within q t is
 
 -- the dot of a float is not the first of a range
 no_range_dot : (p r x bk t : List ℕ) → list_all is_ident_continue p ≡ true → list_all is_ident_continue x ≡ true
@@ -113,7 +113,7 @@ none_range p r plain none q t e is = elim (fronts_compared p (46 ∷ 46 ∷ r) q
     | inr exponential ↦
         let dot : past.0 ≡ 46 = cc in
         both_ways _ undotted_dot
-        (sym (ap undotted dot) ∙ passes_at undotted q p past.0 past.1
+        (sym (ap is_dotless dot) ∙ passes_at is_dotless q p past.0 past.1
         (on_exponential q t (anew _ _ _ q t t is is.first exponential)) past.2)
   ]
 ]

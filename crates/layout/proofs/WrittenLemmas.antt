@@ -7,7 +7,7 @@ use Rattle.pm_stream.specs.Forest.{Forest}
 use Rattle.pm_stream.specs.Steps.{Step, steps}
 use Rattle.layout.specs.Layout.{event_text}
 use Rattle.layout.specs.Writing.{event_of, gap_text}
-use Rattle.layout.specs.Written.{Choice, IsWritten, Spot, depth_at, depth_past, fitted, places_from, written_at}
+use Rattle.layout.specs.Written.{Choice, IsWritten, Spot, depth_at, depth_past, fitting_gap, places_from, written_at}
 use Rattle.layout.specs.declared.gaps.Gap.{Gap}
 
 -- what is written so far, and any gaps that the chooser gives for the steps that are left, make the text
@@ -35,7 +35,7 @@ pub writes_next : {C : Type 0} (gives : C → Choice → C → Type 0) (first ol
       place = record { before = before; after = Some step; depth = depth_at depth step };
       gap = gap;
     }) new
-    → now ≡ (done ++ gap_text (fitted before (Some step) gap)) ++ event_text (event_of step)
+    → now ≡ (done ++ gap_text (fitting_gap before (Some step) gap)) ++ event_text (event_of step)
     → WritesOn gives first stream now (Some step) (depth_past depth step) later new
 writes_next gives first old new stream done now before depth step left later gap h is gave text =
     let before_it = subst (λ steps. WritesOn gives first stream done before depth steps old) is h in

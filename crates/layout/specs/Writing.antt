@@ -55,7 +55,7 @@ event_of (Enter g after) = Opens g.delimiter g.span.lo
 event_of (Leave g after) = Closes g.delimiter g.span.hi
 event_of (Token tree after) = tree_event tree
 
--- the step that a `Place` holds, if it holds one
+-- the step that a `GapContext` holds, if it holds one
 abbrev pub step_before : Option Given → Option Step
 step_before None = None
 step_before (Some step) = Some (step_of step)

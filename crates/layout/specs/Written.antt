@@ -8,7 +8,7 @@ use Rattle.pm_stream.specs.Steps.{Step, Enter, Leave, Token, steps}
 use Rattle.layout.specs.Layout.{IsLayout, event_text}
 use Rattle.layout.specs.Writing.{ReadsBack, event_before, event_of, fitting, gap_text, step_before, steps_range}
 use Rattle.layout.specs.declared.gaps.Gap.{Gap}
-use Rattle.layout.specs.declared.gaps.Place.{Place}
+use Rattle.layout.specs.declared.gaps.GapContext.{GapContext}
 
 -- ---- where gaps are
 
@@ -18,8 +18,8 @@ pub record Spot : Type 0 where
   pub after : Option Step
   pub depth : ℕ
 
--- where the gap is that a chooser gets as a `Place`
-abbrev pub spot_of : Place → Spot
+-- where the gap is that a chooser gets as a `GapContext`
+abbrev pub spot_of : GapContext → Spot
 spot_of place = record { before = step_before place.before; after = step_before place.after; depth = place.depth }
 
 -- the depth of the gap before the step, when `depth` groups are open; a gap before a closer counts as outside its group
@@ -53,14 +53,14 @@ pub record Choice : Type 0 where
   pub gap : Gap
 
 -- the choice that consists of a chooser's argument and its result
-abbrev pub choice_of : Place → Gap → Choice
+abbrev pub choice_of : GapContext → Gap → Choice
 choice_of place gap = record { place = spot_of place; gap = gap }
 
 -- the gap that is written for a chosen one: nothing after a Joint mark, a space if nothing is chosen and the tokens
 -- must be parted, and the chosen one otherwise
-abbrev pub fitted : Option Step → Option Step → Gap → Gap
-fitted before None gap = gap
-fitted before (Some step) gap = fitting (event_before before) gap (event_text (event_of step)) (steps_range step)
+abbrev pub fitting_gap : Option Step → Option Step → Gap → Gap
+fitting_gap before None gap = gap
+fitting_gap before (Some step) gap = fitting (event_before before) gap (event_text (event_of step)) (steps_range step)
 
 -- the text of the token, opener or closer after a gap, if there is one
 abbrev pub text_after : Option Step → List ℕ
@@ -69,7 +69,7 @@ text_after (Some step) = event_text (event_of step)
 
 -- the text of a gap and of what follows it
 abbrev pub written_at : Choice → List ℕ
-written_at c = gap_text (fitted c.place.before c.place.after c.gap) ++ text_after c.place.after
+written_at c = gap_text (fitting_gap c.place.before c.place.after c.gap) ++ text_after c.place.after
 
 -- the text consists of the stream and the gaps that a chooser gives. The chooser is called once for each gap of the
 -- stream, in order, which takes it from its old state to its new one

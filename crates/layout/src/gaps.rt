@@ -34,7 +34,7 @@ pub enum Gap {
 
 /// Where in a stream a gap is, as a chooser sees it.
 #[derive(Clone, Copy)]
-pub struct Place<'a> {
+pub struct GapContext<'a> {
     /// The token, opener or closer before the gap, with the trees that follow it in the same list. `None` at the
     /// beginning of the stream.
     pub before: Option<Step<'a>>,
@@ -50,7 +50,7 @@ pub trait Chooser {
     ghost gap_gives: { Self → Choice → Self → Type 0 } = { λ _ _ _. ⊤ };
 
     /// Returns the gap that the chooser wants at this place. It is called once for each gap of a stream, in order.
-    fn gap(&mut self, place: Place<'_>) -> Gap
+    fn gap(&mut self, place: GapContext<'_>) -> Gap
         ensures { gap_gives self.old (choice_of place.entry result) self.new };
 }
 

@@ -12,7 +12,7 @@ ghost use Rattle.layout.specs.Written.{IsWritten, Writes, depth_at, depth_past};
 ghost use Rattle.layout.specs.declared.errors.LayoutError.TheVariants.{NotWellSpaced};
 
 use crate::errors::LayoutError;
-use crate::gaps::{Chooser, Place, fitting, push_gap};
+use crate::gaps::{Chooser, GapContext, fitting, push_gap};
 use pm_stream::{Step, TokenStream, TokenTree};
 use pm_token::parts::{TextBuilder, is_raw, name_of};
 use pm_token::{Delimiter, Ident};
@@ -61,7 +61,7 @@ fn laid_out<C: Chooser>(
     let mut before = None;
     let mut depth: usize = 0;
     while let Some(step) = steps.next()? {
-        let place = Place {
+        let place = GapContext {
             before,
             after: Some(step),
             depth: depth_at(depth, step),
@@ -72,7 +72,7 @@ fn laid_out<C: Chooser>(
         depth = depth_past(depth, step);
         before = Some(step);
     }
-    let place = Place {
+    let place = GapContext {
         before,
         after: None,
         depth,

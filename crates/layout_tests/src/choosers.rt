@@ -1,5 +1,5 @@
 // Choosers, and the texts that they make.
-use layout::{Chooser, Gap, LayoutError, Place, text_with, write_with};
+use layout::{Chooser, Gap, GapContext, LayoutError, text_with, write_with};
 use proc_macro2::{SourceMap, Spacing, TokenStream};
 use std::process::Abort;
 use std::test::Fail;
@@ -9,7 +9,7 @@ use std::test::Fail;
 pub struct Always(pub Gap);
 
 impl Chooser for Always {
-    fn gap(&mut self, _place: Place<'_>) -> Gap {
+    fn gap(&mut self, _place: GapContext<'_>) -> Gap {
         self.0
     }
 }
@@ -22,7 +22,7 @@ struct Lines {
 }
 
 impl Chooser for Lines {
-    fn gap(&mut self, place: Place<'_>) -> Gap {
+    fn gap(&mut self, place: GapContext<'_>) -> Gap {
         self.asked = self.asked.saturating_add(1);
         if place.before.is_none() || place.after.is_none() {
             self.ends = self.ends.saturating_add(1);
@@ -74,7 +74,7 @@ fn the_chosen_gap_is_written(rt: HostRuntime) -> Result<(), Fail> {
 }
 
 #[test]
-fn places_are_told_in_order(rt: HostRuntime) -> Result<(), Fail> {
+fn gaps_come_in_order(rt: HostRuntime) -> Result<(), Fail> {
     let stream = stream_of(&rt, "a{b(c)}d")?;
     let mut lines = Lines { asked: 0, ends: 0 };
     let text = laid_out(&rt, &stream, &mut lines)?;

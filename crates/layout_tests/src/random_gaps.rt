@@ -2,7 +2,7 @@
 ghost use Rattle.std.specs.Prelude.{◌<◌, length};
 
 use crate::choosers::{Always, laid_out, stream_of};
-use layout::{Chooser, Gap, Place};
+use layout::{Chooser, Gap, GapContext};
 use proc_macro2::{SourceMap, TokenStream};
 use std::alloc::{AllocError, Global};
 use std::process::Abort;
@@ -58,7 +58,7 @@ impl Random {
 }
 
 impl Chooser for Random {
-    fn gap(&mut self, _place: Place<'_>) -> Gap {
+    fn gap(&mut self, _place: GapContext<'_>) -> Gap {
         match self.below(4) {
             0..=1 => Gap::Nothing,
             2 => Gap::Space,

@@ -4,32 +4,32 @@ use Rattle.std.proofs.Common.{◌∙◌, arith, append_assoc}
 use Rattle.std.proofs.lemmas.Bool.{cond_both, or_from}
 use Rattle.lexical.specs.Text.{begins_with, begins_any}
 use Rattle.lexical.specs.Block.{block_signs, BlockBody, Empty, Nested, Single, Closed, Ends, find_ends}
-use Rattle.lexical.specs.Finder.{Answer, Finds, behind}
-use Rattle.lexical.proofs.FinderLemmas.{IsSplit, behind_sound}
+use Rattle.lexical.specs.Finder.{Answer, Finds, prepend}
+use Rattle.lexical.proofs.FinderLemmas.{IsSplit, prepend_sound}
 use Rattle.lexical.proofs.TextLemmas.{begins_splits}
 
 -- ---- the finder at each sign and character
 
-pub behind_nothing : (o : Answer) → behind [] o ≡ o
-behind_nothing None = refl
-behind_nothing (Some x) = refl
+pub prepend_nothing : (o : Answer) → prepend [] o ≡ o
+prepend_nothing None = refl
+prepend_nothing (Some x) = refl
 
-pub behind_behind : (p q : List ℕ) (o : Answer) → behind p (behind q o) ≡ behind (p ++ q) o
-behind_behind p q None = refl
-behind_behind p q (Some x) = ap (λ y. Some (y, x.1)) (sym (append_assoc p q x.0))
+pub prepend_prepend : (p q : List ℕ) (o : Answer) → prepend p (prepend q o) ≡ prepend (p ++ q) o
+prepend_prepend p q None = refl
+prepend_prepend p q (Some x) = ap (λ y. Some (y, x.1)) (sym (append_assoc p q x.0))
 
 pub at_close : (outer : ℕ) (text : List ℕ)
-    → find_ends (suc outer) (codes "*/" ++ text) ≡ behind (codes "*/") (find_ends outer text)
+    → find_ends (suc outer) (codes "*/" ++ text) ≡ prepend (codes "*/") (find_ends outer text)
 unfolding find_ends
 at_close outer text = refl
 
 pub at_open : (outer : ℕ) (text : List ℕ)
-    → find_ends (suc outer) (codes "/*" ++ text) ≡ behind (codes "/*") (find_ends (suc (suc outer)) text)
+    → find_ends (suc outer) (codes "/*" ++ text) ≡ prepend (codes "/*") (find_ends (suc (suc outer)) text)
 unfolding find_ends
 at_open outer text = refl
 
 pub at_other : (outer c : ℕ) (text : List ℕ) → begins_any block_signs (c ∷ text) ≡ false
-    → find_ends (suc outer) (c ∷ text) ≡ behind (c ∷ []) (find_ends (suc outer) text)
+    → find_ends (suc outer) (c ∷ text) ≡ prepend (c ∷ []) (find_ends (suc outer) text)
 unfolding find_ends
 at_other outer c [] h = refl
 at_other outer c (d ∷ text) h = grind (arith, h)
@@ -37,12 +37,12 @@ at_other outer c (d ∷ text) h = grind (arith, h)
 -- ---- each text that ends this many comments is found
 
 body_found : {body after : List ℕ} (outer : ℕ) → BlockBody body after
-    → find_ends (suc outer) (body ++ after) ≡ behind body (find_ends (suc outer) after)
-body_found outer (Empty e) = rw e (sym (behind_nothing _))
+    → find_ends (suc outer) (body ++ after) ≡ prepend body (find_ends (suc outer) after)
+body_found outer (Empty e) = rw e (sym (prepend_nothing _))
 body_found outer (Nested inner more e nested h) =
-    rw e (simp (append_assoc, at_open, body_found (suc outer) nested, at_close, body_found outer h, behind_behind))
+    rw e (simp (append_assoc, at_open, body_found (suc outer) nested, at_close, body_found outer h, prepend_prepend))
 body_found {after = after} outer (Single c more e plain h) =
-    rw e (at_other outer c (more ++ after) plain ∙ simp (body_found outer h, behind_behind))
+    rw e (at_other outer c (more ++ after) plain ∙ simp (body_found outer h, prepend_prepend))
 
 closed_found : (outer : ℕ) (p r : List ℕ) → Closed outer p r → find_ends (suc outer) (p ++ r) ≡ Some (p, r)
 unfolding find_ends
@@ -52,7 +52,7 @@ closed_found (suc outer) p r h =
     let found = closed_found outer rest.back r rest.second in
     let more : find_ends (suc outer) (h.back ++ r) ≡ Some (h.back, r) =
     rw (rest.whole, append_assoc, body_found outer rest.first, found) refl in
-    rw (h.whole, h.first) (ap (behind (codes "*/")) more)
+    rw (h.whole, h.first) (ap (prepend (codes "*/")) more)
 
 ends_found : (depth : ℕ) (p r : List ℕ) → Ends depth p r → find_ends depth (p ++ r) ≡ Some (p, r)
 unfolding find_ends
@@ -62,9 +62,9 @@ ends_found (suc outer) p r h = rw
 
 -- ---- each text that is found ends this many comments
 
-closed : (outer : ℕ) (p r : List ℕ) → Ends outer p r → Closed outer (codes "*/" ++ p) r
-closed zero p r h = ap (λ x. codes "*/" ++ x) h
-closed (suc outer) p r h = record { front = codes "*/"; back = p; whole = refl; first = refl; second = h }
+ends_closed : (outer : ℕ) (p r : List ℕ) → Ends outer p r → Closed outer (codes "*/" ++ p) r
+ends_closed zero p r h = ap (λ x. codes "*/" ++ x) h
+ends_closed (suc outer) p r h = record { front = codes "*/"; back = p; whole = refl; first = refl; second = h }
 
 close_step : (outer : ℕ) (p r : List ℕ) → Ends outer p r → Ends (suc outer) (codes "*/" ++ p) r
 close_step outer p r h = record {
@@ -73,7 +73,7 @@ close_step outer p r h = record {
   whole = refl;
   first = Empty refl;
   second =
-      closed outer p r h;
+      ends_closed outer p r h;
 }
 
 open_step : (outer : ℕ) (p r : List ℕ) → Ends (suc (suc outer)) p r → Ends (suc outer) (codes "/*" ++ p) r
@@ -106,16 +106,16 @@ ends_sound (suc outer) (c ∷ (d ∷ text)) =
     (λ closes. let split = begins_splits (codes "*/") (c ∷ (d ∷ text)) closes in
     let first : c ≡ 42 = cc in
     let second : d ≡ 47 = cc in
-    rw (first, second) (behind_sound (Ends outer) (Ends (suc outer)) (codes "*/") text
+    rw (first, second) (prepend_sound (Ends outer) (Ends (suc outer)) (codes "*/") text
     (λ p r e. close_step outer p r) _ (ends_sound outer text)))
     (λ no. cond_both (begins_with (codes "/*") (c ∷ (d ∷ text))) _ _
     (λ o. IfSome o (IsSplit (Ends (suc outer)) (c ∷ (d ∷ text))))
     (λ opens. let split = begins_splits (codes "/*") (c ∷ (d ∷ text)) opens in
     let first : c ≡ 47 = cc in
     let second : d ≡ 42 = cc in
-    rw (first, second) (behind_sound (Ends (suc (suc outer))) (Ends (suc outer)) (codes "/*") text
+    rw (first, second) (prepend_sound (Ends (suc (suc outer))) (Ends (suc outer)) (codes "/*") text
     (λ p r e. open_step outer p r) _ (ends_sound (suc (suc outer)) text)))
-    (λ nor. behind_sound (Ends (suc outer)) (Ends (suc outer)) (c ∷ []) (d ∷ text)
+    (λ nor. prepend_sound (Ends (suc outer)) (Ends (suc outer)) (c ∷ []) (d ∷ text)
     (λ p r e is. other_step outer c p r
     (ap (λ t. begins_any block_signs (c ∷ t)) (sym e) ∙ or_from _ _ nor (or_from _ _ no refl)) is)
     _ (ends_sound (suc outer) (d ∷ text))))

@@ -5,16 +5,16 @@ use Rattle.std.specs.Str.{chars}
 use Rattle.std.specs.List.{list_all}
 use Rattle.std.proofs.lemmas.Bool.{or_from}
 use Rattle.lexical.specs.Block.{find_ends}
-use Rattle.lexical.specs.Finder.{behind}
+use Rattle.lexical.specs.Finder.{prepend}
 use Rattle.lexical.specs.Rule.{Run, Exactly, Ends, find}
-use Rattle.lexical.specs.Step.{Leads, Passes}
-use Rattle.lexical.specs.declared.cursor.Cursor.{Cursor}
-use Rattle.lexical.proofs.BlockLemmas.{behind_nothing, behind_behind, at_close, at_open, at_other}
+use Rattle.lexical.specs.RuleMatch.{Leads, Passes}
+use Rattle.lexical.specs.declared.cursor.TextCursor.{TextCursor}
+use Rattle.lexical.proofs.BlockLemmas.{prepend_nothing, prepend_prepend, at_close, at_open, at_other}
 use Rattle.lexical.proofs.RuleSteps.{lacks_text, past_text, steps}
 use Rattle.lexical.proofs.UnitSteps.{leads_past}
 
 -- a step past a `*/` leaves one comment fewer open
-pub closes : (depth : ℕ) (at to : Cursor) → 0 < depth → Passes (Exactly (codes "*/")) at to
+pub closes : (depth : ℕ) (at to : TextCursor) → 0 < depth → Passes (Exactly (codes "*/")) at to
     → Leads (Ends depth) at (Ends (depth - 1)) to
 unfolding find
 closes zero at to some h = absurd (omega arith)
@@ -23,7 +23,7 @@ closes (suc outer) at to some h =
     leads_past (Exactly (codes "*/")) tt (Ends (suc outer)) (Ends (suc outer - 1)) at to h
     (λ p r is. rw (is, one) (at_close outer r))
 
-pub opens : (depth : ℕ) (at to : Cursor) → 0 < depth → Passes (Exactly (codes "/*")) at to
+pub opens : (depth : ℕ) (at to : TextCursor) → 0 < depth → Passes (Exactly (codes "/*")) at to
     → Leads (Ends depth) at (Ends (depth + 1)) to
 unfolding find
 opens zero at to some h = absurd (omega arith)
@@ -32,7 +32,7 @@ opens (suc outer) at to some h =
     (λ p r is. rw (is, add-one) (at_open outer r))
 
 -- a step past a character at which no sign begins leaves as many comments open
-pub passes : (depth c : ℕ) (at to : Cursor) → 0 < depth → chars at.rest.now ≡ c ∷ chars to.rest.now
+pub passes : (depth c : ℕ) (at to : TextCursor) → 0 < depth → chars at.rest.now ≡ c ∷ chars to.rest.now
     → to.chars_before ≡ at.chars_before + 1
     → find (Exactly (codes "*/")) (chars at.rest.now) ≡ None → find (Exactly (codes "/*")) (chars at.rest.now) ≡ None
     → Leads (Ends depth) at (Ends depth) to
@@ -48,13 +48,13 @@ abbrev other : ℕ → Bool
 other c = not (c == 42 || c == 47)
 
 run_ends : (outer : ℕ) (front rest : List ℕ) → list_all other front ≡ true
-    → find_ends (suc outer) (front ++ rest) ≡ behind front (find_ends (suc outer) rest)
-run_ends outer [] rest all = sym (behind_nothing _)
+    → find_ends (suc outer) (front ++ rest) ≡ prepend front (find_ends (suc outer) rest)
+run_ends outer [] rest all = sym (prepend_nothing _)
 run_ends outer (c ∷ front) rest all =
-    let more = behind_behind (c ∷ []) front (find_ends (suc outer) rest) in
+    let more = prepend_prepend (c ∷ []) front (find_ends (suc outer) rest) in
     grind (arith, all, at_other outer c (front ++ rest), run_ends outer front rest, more)
 
-pub runs : (depth : ℕ) (at to : Cursor) → 0 < depth → Passes (Run (λ c. not (c == 42 || c == 47))) at to
+pub runs : (depth : ℕ) (at to : TextCursor) → 0 < depth → Passes (Run (λ c. not (c == 42 || c == 47))) at to
     → Leads (Ends depth) at (Ends depth) to
 unfolding find
 runs zero at to some h = absurd (omega arith)
@@ -68,7 +68,7 @@ ends_at_end zero text some e = absurd (omega arith)
 ends_at_end (suc outer) text some e = rw e refl
 
 -- if no comment is open, the end is here
-pub ends_none : (depth : ℕ) (at : Cursor) → depth ≤ 0 → Passes (Ends depth) at at
+pub ends_none : (depth : ℕ) (at : TextCursor) → depth ≤ 0 → Passes (Ends depth) at at
 unfolding find find_ends
 ends_none zero at none = record { front = []; found = refl; count = omega arith }
 ends_none (suc outer) at none = absurd (omega arith)

@@ -10,12 +10,12 @@ use Rattle.lexical.specs.Bytes.{ascii_in, has_kind, is_in}
 use Rattle.lexical.specs.Text.{first_passes}
 use Rattle.lexical.specs.Finder.{Answer, while_front, while_rest}
 use Rattle.lexical.specs.Rule.{One, Run, find}
-use Rattle.lexical.specs.Step.{Passes}
+use Rattle.lexical.specs.RuleMatch.{Passes}
 use Rattle.lexical.specs.declared.bytes.Class.{Class}
-use Rattle.lexical.specs.declared.cursor.Cursor.{Cursor}
+use Rattle.lexical.specs.declared.cursor.TextCursor.{TextCursor}
 use Rattle.lexical.proofs.CountLemmas.{chars_cut}
 use Rattle.lexical.proofs.FinderLemmas.{while_passes, while_more}
-use Rattle.lexical.proofs.RuleSteps.{passed, run_goes_on}
+use Rattle.lexical.proofs.RuleSteps.{passes_piece, run_goes_on}
 use Rattle.lexical.proofs.RunLemmas.{GoesOn, run_stop}
 use Rattle.lexical.proofs.Scan.{run_boundary, run_front, bytes_of, run_over}
 use Rattle.lexical.proofs.TextLemmas.{all_pass, ascii_bytes}
@@ -36,7 +36,7 @@ pub all_low : (class : Class) (cs : List ℕ) → list_all (ascii_in class) cs �
 all_low class = all_pass _ _ (λ c is. (and_parts _ _ is).0)
 
 -- facts about the n bytes of the run
-module _ (class : Class) (at : Cursor) (bytes : List ℕ) (same : bytes ≡ at.rest.now) (utf8 : IsUtf8 bytes)
+module _ (class : Class) (at : TextCursor) (bytes : List ℕ) (same : bytes ≡ at.rest.now) (utf8 : IsUtf8 bytes)
     (n : ℕ) (is_length : n ≡ length (while_front (ascii_in class) bytes)) where
   text_utf8 : IsUtf8 at.rest.now
   text_utf8 = subst IsUtf8 same utf8
@@ -58,14 +58,14 @@ module _ (class : Class) (at : Cursor) (bytes : List ℕ) (same : bytes ≡ at.r
   pub ascii_whole : n + length (chars (drop n at.rest.now)) ≡ length (chars at.rest.now)
   ascii_whole = omega (arith, ascii_count, chars_cut at.rest.now n text_utf8 ascii_boundary)
 
-  pub ascii_run : (to : Cursor) → to.rest.now ≡ drop n at.rest.now → to.chars_before ≡ at.chars_before + n
+  pub ascii_run : (to : TextCursor) → to.rest.now ≡ drop n at.rest.now → to.chars_before ≡ at.chars_before + n
       → Passes (Run (ascii_in class)) at to
   ascii_run to rest count =
       run_over (ascii_in class) false (ascii_past class) at to text_utf8 n size rest (omega (arith, count, ascii_count))
 
 -- ---- a run that continues
 
-goes_past : (test : ℕ → Bool) (at end to : Cursor) (p : List ℕ) → GoesOn test at end
+goes_past : (test : ℕ → Bool) (at end to : TextCursor) (p : List ℕ) → GoesOn test at end
     → chars end.rest.now ≡ p ++ chars to.rest.now
     → to.chars_before ≡ end.chars_before + length p → list_all test p ≡ true → GoesOn test at to
 goes_past test at end to p goes whole count all =
@@ -80,17 +80,18 @@ goes_past test at end to p goes whole count all =
       ),
     )
 
-pub past_ascii : (class : Class) (at end to : Cursor) → GoesOn (is_in class) at end
+pub past_ascii : (class : Class) (at end to : TextCursor) → GoesOn (is_in class) at end
     → Passes (Run (ascii_in class)) end to → GoesOn (is_in class) at to
 past_ascii class at end to goes h =
-    let is = passed (Run (ascii_in class)) tt end to h in
+    let is = passes_piece (Run (ascii_in class)) tt end to h in
     goes_past (is_in class) at end to h.front goes is.0 h.count
     (all_pass _ _ (λ c on. (and_parts _ _ on).1) h.front is.1.each)
 
-pub past_one : (class : Class) (at end to : Cursor) → GoesOn (is_in class) at end → Passes (One (is_in class)) end to
+pub past_one : (class : Class) (at end to : TextCursor) → GoesOn (is_in class) at end
+    → Passes (One (is_in class)) end to
     → GoesOn (is_in class) at to
 past_one class at end to goes h =
-    let is = passed (One (is_in class)) tt end to h in
+    let is = passes_piece (One (is_in class)) tt end to h in
     goes_past (is_in class) at end to h.front goes is.0 h.count
     (ap (list_all (is_in class)) is.1.1 ∙ and_from _ _ is.1.2 refl)
 
@@ -101,15 +102,15 @@ none_stands test [] none = refl
 none_stands test (c ∷ text) none = false_from_ne_true _ (λ on.
     let clash : ◌≡◌ {A = Answer} (Some (c ∷ [], text)) None = sym (cond-true _ _ _ on) ∙ none in cc)
 
-pub past_all : (class : Class) (at end : Cursor) → GoesOn (is_in class) at end
+pub past_all : (class : Class) (at end : TextCursor) → GoesOn (is_in class) at end
     → find (One (is_in class)) (chars end.rest.now) ≡ None → Passes (Run (is_in class)) at end
 past_all class at end goes none =
     run_stop (is_in class) at end goes (none_stands (is_in class) (chars end.rest.now) none)
 
 -- after one character and a run of others, less text is left
-pub less_left : (class : Class) (end mid to : Cursor) → Passes (One (is_in class)) end mid
+pub less_left : (class : Class) (end mid to : TextCursor) → Passes (One (is_in class)) end mid
     → Passes (Run (ascii_in class)) mid to
     → length (chars to.rest.now) < length (chars end.rest.now)
 less_left class end mid to h j =
-    let one = passed (One (is_in class)) tt end mid h in
+    let one = passes_piece (One (is_in class)) tt end mid h in
     omega (arith, ap length (one.0 ∙ ap (λ x. x ++ chars mid.rest.now) one.1.1), run_goes_on (ascii_in class) mid to j)

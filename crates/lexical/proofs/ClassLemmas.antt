@@ -178,8 +178,9 @@ byte_start_is byte low = ap (λ xs. get_or xs byte starts.White) table_is
     ∙ get_or-map-range_with_len byte_starts 0 256 byte byte starts.White low (omega arith)
 
 -- a byte that says something is ASCII, and says the same as a character
-pub told_low : (s : PieceStart) (b : ℕ) → s ≡ byte_starts b → (s ≡ starts.Other → ⊥) → (b < 128) × (s ≡ piece_start b)
-told_low s b h tells = elim (cases_lt b 128) [
+pub start_of_low : (s : PieceStart) (b : ℕ) → s ≡ byte_starts b → (s ≡ starts.Other → ⊥)
+    → (b < 128) × (s ≡ piece_start b)
+start_of_low s b h tells = elim (cases_lt b 128) [
   | inl low ↦ (low, h ∙ cond-true _ _ _ (lt-ltb b 128 low))
   | inr high ↦ absurd (tells (h ∙ cond-false _ _ _ (le-ltb b 128 high)))
 ]

@@ -112,8 +112,8 @@ pub doc_back : (p r : List ℕ) → Comment p r → is_doc p ≡ true → drop 3
 doc_back p r h doc = let closed = doc_closed p r h doc in closed.1
     ∙ ap (λ x. x ++ closing p r) (sym (text_is p r closed.0 closed.1))
 
-pub doc_said : (inner : Bool) (text p r : List ℕ) → Doc inner text p r → drop 3 p ≡ text ++ closing p r
-doc_said inner text p r h = ap (drop 3) h.whole ∙ drop_at h.front (text ++ closing p r) 3 h.three
+pub doc_body_splits : (inner : Bool) (text p r : List ℕ) → Doc inner text p r → drop 3 p ≡ text ++ closing p r
+doc_body_splits inner text p r h = ap (drop 3) h.whole ∙ drop_at h.front (text ++ closing p r) 3 h.three
 
 -- ---- the kind
 
@@ -121,7 +121,8 @@ pub plain_kind : (p r : List ℕ) → PlainComment p r → comment_kind p r ≡ 
 plain_kind p r h = rw (not-true (is_doc p) h.1) refl
 
 pub doc_kind : (inner : Bool) (text p r : List ℕ) → Doc inner text p r → comment_kind p r ≡ Some (pieces.Doc inner text)
-doc_kind inner text p r h = rw (h.comment.1, text_is p r text (doc_said inner text p r h), h.returns, ← h.inward) refl
+doc_kind inner text p r h = rw (h.comment.1, text_is p r text (doc_body_splits inner text p r h), h.returns, ← h.inward)
+    refl
 
 pub doc_from : (p r : List ℕ) → Comment p r → is_doc p ≡ true → has_bare_return (doc_text p r) ≡ false
     → Doc (is_inner p) (doc_text p r) p r

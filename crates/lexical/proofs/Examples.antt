@@ -11,7 +11,7 @@ use Rattle.lexical.specs.Block.{find_ends}
 use Rattle.lexical.specs.Finder.{find_many}
 use Rattle.lexical.specs.Number.{number}
 use Rattle.lexical.specs.Rule.{find}
-use Rattle.lexical.specs.PieceFinder.{found}
+use Rattle.lexical.specs.PieceFinder.{find_piece}
 use Rattle.lexical.proofs.PieceLemmas.{piece_from_found, none_from_found}
 
 -- a piece of a kind before some text, or a text at which no piece begins
@@ -25,8 +25,8 @@ Holds (NoPiece text) = HasNoPiece false (codes text)
 
 -- whether the finder computes to what the example says
 abbrev Computes : Example → Type 0
-Computes (Piece kind p r) = found false (codes p ++ codes r) ≡ Some (kind, codes p, codes r)
-Computes (NoPiece text) = found false (codes text) ≡ None
+Computes (Piece kind p r) = find_piece false (codes p ++ codes r) ≡ Some (kind, codes p, codes r)
+Computes (NoPiece text) = find_piece false (codes text) ≡ None
 
 record AllHold (examples : List Example) : Type 0 where
   each : AllByRecursion Holds examples
@@ -36,8 +36,8 @@ each_holds [] each = tt
 each_holds (Piece kind p r ∷ more) each = ((piece_from_found false _ _ _ kind each.0).1, each_holds more each.1)
 each_holds (NoPiece text ∷ more) each = (none_from_found false _ each.0, each_holds more each.1)
 
-computed : (examples : List Example) → AllByRecursion Computes examples → AllHold examples
-computed examples each = record { each = each_holds examples each }
+compute_all : (examples : List Example) → AllByRecursion Computes examples → AllHold examples
+compute_all examples each = record { each = each_holds examples each }
 
 -- examples of names, of marks (Joint or not) and of literals
 abbrev name : Bool → String → String → String → Example
@@ -51,8 +51,8 @@ literal p r = Piece (Leaf (Literal (codes p))) p r
 
 -- a space, and U+200E
 gaps : AllHold (Piece Gap " " " a" ∷ Piece Gap "\u{200e}" "" ∷ [])
-unfolding unicode_ident found find
-gaps = computed _ assumption
+unfolding unicode_ident find_piece find
+gaps = compute_all _ assumption
 
 marks : AllHold (
     mark 43 true "+" "="
@@ -62,15 +62,15 @@ marks : AllHold (
     -- each mark is Joint before `'`, whatever follows
     ∷ mark 43 true "+" "'b'"
     ∷ [])
-unfolding unicode_ident found find
-marks = computed _ assumption
+unfolding unicode_ident find_piece find
+marks = compute_all _ assumption
 
 -- ---- identifiers
 
 -- a name ends before a mark, and may begin with a letter past ASCII
 names : AllHold (name false "a" "a" "+" ∷ name false "é" "é" "(" ∷ [])
-unfolding unicode_ident found find find_many
-names = computed _ assumption
+unfolding unicode_ident find_piece find find_many
+names = compute_all _ assumption
 
 -- a prefix of a name is no name
 not_a_front : IsPiece false (Leaf (Name false (codes "a"))) (codes "a") (codes "b") → ⊥
@@ -79,8 +79,8 @@ not_a_front h = both_ways (is_ident_continue 98) h.1.0.0.second.stops refl
 
 -- no piece is where only a prefix of a literal begins, nor at the end
 no_names : AllHold (NoPiece "b\"" ∷ NoPiece "" ∷ [])
-unfolding unicode_ident found find find_many
-no_names = computed _ assumption
+unfolding unicode_ident find_piece find find_many
+no_names = compute_all _ assumption
 
 raw_names : AllHold (
     name true "a" "r#a" "+"
@@ -93,8 +93,8 @@ raw_names : AllHold (
     ∷ NoPiece "br#"
     ∷ NoPiece "r##"
     ∷ [])
-unfolding unicode_ident found find find_many
-raw_names = computed _ assumption
+unfolding unicode_ident find_piece find find_many
+raw_names = compute_all _ assumption
 
 lone_quotes : AllHold (
     mark 39 true "'" "a "
@@ -110,8 +110,8 @@ lone_quotes : AllHold (
     ∷ NoPiece "'aa'bb"
     ∷ NoPiece "'r#gen'a"
     ∷ [])
-unfolding unicode_ident found find find_many
-lone_quotes = computed _ assumption
+unfolding unicode_ident find_piece find find_many
+lone_quotes = compute_all _ assumption
 
 -- ---- delimiters
 
@@ -121,8 +121,8 @@ delimiters : AllHold (
     ∷ literal "(/*ERROR*/)" "x"
     ∷ Piece (Close 125) "}" ""
     ∷ [])
-unfolding unicode_ident found find
-delimiters = computed _ assumption
+unfolding unicode_ident find_piece find
+delimiters = compute_all _ assumption
 
 -- ---- the front mark
 
@@ -130,8 +130,8 @@ front_mark : IsPiece true FrontMark (codes "\u{feff}") (codes "a")
 front_mark = (refl, refl)
 
 no_front_mark : AllHold (NoPiece "\u{feff}a" ∷ [])
-unfolding unicode_ident found find
-no_front_mark = computed _ assumption
+unfolding unicode_ident find_piece find
+no_front_mark = compute_all _ assumption
 
 -- ---- comments
 
@@ -144,13 +144,13 @@ plain_comments : AllHold (
     ∷ Piece Gap "/*** a\r*/" ""
     ∷ Piece Gap "/* /**/ */" "*/"
     ∷ [])
-unfolding unicode_ident found find find_many find_ends
-plain_comments = computed _ assumption
+unfolding unicode_ident find_piece find find_many find_ends
+plain_comments = compute_all _ assumption
 
 -- block comments that are not closed
-unclosed : AllHold (NoPiece "/*/" ∷ NoPiece "/*/*/" ∷ NoPiece "/* /* */ x" ∷ [])
-unfolding unicode_ident found find find_many find_ends
-unclosed = computed _ assumption
+unclosed_comments : AllHold (NoPiece "/*/" ∷ NoPiece "/*/*/" ∷ NoPiece "/* /* */ x" ∷ [])
+unfolding unicode_ident find_piece find find_many find_ends
+unclosed_comments = compute_all _ assumption
 
 doc_comments : AllHold (
     Piece (Doc false (codes " d")) "/// d\r" "\n"
@@ -162,8 +162,8 @@ doc_comments : AllHold (
     ∷ NoPiece "///\r\r\n"
     ∷ NoPiece "/** a\r*/"
     ∷ [])
-unfolding unicode_ident found find find_many find_ends
-doc_comments = computed _ assumption
+unfolding unicode_ident find_piece find find_many find_ends
+doc_comments = compute_all _ assumption
 
 -- ---- literals between quotes
 
@@ -181,8 +181,8 @@ strings : AllHold (
     ∷ NoPiece "\"\\u{_0}\""
     ∷ NoPiece "\"\\u{}\""
     ∷ [])
-unfolding unicode_ident found find find_many
-strings = computed _ assumption
+unfolding unicode_ident find_piece find find_many
+strings = compute_all _ assumption
 
 -- no character past ASCII in a byte string, and no zero in a C string
 bytes_and_c_strings : AllHold (
@@ -191,8 +191,8 @@ bytes_and_c_strings : AllHold (
     ∷ NoPiece "c\"\\x00\""
     ∷ NoPiece "c\"\\u{0}\""
     ∷ [])
-unfolding unicode_ident found find find_many
-bytes_and_c_strings = computed _ assumption
+unfolding unicode_ident find_piece find find_many
+bytes_and_c_strings = compute_all _ assumption
 
 raw_strings : AllHold (
     literal "cr##\"Hello \"world\"!\"##" ""
@@ -200,8 +200,8 @@ raw_strings : AllHold (
     -- too few hash signs
     ∷ NoPiece "br##\"\"#"
     ∷ [])
-unfolding unicode_ident found find find_many
-raw_strings = computed _ assumption
+unfolding unicode_ident find_piece find find_many
+raw_strings = compute_all _ assumption
 
 single_quotes : AllHold (
     literal "'\\u{10__FFFF}'" ""
@@ -223,8 +223,8 @@ single_quotes : AllHold (
     ∷ NoPiece "'\r\n'"
     ∷ NoPiece "b'\u{86}'"
     ∷ [])
-unfolding unicode_ident found find find_many
-single_quotes = computed _ assumption
+unfolding unicode_ident find_piece find find_many
+single_quotes = compute_all _ assumption
 
 -- ---- numbers
 
@@ -236,8 +236,8 @@ dots : AllHold (
     ∷ literal "1" "..2"
     ∷ literal "0.0" ".0"
     ∷ [])
-unfolding unicode_ident found find number
-dots = computed _ assumption
+unfolding unicode_ident find_piece find number
+dots = compute_all _ assumption
 
 exponents : AllHold (
     literal "1_0_.5__e_+_6_f64" " "
@@ -248,8 +248,8 @@ exponents : AllHold (
     -- a number without a dot may have an exponent
     ∷ literal "1e5" ""
     ∷ [])
-unfolding unicode_ident found find number
-exponents = computed _ assumption
+unfolding unicode_ident find_piece find number
+exponents = compute_all _ assumption
 
 integers : AllHold (
     literal "999r" "#u256"
@@ -263,8 +263,8 @@ integers : AllHold (
     ∷ NoPiece "0x_"
     ∷ NoPiece "0xg"
     ∷ [])
-unfolding unicode_ident found find number
-integers = computed _ assumption
+unfolding unicode_ident find_piece find number
+integers = compute_all _ assumption
 
 -- numbers before U+0301, which continues an identifier but begins none
 accents : AllHold (
@@ -276,8 +276,8 @@ accents : AllHold (
     -- an exponent is read if there is one, even if then no float is there
     ∷ literal "1" ".0e5́"
     ∷ [])
-unfolding unicode_ident found find number
-accents = computed _ assumption
+unfolding unicode_ident find_piece find number
+accents = compute_all _ assumption
 
 -- why no line may be broken after a mark or a number
 broken_lines : AllHold (
@@ -289,5 +289,5 @@ broken_lines : AllHold (
     -- if the line ends after `5e`, no exponent is there, but a float is
     ∷ literal "1.5e" "\n+_5́"
     ∷ [])
-unfolding unicode_ident found find number
-broken_lines = computed _ assumption
+unfolding unicode_ident find_piece find number
+broken_lines = compute_all _ assumption

@@ -6,7 +6,8 @@ use Rattle.std.proofs.lemmas.Bool.{both_ways, cond-true, cond-false, cond_both, 
 use Rattle.std.proofs.lemmas.Option.{IfSome_then, some_pair_parts}
 use Rattle.lexical.specs.Text.{begins_any, first_passes}
 use Rattle.lexical.specs.Form.{Form, HasNone, Then, Next, NotAt, NotBefore, Exactly, One, Run}
-use Rattle.lexical.specs.Finder.{Answer, Finder, Finds, while_front, while_rest, behind, and_next, if_passes, find_next}
+use Rattle.lexical.specs.Finder.{Answer, Finder, Finds, while_front, while_rest, prepend, and_next, if_passes}
+use Rattle.lexical.specs.Finder.{find_next}
 use Rattle.lexical.specs.Finder.{find_then, find_if, find_not_at, find_not_before, find_where, find_one, find_run}
 use Rattle.lexical.specs.Finder.{find_text}
 
@@ -42,16 +43,16 @@ finds_same f A B h to from = record {
 -- ---- `Next`, `Then`
 
 -- an answer with a prefix put before it is a piece of the second form
-pub behind_sound : (A B : Form) (front text : List ℕ) → ((p r : List ℕ) → text ≡ p ++ r → A p r → B (front ++ p) r)
-    → (o : Answer) → IfSome o (IsSplit A text) → IfSome (behind front o) (IsSplit B (front ++ text))
-behind_sound A B front text step None is = tt
-behind_sound A B front text step (Some x) is =
+pub prepend_sound : (A B : Form) (front text : List ℕ) → ((p r : List ℕ) → text ≡ p ++ r → A p r → B (front ++ p) r)
+    → (o : Answer) → IfSome o (IsSplit A text) → IfSome (prepend front o) (IsSplit B (front ++ text))
+prepend_sound A B front text step None is = tt
+prepend_sound A B front text step (Some x) is =
     (ap (λ t. front ++ t) is.0 ∙ sym (append_assoc front x.0 x.1), step x.0 x.1 is.0 is.1)
 
 next_sound : (g : List ℕ → Finder) (A : Form) (B : List ℕ → Form) → ((front : List ℕ) → Finds (g front) (B front))
     → (text : List ℕ) (o : Answer) → IfSome o (IsSplit A text) → IfSome (and_next g o) (IsSplit (Next A B) text)
 next_sound g A B h text None is = tt
-next_sound g A B h text (Some x) is = rw (is.0) (behind_sound (B x.0) (Next A B) x.0 x.1
+next_sound g A B h text (Some x) is = rw (is.0) (prepend_sound (B x.0) (Next A B) x.0 x.1
     (λ p r e back. record { front = x.0; back = p; whole = refl; first = subst (A x.0) e is.1; second = back })
     (g x.0 x.1) ((h x.0).sound x.1))
 

@@ -7,9 +7,9 @@ use Rattle.lexical.specs.Ascii.{all_ascii}
 use Rattle.lexical.specs.Text.{begins_with}
 use Rattle.lexical.specs.RawString.{raw_unit}
 use Rattle.lexical.specs.Rule.{Rule, Run, find}
-use Rattle.lexical.specs.Step.{Passes}
-use Rattle.lexical.specs.declared.cursor.Cursor.{Cursor}
-use Rattle.lexical.proofs.RuleSteps.{passed, IsBetween}
+use Rattle.lexical.specs.RuleMatch.{Passes}
+use Rattle.lexical.specs.declared.cursor.TextCursor.{TextCursor}
+use Rattle.lexical.proofs.RuleSteps.{passes_piece, IsBetween}
 use Rattle.lexical.proofs.TextLemmas.{all_pass, encode_all_ascii}
 
 -- all hash signs there
@@ -17,11 +17,11 @@ abbrev pub signs : Rule
 signs = Run (λ c. c == 35)
 
 -- the bytes of the hash signs that were passed are their characters
-pub signs_text : (at to : Cursor) (h : Passes signs at to) (bytes : List ℕ) → IsUtf8 bytes
+pub signs_text : (at to : TextCursor) (h : Passes signs at to) (bytes : List ℕ) → IsUtf8 bytes
     → IsBetween (chars bytes) at to
     → (chars bytes ≡ bytes) × (bytes ≡ h.front) × (all_ascii bytes ≡ true)
 signs_text at to h bytes utf8 between =
-    let run = passed signs tt at to h in
+    let run = passes_piece signs tt at to h in
     let is = between h.front run.0 in
     let ascii = all_pass (λ c. c == 35) (λ b. nat_lt b 128) (λ c is. rw (eqb-true c 35 is) refl) h.front run.1.each in
     let whole : bytes ≡ h.front = sym (encodes-chars bytes utf8)

@@ -12,7 +12,7 @@ use lib.Bits.{bit_and, bit_or, bit_xor}
 use lib.Count.{under, trailing_of_zero}
 use Rattle.lexical.specs.Bytes.{ascii_in}
 use Rattle.lexical.specs.Finder.{while_front}
-use Rattle.lexical.specs.Word.{name_stop, word_of}
+use Rattle.lexical.specs.MachineWord.{name_stop, word_of}
 use Rattle.lexical.specs.declared.bytes.Class.TheVariants.{IdentifierContinue}
 
 -- whether each number of the list is a byte
@@ -64,17 +64,17 @@ same_each f g same (b ∷ bytes) small =
     (eqb-true (f b) (g b) (agree_below_at (λ b. nat_eq (f b) (g b)) (λ b. true) 256 b same (small 0)))
 
 -- the word of n bytes that all equal k
-abbrev pub repeated : ℕ → ℕ → ℕ
-repeated k zero = 0
-repeated k (suc n) = repeated k n * 256 + k
+abbrev pub uniform_word : ℕ → ℕ → ℕ
+uniform_word k zero = 0
+uniform_word k (suc n) = uniform_word k n * 256 + k
 
-pub each_is : (k : ℕ) (bytes : List ℕ) → word_of (λ b. k) bytes ≡ repeated k (length bytes)
+pub each_is : (k : ℕ) (bytes : List ℕ) → word_of (λ b. k) bytes ≡ uniform_word k (length bytes)
 each_is k [] = refl
 each_is k (b ∷ bytes) = ap (λ x. x * 256 + k) (each_is k bytes)
 
 -- the word with all bits inverted
 pub not_each : (f : ℕ → ℕ) → fits f ≡ true → (bytes : List ℕ) → AreBytes bytes
-    → word_of f bytes + word_of (λ b. 255 - f b) bytes ≡ repeated 255 (length bytes)
+    → word_of f bytes + word_of (λ b. 255 - f b) bytes ≡ uniform_word 255 (length bytes)
 not_each f h [] small = refl
 not_each f h (b ∷ bytes) small =
     let low = is_byte f h b (small 0) in
@@ -140,13 +140,13 @@ stops_are = refl
 -- the operations on a word of these 8 bytes
 module _ (bytes : List ℕ) (l : length bytes ≡ 8) (are : AreBytes bytes) (word : ℕ)
     (is : word ≡ from_le_bytes w64 bytes) where
-  constant : (k n : ℕ) → n ≡ repeated k 8 → n ≡ word_of (λ b. k) bytes
-  constant k n e = e ∙ sym (each_is k bytes ∙ ap (repeated k) l)
+  constant : (k n : ℕ) → n ≡ uniform_word k 8 → n ≡ word_of (λ b. k) bytes
+  constant k n e = e ∙ sym (each_is k bytes ∙ ap (uniform_word k) l)
 
   word_is : word ≡ word_of (λ b. b) bytes
   word_is = is ∙ read bytes l
 
-  plus : (f : ℕ → ℕ) (k w n : ℕ) → w ≡ word_of f bytes → n ≡ repeated k 8 → w + n ≡ word_of (λ b. f b + k) bytes
+  plus : (f : ℕ → ℕ) (k w n : ℕ) → w ≡ word_of f bytes → n ≡ uniform_word k 8 → w + n ≡ word_of (λ b. f b + k) bytes
   plus f k w n e c = ap₂ (λ x y. x + y) e (constant k n c) ∙ add_each f (λ b. k) bytes
 
   low_is : low_word word ≡ word_of low bytes
@@ -180,7 +180,7 @@ module _ (bytes : List ℕ) (l : length bytes ≡ 8) (are : AreBytes bytes) (wor
 
   off_is : 2 ^ 64 - 1 - on_word word ≡ word_of (λ b. 255 - on b) bytes
   off_is =
-      let full : 2 ^ 64 - 1 ≡ repeated 255 (length bytes) = sym (ap (repeated 255) l) in
+      let full : 2 ^ 64 - 1 ≡ uniform_word 255 (length bytes) = sym (ap (uniform_word 255) l) in
       omega (arith, on_is, full, not_each on refl bytes are)
 
   pub stops_is : stop_word word ≡ word_of name_stop bytes

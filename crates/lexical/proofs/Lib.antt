@@ -29,16 +29,16 @@ pub mod LiteralFinderLemmas
 pub mod PieceLemmas
 pub mod AnswerLemmas
 pub mod PieceFacts
-pub mod QuickLemmas
-pub mod QuickNumberLemmas
-pub mod QuickUndottedLemmas
-pub mod QuickBasedLemmas
-pub mod QuickExponentLemmas
-pub mod QuickLiteralLemmas
-pub mod QuickEscapeLemmas
-pub mod QuickSingleLemmas
-pub mod QuickStringLemmas
-pub mod QuickCommentLemmas
+pub mod FastPathLemmas
+pub mod FastNumberLemmas
+pub mod FastUndottedLemmas
+pub mod FastBasedLemmas
+pub mod FastExponentLemmas
+pub mod FastLiteralLemmas
+pub mod FastEscapeLemmas
+pub mod FastSingleLemmas
+pub mod FastStringLemmas
+pub mod FastCommentLemmas
 pub mod WalkLemmas
 pub mod SpacedLemmas
 mod Examples

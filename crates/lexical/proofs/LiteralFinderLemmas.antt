@@ -7,10 +7,10 @@ use Rattle.unicode_ident.proofs.Computing.{unicode_ident}
 use Rattle.lexical.specs.Class.{is_ident_start, is_ident_continue}
 use Rattle.lexical.specs.Text.{begins_with, begins_any, first_passes}
 use Rattle.lexical.specs.Identifier.{literal_prefixes}
-use Rattle.lexical.specs.Mark.{LoneQuote, bars_quote, follows_quote, unbarred}
+use Rattle.lexical.specs.Mark.{LoneQuote, bars_quote, follows_quote, name_after_quote}
 use Rattle.lexical.specs.Number.{number}
 use Rattle.lexical.specs.Literal.{quoted_literal, QuotedLiteral, Literal}
-use Rattle.lexical.specs.Quoted.{is_one_of, Str, cooked}
+use Rattle.lexical.specs.Quoted.{is_one_of, Str, cooked_string}
 use Rattle.lexical.specs.RawString.{may_stand_raw, raw_front, raw_string, Raw}
 use Rattle.lexical.specs.Rule.{Rule, Either, Stands, find}
 use Rattle.lexical.specs.SingleQuoted.{byte, Character}
@@ -113,10 +113,10 @@ QuotedStarts p r = ((rest : List ℕ) × (p ++ r ≡ 34 ∷ rest)) ⊎ (Characte
 pub quoted_starts : (p r : List ℕ) → QuotedLiteral p r → QuotedStarts p r
 quoted_starts p r =
     quoted_cases (QuotedStarts p r) p r
-    (each_kind (λ k. Stands (cooked k) p r → QuotedStarts p r)
+    (each_kind (λ k. Stands (cooked_string k) p r → QuotedStarts p r)
     (λ is. inl (is.back ++ r, front_whole (codes "\"") _ p r is))
-    (λ is. inr (inr (rule_starts (cooked kinds.Byte) refl p r is)))
-    (λ is. inr (inr (rule_starts (cooked kinds.C) refl p r is))))
+    (λ is. inr (inr (rule_starts (cooked_string kinds.Byte) refl p r is)))
+    (λ is. inr (inr (rule_starts (cooked_string kinds.C) refl p r is))))
     (λ kind is. inr (inr (raw_starts kind p r is)))
     (λ is. inr (inl is))
     (λ is. inr (inr (rule_starts byte refl p r is)))
@@ -128,7 +128,7 @@ unfolding unicode_ident find
 quote_bars c tail =
     let plain : begins_with (codes "r#") (c ∷ 39 ∷ tail) ≡ false = and_right (114 == c) _ refl in
     let follows : Answer → Bool = λ o. is_some (if_passes (λ p r. not (first_passes (bars_quote false) r)) o) in
-    ap (λ raw. is_some (find (unbarred raw) (c ∷ 39 ∷ tail))) plain
+    ap (λ raw. is_some (find (name_after_quote raw) (c ∷ 39 ∷ tail))) plain
     ∙ (ap follows (cond-false _ _ _ (or_from _ _ plain refl))
     ∙ cond_both (is_ident_start c) (Some (c ∷ [], 39 ∷ tail)) None
     (λ o. follows (and_find (find_run is_ident_continue) o) ≡ false) (λ e. refl) (λ e. refl))

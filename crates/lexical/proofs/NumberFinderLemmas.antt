@@ -6,11 +6,12 @@ use Rattle.std.specs.Str.{chars}
 use Rattle.std.proofs.lemmas.Bool.{cond-true, cond-false, both_ways, false_from_ne_true, true_from_ne_false}
 use Rattle.lexical.specs.Text.{begins_any}
 use Rattle.lexical.specs.Rule.{Then, find}
-use Rattle.lexical.specs.Number.{Digits, Number, digits, end, float_tail, float, base_prefixes, based, integer, number}
+use Rattle.lexical.specs.Number.{Digits, Number, digits, end, float_tail, float, base_prefixes, based_number, integer}
+use Rattle.lexical.specs.Number.{number}
 use Rattle.lexical.specs.Number.{tail}
-use Rattle.lexical.specs.Finder.{Answer, Finder, Finds, and_find, behind, or_find}
-use Rattle.lexical.specs.Step.{Reads}
-use Rattle.lexical.specs.declared.cursor.Cursor.{Cursor}
+use Rattle.lexical.specs.Finder.{Answer, Finder, Finds, and_find, prepend, or_find}
+use Rattle.lexical.specs.RuleMatch.{Reads}
+use Rattle.lexical.specs.declared.cursor.TextCursor.{TextCursor}
 use Rattle.lexical.proofs.TextLemmas.{begins_each, any_begins_more}
 use Rattle.lexical.proofs.RuleLemmas.{Clear, exact, none_found, begins_one, bars, first_unbarred}
 use Rattle.lexical.proofs.RuleSteps.{reads_same}
@@ -34,17 +35,17 @@ no_float text h = begins_each (λ t. find float t ≡ None) base_prefixes text h
     (λ rest. refl, (λ rest. refl, (λ rest. refl, tt)))
 
 pub number_based : (text : List ℕ) → begins_any base_prefixes text ≡ true
-    → find number text ≡ find (Then based end) text
+    → find number text ≡ find (Then based_number end) text
 unfolding number find
 number_based text h = ap₂ or_find (no_float text h)
-    (ap (λ o. and_find (find end) (or_find o (find based text))) (cond-true _ _ _ h))
+    (ap (λ o. and_find (find end) (or_find o (find based_number text))) (cond-true _ _ _ h))
 
 -- without the prefix of another base no integer of another base is there
-no_based : (text : List ℕ) → begins_any base_prefixes text ≡ false → find based text ≡ None
+no_based : (text : List ℕ) → begins_any base_prefixes text ≡ false → find based_number text ≡ None
 no_based text h =
-    none_found based (assumption) text
+    none_found based_number (assumption) text
     (λ p r e is. both_ways _ h (ap (begins_any base_prefixes) e
-    ∙ any_begins_more base_prefixes p r (begins_one base_prefixes based refl p r is)))
+    ∙ any_begins_more base_prefixes p r (begins_one base_prefixes based_number refl p r is)))
 
 or_nothing : (o : Answer) → or_find o None ≡ o
 or_nothing None = refl
@@ -55,7 +56,7 @@ and_either : (f g : Finder) (o : Answer)
     → or_find (and_find f o) (and_find g o) ≡ and_find (λ text. or_find (f text) (g text)) o
 and_either f g None = refl
 and_either f g (Some x) =
-    elim (f x.1) as (λ u. or_find (behind x.0 u) (behind x.0 (g x.1)) ≡ behind x.0 (or_find u (g x.1))) [
+    elim (f x.1) as (λ u. or_find (prepend x.0 u) (prepend x.0 (g x.1)) ≡ prepend x.0 (or_find u (g x.1))) [
       | None ↦ refl
       | Some y ↦ refl
     ]
@@ -69,11 +70,12 @@ number_decimal text h =
     ap (λ o. or_find (find float text) (and_find (find end) o)) plain
     ∙ and_either (find float_tail) (find end) (find digits text)
 
-pub reads_based : (at : Cursor) (result : Option Cursor) → begins_any base_prefixes (chars at.rest.now) ≡ true
-    → Reads (Then based end) at result → Reads number at result
-reads_based at result h = reads_same (Then based end) number at result (number_based (chars at.rest.now) h)
+pub reads_based : (at : TextCursor) (result : Option TextCursor) → begins_any base_prefixes (chars at.rest.now) ≡ true
+    → Reads (Then based_number end) at result → Reads number at result
+reads_based at result h = reads_same (Then based_number end) number at result (number_based (chars at.rest.now) h)
 
-pub reads_decimal : (at : Cursor) (result : Option Cursor) → begins_any base_prefixes (chars at.rest.now) ≡ false
+pub reads_decimal : (at : TextCursor) (result : Option TextCursor)
+    → begins_any base_prefixes (chars at.rest.now) ≡ false
     → Reads (Then digits tail) at result → Reads number at result
 reads_decimal at result h = reads_same (Then digits tail) number at result (number_decimal (chars at.rest.now) h)
 

@@ -20,8 +20,9 @@ use Rattle.lexical.specs.FrontMark as fronts
 use Rattle.lexical.specs.Comment.{comment, Comment, is_doc, has_bare_return}
 use Rattle.lexical.specs.Piece.{Kind, FrontMark, Gap, Doc, Open, Close, Leaf, IsPiece, HasNoPiece}
 use Rattle.lexical.specs.Finder.{Answer, Finds}
-use Rattle.lexical.specs.PieceFinder.{Found, find_front_mark, front_mark_kind, gap_kind, literal_kind, tagged, or_found}
-use Rattle.lexical.specs.PieceFinder.{with_kind, comment_found, piece_start, found_identifier, found_from, found}
+use Rattle.lexical.specs.PieceFinder.{Found, find_front_mark, front_mark_kind, gap_kind, literal_kind, and_kind}
+use Rattle.lexical.specs.PieceFinder.{or_found}
+use Rattle.lexical.specs.PieceFinder.{with_kind, comment_found, piece_start, found_identifier, found_from, find_piece}
 use Rattle.lexical.specs.PieceFinder.{opener_kind, closer_kind, name_kind, mark_kind, quote_kind, found_literal}
 use Rattle.lexical.specs.CommentKind.{comment_kind, doc_text}
 use Rattle.lexical.specs.declared.class.PieceStart.{PieceStart}
@@ -49,7 +50,7 @@ finds_front_mark first = finds_if first _ _ (exact (rules.Exactly (0xFEFF ∷ []
 
 tagged_sound : (first : Bool) (A : Form) (kind : List ℕ → List ℕ → Kind)
     → ((p r : List ℕ) → A p r → IsPiece first (kind p r) p r) → (text : List ℕ) (o : Answer)
-    → IfSome o (IsSplit A text) → IfSome (tagged kind o) (IsTagged first text)
+    → IfSome o (IsSplit A text) → IfSome (and_kind kind o) (IsTagged first text)
 tagged_sound first A kind to text None is = tt
 tagged_sound first A kind to text (Some x) is = (is.0, to x.0 x.1 is.1)
 
@@ -83,11 +84,11 @@ comment_found_sound first text (Some x) is =
 -- what a rule finds is a piece of the kind
 rule_sound : (first : Bool) (rule : Rule) → Clear rule → (kind : List ℕ → List ℕ → Kind)
     → ((p r : List ℕ) → Stands rule p r → IsPiece first (kind p r) p r) → (text : List ℕ)
-    → IfSome (tagged kind (find rule text)) (IsTagged first text)
+    → IfSome (and_kind kind (find rule text)) (IsTagged first text)
 rule_sound first rule clear kind to text =
     tagged_sound first (Stands rule) kind to text (find rule text) ((exact rule clear).sound text)
 
-mark_sound : (first : Bool) (text : List ℕ) → IfSome (tagged mark_kind (find marks.mark text)) (IsTagged first text)
+mark_sound : (first : Bool) (text : List ℕ) → IfSome (and_kind mark_kind (find marks.mark text)) (IsTagged first text)
 mark_sound first = rule_sound first marks.mark tt mark_kind (mark_piece first)
 
 -- the first of two answers or the second is a piece, if both are
@@ -133,34 +134,34 @@ start_sound first starts.FrontMark text =
 start_sound first starts.Mark text = mark_sound first text
 start_sound first starts.Other text = tt
 
-pub found_sound : (first : Bool) (text : List ℕ) → IfSome (found first text) (IsTagged first text)
-unfolding found
+pub found_sound : (first : Bool) (text : List ℕ) → IfSome (find_piece first text) (IsTagged first text)
+unfolding find_piece
 found_sound first [] = tt
 found_sound first (c ∷ text) = start_sound first (piece_start c) (c ∷ text)
 
 -- ---- each piece is found
 
 -- at the end of the text nothing is found
-pub found_end : (first : Bool) (text : List ℕ) → text ≡ [] → found first text ≡ None
-unfolding found
-found_end first text e = ap (found first) e
+pub found_end : (first : Bool) (text : List ℕ) → text ≡ [] → find_piece first text ≡ None
+unfolding find_piece
+found_end first text e = ap (find_piece first) e
 
 -- a text is searched by what its first character says
 pub from_start : (first : Bool) (text : List ℕ) (c : ℕ) (rest : List ℕ) (s : PieceStart) → text ≡ c ∷ rest
     → piece_start c ≡ s
-    → found first text ≡ found_from first s text
-unfolding found
-from_start first text c rest s e is = ap (found first) e
+    → find_piece first text ≡ found_from first s text
+unfolding find_piece
+from_start first text c rest s e is = ap (find_piece first) e
     ∙ (ap (λ t. found_from first t (c ∷ rest)) is ∙ ap (found_from first s) (sym e))
 
 pub letter_start : (first : Bool) (text : List ℕ) → first_passes is_ident_start text ≡ true
-    → found first text ≡ found_from first starts.Letter text
+    → find_piece first text ≡ found_from first starts.Letter text
 letter_start first [] begins = absurd (both_ways _ refl begins)
 letter_start first (c ∷ text) begins = from_start first (c ∷ text) c text starts.Letter refl (start_letter c begins)
 
 -- each comment is found with its kind
 found_comment : (first : Bool) (k : Kind) (p r : List ℕ) → Comment p r → comment_kind p r ≡ Some k
-    → found first (p ++ r) ≡ Some (k, p, r)
+    → find_piece first (p ++ r) ≡ Some (k, p, r)
 found_comment first k p r h kind =
     let begins = comment_first p r h in
     from_start first (p ++ r) 47 (begins.0 ++ r) starts.Slash (ap (λ x. x ++ r) begins.1) start_slash
@@ -169,7 +170,7 @@ found_comment first k p r h kind =
 -- a mark is found, if no comment begins there
 found_mark : (first : Bool) (text : List ℕ) (c : ℕ) (rest : List ℕ) → text ≡ c ∷ rest → marks.is_mark c ≡ true
     → (c == 39) ≡ false → begins_any marks.comment_fronts text ≡ false
-    → found first text ≡ tagged mark_kind (find marks.mark text)
+    → find_piece first text ≡ and_kind mark_kind (find marks.mark text)
 found_mark first text c rest e is other plain = elim (start_mark c is other) [
   | inl mark ↦ from_start first text c rest starts.Mark e mark
   | inr slash ↦ from_start first text c rest starts.Slash e slash ∙ cond-false _ _ _ plain
@@ -197,33 +198,33 @@ mark_is c r h =
 -- no identifier is found, if a literal with letters before its quote begins there
 no_identifier : (text : List ℕ) → begins_any identifiers.literal_prefixes text ≡ true → found_identifier text ≡ None
 unfolding find
-no_identifier text h = ap (tagged (name_kind (begins_with (codes "r#") text))) (cond-true _ _ _ h)
+no_identifier text h = ap (and_kind (name_kind (begins_with (codes "r#") text))) (cond-true _ _ _ h)
 
 -- each identifier is found
 identifier_found : (raw : Bool) (name r : List ℕ) → identifiers.Identifier raw name r
     → found_identifier (raw_front raw ++ (name ++ r)) ≡ Some (Leaf (Name raw name), raw_front raw ++ name, r)
 identifier_found true name r h =
-    ap (tagged (name_kind true))
+    ap (and_kind (name_kind true))
     ((exact (identifier true) (clear_written true)).complete (codes "r#" ++ name) r
     (named_written true name r h.0, h.1))
 identifier_found false name r h =
-    ap (λ b. tagged (name_kind b) (find (identifier b) (name ++ r))) (named_begins false name r h.0)
-    ∙ ap (tagged (name_kind false)) ((exact (identifier false) (clear_written false)).complete name r h)
+    ap (λ b. and_kind (name_kind b) (find (identifier b) (name ++ r))) (named_begins false name r h.0)
+    ∙ ap (and_kind (name_kind false)) ((exact (identifier false) (clear_written false)).complete name r h)
 
 -- each literal is found
 found_quoted_at : (p r : List ℕ) → literals.QuotedLiteral p r
     → found_literal quoted_literal (p ++ r) ≡ Some (Leaf (Literal p), p, r)
-found_quoted_at p r h = ap (tagged literal_kind) (finds_quoted.complete p r h)
+found_quoted_at p r h = ap (and_kind literal_kind) (finds_quoted.complete p r h)
 
 quoted_complete : (first : Bool) (p r : List ℕ) → literals.QuotedLiteral p r
-    → found first (p ++ r) ≡ Some (Leaf (Literal p), p, r)
+    → find_piece first (p ++ r) ≡ Some (Leaf (Literal p), p, r)
 quoted_complete first p r h = elim (quoted_starts p r h) [
   | inl text ↦ from_start first (p ++ r) 34 text.0 starts.DoubleQuote text.1 start_double_quote ∙ found_quoted_at p r h
   | inr more ↦ elim more [
     | inl character ↦
         from_start first (p ++ r) 39 (character.back ++ r) starts.Quote
         (front_whole (codes "'") _ p r character) start_quote
-        ∙ (ap (λ o. or_found (tagged quote_kind o) (found_literal quoted_literal (p ++ r)))
+        ∙ (ap (λ o. or_found (and_kind quote_kind o) (found_literal quoted_literal (p ++ r)))
         (none_apart _ _ _ finds_lone_quote quote_apart p r character) ∙ found_quoted_at p r h)
     | inr letter ↦
         from_start first (p ++ r) letter.first letter.rest starts.Letter letter.whole letter.starts
@@ -232,14 +233,14 @@ quoted_complete first p r h = elim (quoted_starts p r h) [
   ]
 ]
 
-number_complete : (first : Bool) (p r : List ℕ) → Number p r → found first (p ++ r) ≡ Some (Leaf (Literal p), p, r)
+number_complete : (first : Bool) (p r : List ℕ) → Number p r → find_piece first (p ++ r) ≡ Some (Leaf (Literal p), p, r)
 number_complete first p r h =
     let at = number_first p r h in
     from_start first (p ++ r) at.0 (at.1 ++ r) starts.Digit (ap (λ q. q ++ r) at.2) (start_digit at.0 at.3)
-    ∙ ap (tagged literal_kind) (finds_number.complete p r h)
+    ∙ ap (and_kind literal_kind) (finds_number.complete p r h)
 
 literal_complete : (first : Bool) (p r : List ℕ) → literals.Literal p r
-    → found first (p ++ r) ≡ Some (Leaf (Literal p), p, r)
+    → find_piece first (p ++ r) ≡ Some (Leaf (Literal p), p, r)
 unfolding literals.Literal
 literal_complete first p r h = elim h [
   | inl quoted ↦ quoted_complete first p r quoted
@@ -247,21 +248,21 @@ literal_complete first p r h = elim h [
 ]
 
 error_complete : (first : Bool) (p r : List ℕ) → literals.ErrorLiteral p r
-    → found first (p ++ r) ≡ Some (Leaf (Literal p), p, r)
+    → find_piece first (p ++ r) ≡ Some (Leaf (Literal p), p, r)
 unfolding find
 error_complete first p r h =
     let text = error_literal ++ r in
     rw h (from_start first text 40 (codes "/*ERROR*/)" ++ r) starts.Opener refl (start_opener 40 refl)
-    ∙ ap (tagged literal_kind) ((exact (rules.Exactly error_literal) tt).complete error_literal r refl))
+    ∙ ap (and_kind literal_kind) ((exact (rules.Exactly error_literal) tt).complete error_literal r refl))
 
 pub found_complete : (first : Bool) (k : Kind) (p r : List ℕ) → IsPiece first k p r
-    → found first (p ++ r) ≡ Some (k, p, r)
+    → find_piece first (p ++ r) ≡ Some (k, p, r)
 found_complete first FrontMark p r h =
     from_start first (p ++ r) 0xFEFF r starts.FrontMark (one_front 0xFEFF p r h.1) start_front_mark
-    ∙ ap (tagged front_mark_kind) ((finds_front_mark first).complete p r h)
+    ∙ ap (and_kind front_mark_kind) ((finds_front_mark first).complete p r h)
 found_complete first Gap p r (inl h) =
     from_start first (p ++ r) h.0 r starts.White (one_front h.0 p r h.1) (start_white h.0 h.2)
-    ∙ ap (tagged gap_kind) ((exact (rules.One is_white) tt).complete p r h)
+    ∙ ap (and_kind gap_kind) ((exact (rules.One is_white) tt).complete p r h)
 found_complete first Gap p r (inr h) = found_comment first Gap p r h.0 (plain_kind p r h)
 found_complete first (Doc inner text) p r h =
     found_comment first (Doc inner text) p r h.comment.0 (doc_kind inner text p r h)
@@ -269,13 +270,13 @@ found_complete first (Open c) p r h =
     let one = passes_of is_opener c p r h.0 in
     let opens : NotAt (error_literal ∷ []) (One is_opener) p r = ((c, one.0, one.1), h.1) in
     from_start first (p ++ r) c r starts.Opener (one_front c p r one.0) (start_opener c one.1)
-    ∙ (ap (λ o. or_found (tagged opener_kind o) (found_literal (rules.Exactly error_literal) (p ++ r)))
+    ∙ (ap (λ o. or_found (and_kind opener_kind o) (found_literal (rules.Exactly error_literal) (p ++ r)))
     ((exact opener tt).complete p r opens)
     ∙ ap (λ d. Some (Open d, p, r)) (ap first_of one.0))
 found_complete first (Close c) p r h =
     let one = passes_of is_closer c p r h in
     from_start first (p ++ r) c r starts.Closer (one_front c p r one.0) (start_closer c one.1)
-    ∙ (ap (tagged closer_kind) ((exact closer tt).complete p r (c, one.0, one.1))
+    ∙ (ap (and_kind closer_kind) ((exact closer tt).complete p r (c, one.0, one.1))
     ∙ ap (λ d. Some (Close d, p, r)) (ap first_of one.0))
 found_complete first (Leaf (Name raw name)) p r h =
     let text = raw_front raw ++ (name ++ r) in
@@ -285,12 +286,12 @@ found_complete first (Leaf (Mark c joint)) p r h = rw h.0 (elim h.1 [
   | inl mark ↦
       let is = mark_is c r mark.0 in
       found_mark first (c ∷ r) c r refl is.0 is.1 mark.0.1
-      ∙ (ap (tagged mark_kind) ((exact marks.mark tt).complete (c ∷ []) r mark.0)
+      ∙ (ap (and_kind mark_kind) ((exact marks.mark tt).complete (c ∷ []) r mark.0)
       ∙ ap (λ b. Some (Leaf (Mark c b), c ∷ [], r)) (sym mark.1))
   | inr quote ↦
       let is : c ≡ 39 = cc in
       rw (is, quote.1) (from_start first (39 ∷ r) 39 r starts.Quote refl start_quote
-      ∙ ap (λ o. or_found (tagged quote_kind o) (found_literal quoted_literal (39 ∷ r)))
+      ∙ ap (λ o. or_found (and_kind quote_kind o) (found_literal quoted_literal (39 ∷ r)))
       (finds_lone_quote.complete (39 ∷ []) r (refl, quote.0.1)))
 ])
 found_complete first (Leaf (Literal text)) p r h = rw h.0 (elim h.1 [
@@ -305,18 +306,18 @@ pub one_piece : (first : Bool) (k l : Kind) (p q r s : List ℕ) → IsPiece fir
     → p ++ r ≡ q ++ s → (k ≡ l) × (p ≡ q) × (r ≡ s)
 one_piece first k l p q r s h j e =
     let same : ◌≡◌ {A = Found} (Some (k, p, r)) (Some (l, q, s)) =
-    sym (found_complete first k p r h) ∙ (ap (found first) e ∙ found_complete first l q s j) in
+    sym (found_complete first k p r h) ∙ (ap (find_piece first) e ∙ found_complete first l q s j) in
     let parts : ◌≡◌ {A = Kind × List ℕ × List ℕ} (k, p, r) (l, q, s) = cc in
     (ap (λ x. x.0) parts, ap (λ x. x.1) parts, ap (λ x. x.2) parts)
 
 -- what was found is a piece at the start of the text
-pub piece_from_found : (first : Bool) (text p r : List ℕ) (k : Kind) → found first text ≡ Some (k, p, r)
+pub piece_from_found : (first : Bool) (text p r : List ℕ) (k : Kind) → find_piece first text ≡ Some (k, p, r)
     → (text ≡ p ++ r) × IsPiece first k p r
 piece_from_found first text p r k e = subst (λ o. IfSome o (IsTagged first text)) e (found_sound first text)
 
 -- if nothing was found, no piece is there
-pub none_from_found : (first : Bool) (text : List ℕ) → found first text ≡ None → HasNoPiece first text
+pub none_from_found : (first : Bool) (text : List ℕ) → find_piece first text ≡ None → HasNoPiece first text
 none_from_found first text e k p r whole h =
     let clash : ◌≡◌ {A = Found} None (Some (k, p, r)) = sym e
-    ∙ (ap (found first) whole ∙ found_complete first k p r h) in
+    ∙ (ap (find_piece first) whole ∙ found_complete first k p r h) in
     cc

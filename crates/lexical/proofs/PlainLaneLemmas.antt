@@ -11,9 +11,9 @@ use Rattle.std.proofs.lemmas.Nat.Bits.{bit_at-trailing_zeros}
 use lib.Bits.{bit_and, bit_or, bit_xor}
 use lib.Count.{trailing_of_zero}
 use Rattle.lexical.specs.Finder.{while_front}
-use Rattle.lexical.specs.Word.{is_plain_ascii, word_of}
+use Rattle.lexical.specs.MachineWord.{is_plain_ascii, word_of}
 use Rattle.lexical.proofs.LaneLemmas.{AreBytes, add_each, and_each, each_is, eights, first_stop, low, low_word}
-use Rattle.lexical.proofs.LaneLemmas.{not_each, or_each, read, repeated, same_each, xor_each}
+use Rattle.lexical.proofs.LaneLemmas.{not_each, or_each, read, uniform_word, same_each, xor_each}
 
 -- the operations on a byte. The highest bit is set unless the byte equals the other one
 abbrev apart : ℕ → ℕ → ℕ
@@ -47,8 +47,8 @@ stops_are = refl
 -- the operations on a word of these 8 bytes
 module _ (bytes : List ℕ) (l : length bytes ≡ 8) (are : AreBytes bytes) (word : ℕ)
     (is : word ≡ from_le_bytes w64 bytes) where
-  constant : (k n : ℕ) → n ≡ repeated k 8 → n ≡ word_of (λ b. k) bytes
-  constant k n e = e ∙ sym (each_is k bytes ∙ ap (repeated k) l)
+  constant : (k n : ℕ) → n ≡ uniform_word k 8 → n ≡ word_of (λ b. k) bytes
+  constant k n e = e ∙ sym (each_is k bytes ∙ ap (uniform_word k) l)
 
   word_is : word ≡ word_of (λ b. b) bytes
   word_is = is ∙ read bytes l
@@ -56,7 +56,7 @@ module _ (bytes : List ℕ) (l : length bytes ≡ 8) (are : AreBytes bytes) (wor
   low_is : low_word word ≡ word_of low bytes
   low_is = ap₂ bit_and word_is (constant 127 _ refl) ∙ and_each (λ b. b) (λ b. 127) refl refl bytes are
 
-  plus : (f : ℕ → ℕ) (w n : ℕ) → w ≡ word_of f bytes → n ≡ repeated 127 8 → w + n ≡ word_of (λ b. f b + 127) bytes
+  plus : (f : ℕ → ℕ) (w n : ℕ) → w ≡ word_of f bytes → n ≡ uniform_word 127 8 → w + n ≡ word_of (λ b. f b + 127) bytes
   plus f w n e c = ap₂ (λ x y. x + y) e (constant 127 n c) ∙ add_each f (λ b. 127) bytes
 
   quote_is : apart_word 0x2222_2222_2222_2222 word ≡ word_of (apart 34) bytes
@@ -78,7 +78,7 @@ module _ (bytes : List ℕ) (l : length bytes ≡ 8) (are : AreBytes bytes) (wor
 
   off_is : 2 ^ 64 - 1 - on_word word ≡ word_of (λ b. 255 - on b) bytes
   off_is =
-      let full : 2 ^ 64 - 1 ≡ repeated 255 (length bytes) = sym (ap (repeated 255) l) in
+      let full : 2 ^ 64 - 1 ≡ uniform_word 255 (length bytes) = sym (ap (uniform_word 255) l) in
       omega (arith, on_is, full, not_each on refl bytes are)
 
   stops_is : stop_word word ≡ word_of plain_stop bytes

@@ -118,9 +118,9 @@ abbrev pub bars : List ℕ → Rule → Bool
 bars front = leads (λ passes. first_passes (λ c. not (passes c)) front) (λ text. differ text front)
     (λ fronts. begins_any fronts front)
 
-pub barred : (front : List ℕ) (rule : Rule) → bars front rule ≡ true → (rest p r : List ℕ) → Stands rule p r
+pub bars_sound : (front : List ℕ) (rule : Rule) → bars front rule ≡ true → (rest p r : List ℕ) → Stands rule p r
     → p ++ r ≡ front ++ rest → ⊥
-barred front rule h rest p r is e = elim (led _ _ _ rule h p r is) [
+bars_sound front rule h rest p r is e = elim (led _ _ _ rule h p r is) [
   | inl one ↦
       never one.0 (p ++ r) (first_more one.0 p r one.2) (rw e (first_more (λ c. not (one.0 c)) front rest one.1))
   | inr (inl text) ↦ texts_differ text.0 front (text.1 ++ r) rest text.2 (rw (text.3, append_assoc) at e)
@@ -141,7 +141,7 @@ first_unbarred rule h p r is =
       at.1,
       at.2,
       false_from_ne_true _
-          (λ out. barred (at.0 ∷ []) rule out (at.1 ++ r) p r is (ap (λ q. q ++ r) at.2)),
+          (λ out. bars_sound (at.0 ∷ []) rule out (at.1 ++ r) p r is (ap (λ q. q ++ r) at.2)),
     )
 
 -- ---- rules that cannot begin alike
@@ -159,7 +159,7 @@ apart_holds a b h = elim (or_cases _ _ h) [
     by_texts : (a b : Rule) → begins (λ front. bars front b) a ≡ true → Disjoint (Stands a) (Stands b)
     by_texts a b h p q r s one other e =
         let at = begins_holds _ a h p r one in
-        barred at.0 b at.2 (at.1 ++ r) q s other (sym e ∙ (ap (λ x. x ++ r) at.3 ∙ append_assoc at.0 at.1 r))
+        bars_sound at.0 b at.2 (at.1 ++ r) q s other (sym e ∙ (ap (λ x. x ++ r) at.3 ∙ append_assoc at.0 at.1 r))
 
 -- ---- clear rules
 

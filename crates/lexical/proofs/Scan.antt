@@ -9,8 +9,8 @@ use Rattle.std.proofs.lemmas.Str.{encode_ascii, inside_one, encodes-chars}
 use Rattle.lexical.specs.Text.{first_passes}
 use Rattle.lexical.specs.Finder.{while_front, while_rest}
 use Rattle.lexical.specs.Rule.{Run, find}
-use Rattle.lexical.specs.Step.{Passes}
-use Rattle.lexical.specs.declared.cursor.Cursor.{Cursor}
+use Rattle.lexical.specs.RuleMatch.{Passes}
+use Rattle.lexical.specs.declared.cursor.TextCursor.{TextCursor}
 use Rattle.lexical.proofs.FinderLemmas.{while_rest_none, while_whole, while_more}
 use Rattle.lexical.proofs.TextLemmas.{first_byte, seam_boundary, seam_take, seam_drop}
 
@@ -65,7 +65,7 @@ module _ (test : ℕ → Bool) (beyond : Bool) (high : (c : ℕ) → 128 ≤ c �
     run_rest = seam_drop text _ _ n utf8 whole bytes_of
 
   -- the cursor after n bytes is the cursor after the run
-  pub run_over : (at to : Cursor) → IsUtf8 at.rest.now → (n : ℕ) → n ≡ length (while_front test at.rest.now)
+  pub run_over : (at to : TextCursor) → IsUtf8 at.rest.now → (n : ℕ) → n ≡ length (while_front test at.rest.now)
       → to.rest.now ≡ drop n at.rest.now
       → to.chars_before ≡ at.chars_before + length (chars (take n at.rest.now)) → Passes (Run test) at to
   unfolding find

@@ -11,8 +11,8 @@ use Rattle.lexical.specs.Finder.{while_front, while_rest}
 use Rattle.lexical.specs.Quoted.{is_plain}
 use Rattle.lexical.specs.RawString.{may_stand_raw}
 use Rattle.lexical.specs.Rule.{Run}
-use Rattle.lexical.specs.Step.{Passes}
-use Rattle.lexical.specs.declared.cursor.Cursor.{Cursor}
+use Rattle.lexical.specs.RuleMatch.{Passes}
+use Rattle.lexical.specs.declared.cursor.TextCursor.{TextCursor}
 use Rattle.lexical.specs.declared.quoted.StringKind.{StringKind}
 use Rattle.lexical.specs.declared.quoted.StringKind.TheVariants as kinds
 use Rattle.lexical.proofs.Scan.{run_boundary, run_over, run_rest}
@@ -37,7 +37,7 @@ module _ (test : ℕ → Bool) where
       run_to bs k (omega (arith, h.0.high)) (λ i before hit. h.0.before i (omega arith) before hit) (λ more. h.1)
 
   -- the cursor where the search ends is the cursor after the run
-  pub found_run : ((c : ℕ) → 128 ≤ c → test c ≡ false) → (at to : Cursor) (bs : List ℕ) (r : Option ℕ) (n : ℕ)
+  pub found_run : ((c : ℕ) → 128 ≤ c → test c ≡ false) → (at to : TextCursor) (bs : List ℕ) (r : Option ℕ) (n : ℕ)
       → IsUtf8 bs → bs ≡ at.rest.now
       → IsFirstByte test bs r → n ≡ unwrap_or r (length bs) → to.rest.now ≡ drop n at.rest.now
       → to.chars_before ≡ at.chars_before + length (chars (take n at.rest.now)) → Passes (Run (λ c. not (test c))) at to
@@ -72,7 +72,7 @@ module _ (test allowed both : ℕ → Bool) (same : (c : ℕ) → both c ≡ (al
   ]
 
   module _ (past : (c : ℕ) → 128 ≤ c → test c ≡ false) (beyond : Bool) (high : (c : ℕ) → 128 ≤ c → allowed c ≡ beyond)
-      (at : Cursor) (bs : List ℕ) (r : Option ℕ) (m n : ℕ) (utf8 : IsUtf8 bs) (whole : bs ≡ at.rest.now)
+      (at : TextCursor) (bs : List ℕ) (r : Option ℕ) (m n : ℕ) (utf8 : IsUtf8 bs) (whole : bs ≡ at.rest.now)
       (found : IsFirstByte test bs r) (end : m ≡ unwrap_or r (length bs))
       (is_length : n ≡ length (while_front allowed (take m bs))) where
     both_high : (c : ℕ) → 128 ≤ c → both c ≡ beyond
@@ -86,7 +86,7 @@ module _ (test allowed both : ℕ → Bool) (same : (c : ℕ) → both c ≡ (al
     pub allowed_boundary : IsCharBoundary at.rest.now n
     allowed_boundary = run_boundary both beyond both_high at.rest.now (subst IsUtf8 whole utf8) n size
 
-    pub allowed_run : (to : Cursor) → to.rest.now ≡ drop n at.rest.now
+    pub allowed_run : (to : TextCursor) → to.rest.now ≡ drop n at.rest.now
         → to.chars_before ≡ at.chars_before + length (chars (take n at.rest.now)) → Passes (Run both) at to
     allowed_run to rest count = run_over both beyond both_high at to (subst IsUtf8 whole utf8) n size rest count
 

@@ -89,15 +89,15 @@ gaps_first first (c ∷ white) after (x ∷ xs) each whole stand =
     )
 
 module _ (at : PieceWalk) (white : List ℕ) (to : PieceWalk) (passes : PassesWhite at white to) where
-  behind : to.at_front ≡ (at.at_front && (length (chars white) == 0))
-  behind = passes.behind ∙ ap (λ none. at.at_front && none) (none_passed white passes.splits.white_utf8)
+  front_after : to.at_front ≡ (at.at_front && (length (chars white) == 0))
+  front_after = passes.front_after ∙ ap (λ none. at.at_front && none) (none_passed white passes.splits.white_utf8)
 
   -- a cover of the text after a run, with the run's gaps before it, covers the text before the run
   pub white_back : (ys : List Piece) → Covers to ys → Covers at (gaps (chars white) ++ ys)
   white_back ys covers = (
     passes.splits.whole ∙ (ap (λ r. chars white ++ r) covers.0 ∙ sym (onto_gaps (chars white) ys)),
     gaps_stand at.at_front (chars white) ys passes.splits.stands.each
-        (subst (λ b. StandBefore b ys []) behind covers.1),
+        (subst (λ b. StandBefore b ys []) front_after covers.1),
   )
 
   -- a cover of the text before a run begins with the run's gaps
@@ -106,7 +106,7 @@ module _ (at : PieceWalk) (white : List ℕ) (to : PieceWalk) (passes : PassesWh
   white_on xs covers =
       let more = gaps_first at.at_front (chars white) (chars to.rest.now) xs passes.splits.stands.each
       (sym passes.splits.whole ∙ covers.0) covers.1 in
-      (more.0, (more.1, subst (λ b. StandBefore b more.0 []) (sym behind) more.2), more.3)
+      (more.0, (more.1, subst (λ b. StandBefore b more.0 []) (sym front_after) more.2), more.3)
 
 -- ---- a piece
 
@@ -116,7 +116,7 @@ module _ (at : PieceWalk) (next : PlacedPiece) (to : PieceWalk) (is : IsNext at 
     is.whole ∙ ap (λ r. chars next.text.now ++ r) covers.0,
     (
       subst (IsPiece at.at_front (piece_of next).0 (piece_of next).1) covers.0 is.stands,
-      subst (λ b. StandBefore b ys []) is.behind covers.1,
+      subst (λ b. StandBefore b ys []) is.front_after covers.1,
     ),
   )
 
@@ -130,7 +130,7 @@ module _ (at : PieceWalk) (next : PlacedPiece) (to : PieceWalk) (is : IsNext at 
       let same = one_piece at.at_front _ x.0 (chars next.text.now) x.1 (chars to.rest.now) (onto xs [])
       is.stands covers.1.0 (sym is.whole ∙ covers.0) in (
         xs,
-        (same.2, subst (λ b. StandBefore b xs []) (sym is.behind) covers.1.1),
+        (same.2, subst (λ b. StandBefore b xs []) (sym is.front_after) covers.1.1),
         ap (λ y. y ∷ xs) (sym (ap₂ (λ k p. (k, p)) same.0 same.1)),
       )
 

@@ -19,7 +19,7 @@ pub next_is : (at : PieceWalk) (next : PlacedPiece) (to : PieceWalk) → IsUtf8 
     → next.piece.bytes ≡ length next.text.now → IsUtf8 next.text.now
     → next.byte_offset ≡ at.byte_offset → to.byte_offset ≡ at.byte_offset + next.piece.bytes → to.at_front ≡ false
     → IsNext at next to
-next_is at next to utf8 found cut left size text byte_offset past behind =
+next_is at next to utf8 found cut left size text byte_offset past front_after =
     let front : chars next.text.now ≡ found.front =
     ap chars cut ∙ piece_front at.at_front at.rest.now next.piece utf8 found in
     let rest : chars to.rest.now ≡ found.rest =
@@ -40,5 +40,5 @@ next_is at next to utf8 found cut left size text byte_offset past behind =
       utf8 = text;
       byte_offset = byte_offset;
       past = past ∙ ap (λ n. at.byte_offset + n) size;
-      behind = behind;
+      front_after = front_after;
     }

@@ -18,14 +18,14 @@ use Rattle.lexical.specs.Finder.{while_front, while_rest}
 use Rattle.lexical.specs.Form.{Run}
 use Rattle.lexical.specs.Rule as rules
 use Rattle.lexical.specs.Rule.{find}
-use Rattle.lexical.specs.Step.{Passes}
+use Rattle.lexical.specs.RuleMatch.{Passes}
 use Rattle.lexical.specs.Text.{first_passes}
 use Rattle.lexical.specs.WhiteRun.{ascii_white, IsPastWhite, SplitsWhite}
 use Rattle.lexical.specs.declared.bytes.Class.TheVariants.{White}
-use Rattle.lexical.specs.declared.cursor.Cursor.{Cursor}
+use Rattle.lexical.specs.declared.cursor.TextCursor.{TextCursor}
 use Rattle.lexical.proofs.ByteLemmas.{ascii_past}
 use Rattle.lexical.proofs.FinderLemmas.{finds_run, while_more, while_passes, while_rest_none, while_whole}
-use Rattle.lexical.proofs.QuickLemmas.{ascii_split, get_after}
+use Rattle.lexical.proofs.FastPathLemmas.{ascii_split, get_after}
 use Rattle.lexical.proofs.Scan.{bytes_of, run_rest}
 use Rattle.lexical.proofs.TextLemmas.{all_pass, ascii_bytes, begins_splits, encode_all_ascii, is_ascii}
 use Rattle.lexical.proofs.TextLemmas.{seam_boundary, seam_drop, seam_take, starts_with_is}
@@ -101,16 +101,16 @@ white_run bytes n utf8 within white stops =
 -- ASCII white characters are their own bytes
 pub white_bytes : (text rest : List ℕ) (count : ℕ) → IsUtf8 text → IsUtf8 rest
     → (white : IsPastWhite (chars text) (chars rest) count) → text ≡ white.front ++ rest
-white_bytes text rest count utf8 behind white =
+white_bytes text rest count utf8 after_utf8 white =
     sym (encodes-chars text utf8) ∙ (ap encode_utf8_all white.whole ∙ (encodes-append white.front (chars rest)
     ∙ ap₂ (λ p r. p ++ r) (encode_all_ascii white.front (white_ascii white.front white.stands.each))
-    (encodes-chars rest behind)))
+    (encodes-chars rest after_utf8)))
 
 -- a text may be cut after its ASCII white characters
 pub white_cut : (text rest : List ℕ) (count : ℕ) → IsUtf8 text → IsUtf8 rest
     → IsPastWhite (chars text) (chars rest) count → (count ≤ length text) × IsCharBoundary text count
-white_cut text rest count utf8 behind white =
-    let same = white_bytes text rest count utf8 behind white in
+white_cut text rest count utf8 after_utf8 white =
+    let same = white_bytes text rest count utf8 after_utf8 white in
     let within : count ≤ length text = omega (arith, white.chars, ap length same, length-append white.front rest) in
     let front : take count text ≡ white.front =
     ap₂ take white.chars same ∙ take-append_seam white.front rest in
@@ -130,9 +130,9 @@ low_stops (b ∷ text) low stops =
 pub splits_low : (text white rest past : List ℕ) (n : ℕ) → IsUtf8 text → IsUtf8 past
     → IsPastWhite (chars text) (chars past) n → get_or text n 32 < 128 → white ≡ take n text → rest ≡ drop n text
     → SplitsWhite text white rest
-splits_low text white rest past n utf8 behind run low front back =
+splits_low text white rest past n utf8 after_utf8 run low front back =
     let ascii = is_ascii run.front (white_ascii run.front run.stands.each) in
-    let same = white_bytes text past n utf8 behind run in
+    let same = white_bytes text past n utf8 after_utf8 run in
     let is : white ≡ run.front = front ∙ (ap (take n) same ∙ take_at run.front past n (sym run.chars)) in
     let after : rest ≡ past = back ∙ (ap (drop n) same ∙ drop_at run.front past n (sym run.chars)) in
     let points : chars white ≡ run.front = ap chars is ∙ chars-IsAscii run.front ascii in
@@ -146,11 +146,11 @@ splits_low text white rest past n utf8 behind run low front back =
         stops = low_stops past first run.stands.stops;
       });
       white_utf8 = subst IsUtf8 (sym is) (IsUtf8-from_ascii run.front ascii);
-      rest_utf8 = subst IsUtf8 (sym after) behind;
+      rest_utf8 = subst IsUtf8 (sym after) after_utf8;
     }
 
 -- the lexer's step over white characters skips exactly their run
-pub run_found : (text : List ℕ) (at to : Cursor) → at.rest.now ≡ text → Passes (rules.Run is_white) at to
+pub run_found : (text : List ℕ) (at to : TextCursor) → at.rest.now ≡ text → Passes (rules.Run is_white) at to
     → chars text ≡ while_front is_white (chars text) ++ chars to.rest.now
 unfolding find
 run_found text at to same passes =

@@ -5,7 +5,7 @@ use Rattle.std.proofs.Common.{inl, inr}
 use Rattle.std.specs.List.{concat}
 use Rattle.std.proofs.lemmas.Bool.{both_ways}
 use Rattle.lexical.specs.Form.{Form, HasNone, Then, Either, Else, Exactly, Each, Many}
-use Rattle.lexical.specs.Finder.{Answer, Finder, Finds, behind, or_find, find_else, find_then, some_of, or_stop}
+use Rattle.lexical.specs.Finder.{Answer, Finder, Finds, prepend, or_find, find_else, find_then, some_of, or_stop}
 use Rattle.lexical.specs.Finder.{find_many}
 use Rattle.lexical.proofs.FinderLemmas.{IsSplit, found_is, none_is, none_found, one_split, finds_same, finds_then}
 use Rattle.lexical.proofs.FinderLemmas.{next_whole}
@@ -112,7 +112,7 @@ module _ (f : Finder) (A : Form) (h : Finds f A) (some : NotEmpty A) where
 
   -- one more piece in a row
   pub many_found : (text unit rest : List ℕ) → f text ≡ Some (unit, rest)
-      → find_many f text ≡ behind unit (find_many f rest)
+      → find_many f text ≡ prepend unit (find_many f rest)
   unfolding find_many
   many_found text unit rest e =
       let x = some_of f (length rest) rest in

@@ -2,7 +2,7 @@
 use Rattle.std.specs.Prelude.{ℕ, ◌≡◌, zero, suc, List, [], ◌∷◌, ◌++◌, IsFalse, codes, Some, None, if◌then◌else◌}
 use Rattle.lexical.specs.Text.{begins_with, begins_any}
 use Rattle.lexical.specs.Form.{Form, Then, Exactly}
-use Rattle.lexical.specs.Finder.{Finder, behind}
+use Rattle.lexical.specs.Finder.{Finder, prepend}
 
 -- the two signs `/*` and `*/`, with which a block comment begins and ends
 abbrev pub block_signs : List (List ℕ)
@@ -33,9 +33,9 @@ find_ends zero text = Some ([], text)
 find_ends (suc outer) [] = None
 find_ends (suc outer) (c ∷ []) = None
 find_ends (suc outer) (c ∷ (d ∷ text)) =
-    let closed = behind (c ∷ d ∷ []) (find_ends outer text) in
-    let opened = behind (c ∷ d ∷ []) (find_ends (suc (suc outer)) text) in
-    let passed = behind (c ∷ []) (find_ends (suc outer) (d ∷ text)) in
+    let closed = prepend (c ∷ d ∷ []) (find_ends outer text) in
+    let opened = prepend (c ∷ d ∷ []) (find_ends (suc (suc outer)) text) in
+    let passed = prepend (c ∷ []) (find_ends (suc outer) (d ∷ text)) in
     if begins_with (codes "*/") (c ∷ (d ∷ text)) then closed
     else if begins_with (codes "/*") (c ∷ (d ∷ text)) then opened
     else passed

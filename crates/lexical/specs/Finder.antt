@@ -28,14 +28,14 @@ while_rest passes [] = []
 while_rest passes (c ∷ text) = cond (passes c) (while_rest passes text) (c ∷ text)
 
 -- the answer with `front` put before its piece
-abbrev pub behind : List ℕ → Answer → Answer
-behind front None = None
-behind front (Some x) = Some (front ++ x.0, x.1)
+abbrev pub prepend : List ℕ → Answer → Answer
+prepend front None = None
+prepend front (Some x) = Some (front ++ x.0, x.1)
 
 -- the answer, continued by what the next finder finds after it. That finder may depend on the piece so far
 abbrev pub and_next : (List ℕ → Finder) → Answer → Answer
 and_next find None = None
-and_next find (Some x) = behind x.0 (find x.0 x.1)
+and_next find (Some x) = prepend x.0 (find x.0 x.1)
 
 -- finds a piece of the form `Next`
 abbrev pub find_next : Finder → (List ℕ → Finder) → Finder

@@ -57,13 +57,13 @@ Named true = RawIdentifier
 Named false = PlainIdentifier
 
 -- an identifier as it is written, raw or plain, even if a literal begins there
-abbrev pub written : Bool → Rule
-written true = Then (Exactly (codes "r#")) raw_name
-written false = plain
+abbrev pub any_identifier : Bool → Rule
+any_identifier true = Then (Exactly (codes "r#")) raw_name
+any_identifier false = plain
 
 -- `identifier`: an identifier as it is written, raw or plain, if no literal begins there
 abbrev pub identifier : Bool → Rule
-identifier raw = NotAt literal_prefixes (written raw)
+identifier raw = NotAt literal_prefixes (any_identifier raw)
 
 -- `identifier`: the name of an identifier, raw or plain, if no literal begins there
 abbrev pub Identifier : Bool → Form

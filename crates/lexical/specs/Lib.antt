@@ -21,13 +21,13 @@ pub mod Quiet
 pub mod Found
 pub mod Ascii
 pub mod Bytes
-pub mod Word
+pub mod MachineWord
 pub mod Finder
 pub mod Block
 pub mod Rule
 pub mod CommentKind
 pub mod PieceFinder
 pub mod PieceStep
-pub mod Step
+pub mod RuleMatch
 pub mod Walk
 pub mod Quick

@@ -2,7 +2,7 @@
 use Rattle.std.specs.Prelude.{ℕ, List, []}
 use Rattle.lexical.specs.Form.{Form, Either, Exactly}
 use Rattle.lexical.specs.Delimiter.{error_literal}
-use Rattle.lexical.specs.Quoted.{Str, ByteStr, CStr, cooked}
+use Rattle.lexical.specs.Quoted.{Str, ByteStr, CStr, cooked_string}
 use Rattle.lexical.specs.RawString.{RawStr, RawByteStr, RawCStr, raw_string}
 use Rattle.lexical.specs.Rule as rules
 use Rattle.lexical.specs.Rule.{Rule}
@@ -13,7 +13,7 @@ use Rattle.lexical.specs.Number.{Number, number}
 
 -- a string of the kind, with escapes or raw
 abbrev pub string : StringKind → Rule
-string kind = rules.Either (cooked kind) (raw_string kind)
+string kind = rules.Either (cooked_string kind) (raw_string kind)
 
 -- `quoted-literal`: a string, a byte string or a C string, each with escapes or raw, a character or a byte
 abbrev pub quoted_literal : Rule

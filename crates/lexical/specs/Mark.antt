@@ -7,7 +7,7 @@ use Rattle.lexical.specs.Text.{begins_with, begins_any, first_passes}
 use Rattle.lexical.specs.Form.{Form, Exactly}
 use Rattle.lexical.specs.Rule.{Rule, One, NotAt, NotBefore, Stands, find}
 use Rattle.lexical.specs.Token.{raw_front}
-use Rattle.lexical.specs.Identifier.{Named, written}
+use Rattle.lexical.specs.Identifier.{Named, any_identifier}
 
 -- `marks`: the 22 marks
 abbrev pub marks : List ℕ
@@ -48,12 +48,12 @@ pub record FollowsQuote (r : List ℕ) : Type 0 where
   pub unbarred : IsFalse (first_passes (bars_quote raw) rest)
 
 -- an identifier that may follow a `'`, even if a literal begins there
-abbrev pub unbarred : Bool → Rule
-unbarred raw = NotBefore (bars_quote raw) (written raw)
+abbrev pub name_after_quote : Bool → Rule
+name_after_quote raw = NotBefore (bars_quote raw) (any_identifier raw)
 
 -- whether the text begins with an identifier that may follow a `'`
 abbrev pub follows_quote : List ℕ → Bool
-follows_quote text = is_some (find (unbarred (begins_with (codes "r#") text)) text)
+follows_quote text = is_some (find (name_after_quote (begins_with (codes "r#") text)) text)
 
 -- `lone-quote`: the mark `'` right before an identifier that may follow it. The identifier is not part of the mark
 abbrev pub LoneQuote : Form

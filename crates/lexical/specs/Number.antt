@@ -89,15 +89,15 @@ abbrev pub digits_in : ℕ → Rule
 digits_in base = NotBefore is_ascii_digit (Then (Run is_underscore) (base_digits base))
 
 -- `based`: a prefix and the digits of base 16, 8 or 2 after it
-abbrev pub based : Rule
-based =
+abbrev pub based_number : Rule
+based_number =
     Either (Then (Exactly (codes "0x")) (digits_in 16))
     (Either (Then (Exactly (codes "0o")) (digits_in 8))
     (Then (Exactly (codes "0b")) (digits_in 2)))
 
 -- the digits of an integer, with the prefix of its base if it has one
 abbrev pub integer : Rule
-integer = Either decimal based
+integer = Either decimal based_number
 
 -- ---- both
 

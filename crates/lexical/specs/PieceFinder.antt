@@ -73,9 +73,9 @@ abbrev pub Found : Type 0
 Found = Option (Kind × List ℕ × List ℕ)
 
 -- the answer with the kind of its piece
-abbrev pub tagged : (List ℕ → List ℕ → Kind) → Answer → Found
-tagged kind None = None
-tagged kind (Some x) = Some (kind x.0 x.1, x.0, x.1)
+abbrev pub and_kind : (List ℕ → List ℕ → Kind) → Answer → Found
+and_kind kind None = None
+and_kind kind (Some x) = Some (kind x.0 x.1, x.0, x.1)
 
 -- the first answer if it has a piece, and otherwise the other one
 abbrev pub or_found : Found → Found → Found
@@ -109,30 +109,30 @@ piece_start c =
 
 -- the identifier at the start of a text. It is a raw one if the text begins with `r#`
 abbrev pub found_identifier : List ℕ → Found
-found_identifier text = let raw = begins_with (codes "r#") text in tagged (name_kind raw) (find (identifier raw) text)
+found_identifier text = let raw = begins_with (codes "r#") text in and_kind (name_kind raw) (find (identifier raw) text)
 
 -- the literal of the rule at the start of a text
 abbrev pub found_literal : Rule → List ℕ → Found
-found_literal rule text = tagged literal_kind (find rule text)
+found_literal rule text = and_kind literal_kind (find rule text)
 
 -- the piece at the start of a text, by what the first character says
 abbrev pub found_from : Bool → PieceStart → List ℕ → Found
-found_from first starts.White text = tagged gap_kind (find (One is_white) text)
+found_from first starts.White text = and_kind gap_kind (find (One is_white) text)
 found_from first starts.Letter text = or_found (found_identifier text) (found_literal quoted_literal text)
 found_from first starts.Digit text = found_literal number text
 found_from first starts.Opener text =
-    or_found (tagged opener_kind (find opener text)) (found_literal (Exactly error_literal) text)
-found_from first starts.Closer text = tagged closer_kind (find closer text)
+    or_found (and_kind opener_kind (find opener text)) (found_literal (Exactly error_literal) text)
+found_from first starts.Closer text = and_kind closer_kind (find closer text)
 found_from first starts.Slash text =
-    cond (begins_any comment_fronts text) (comment_found (find comment text)) (tagged mark_kind (find mark text))
+    cond (begins_any comment_fronts text) (comment_found (find comment text)) (and_kind mark_kind (find mark text))
 found_from first starts.Quote text =
-    or_found (tagged quote_kind (find_lone_quote text)) (found_literal quoted_literal text)
+    or_found (and_kind quote_kind (find_lone_quote text)) (found_literal quoted_literal text)
 found_from first starts.DoubleQuote text = found_literal quoted_literal text
-found_from first starts.FrontMark text = tagged front_mark_kind (find_front_mark first text)
-found_from first starts.Mark text = tagged mark_kind (find mark text)
+found_from first starts.FrontMark text = and_kind front_mark_kind (find_front_mark first text)
+found_from first starts.Mark text = and_kind mark_kind (find mark text)
 found_from first starts.Other text = None
 
 -- the piece at the start of a text. `first` says whether this is byte offset 0
-unfoldable pub found : Bool → List ℕ → Found
-found first [] = None
-found first (c ∷ text) = found_from first (piece_start c) (c ∷ text)
+unfoldable pub find_piece : Bool → List ℕ → Found
+find_piece first [] = None
+find_piece first (c ∷ text) = found_from first (piece_start c) (c ∷ text)

@@ -19,7 +19,7 @@ use Rattle.lexical.specs.Rule.{Stands}
 use Rattle.lexical.specs.SingleQuoted.{is_plain, unit}
 use Rattle.lexical.specs.Text.{first_passes}
 use Rattle.lexical.specs.declared.piece.PieceKind.TheVariants as kinds
-use Rattle.lexical.specs.declared.quick.Extent.{Extent}
+use Rattle.lexical.specs.declared.fast_path.Extent.{Extent}
 use Rattle.lexical.specs.declared.quoted.StringKind.{StringKind}
 use Rattle.lexical.specs.declared.quoted.StringKind.TheVariants as strings
 use Rattle.lexical.specs.declared.class.PieceStart.{PieceStart}

@@ -118,8 +118,8 @@ abbrev pub continuation : Rule
 continuation = rules.Either (rules.Exactly (codes "\n")) newline
 
 -- a line end or an escape, which may follow a backslash in a string
-abbrev pub escaped : StringKind → Rule
-escaped kind = rules.Either continuation (escape kind)
+abbrev pub escape_or_line_end : StringKind → Rule
+escape_or_line_end kind = rules.Either continuation (escape kind)
 
 -- whether the character is none of `"`, `\` and CR
 abbrev pub is_string_plain : ℕ → Bool
@@ -144,7 +144,7 @@ is_plain C = is_c_plain
 abbrev pub unit : StringKind → Rule
 unit kind =
     rules.Either (rules.One (is_plain kind))
-    (rules.Either newline (rules.Then (rules.Exactly (codes "\\")) (escaped kind)))
+    (rules.Either newline (rules.Then (rules.Exactly (codes "\\")) (escape_or_line_end kind)))
 
 -- a piece of the rule `newline`
 abbrev pub Newline : Form
@@ -195,20 +195,20 @@ front Byte = codes "b\""
 front C = codes "c\""
 
 -- `string`, `byte-string`, `c-string`: the prefix that opens it, and units up to the first `"` that is in no unit
-abbrev pub cooked : StringKind → Rule
-cooked kind = rules.Then (rules.Exactly (front kind)) (body (unit kind) (codes "\""))
+abbrev pub cooked_string : StringKind → Rule
+cooked_string kind = rules.Then (rules.Exactly (front kind)) (body (unit kind) (codes "\""))
 
 -- `string`: a literal between `"` and `"`
 unfoldable pub Str : Form
-Str = Stands (cooked Plain)
+Str = Stands (cooked_string Plain)
 
 -- `byte-string`: a literal between `b"` and `"`
 abbrev pub ByteStr : Form
-ByteStr = Stands (cooked Byte)
+ByteStr = Stands (cooked_string Byte)
 
 -- `c-string`: a literal between `c"` and `"`
 abbrev pub CStr : Form
-CStr = Stands (cooked C)
+CStr = Stands (cooked_string C)
 
 -- the text of a string after its opening prefix, for any form of units
 abbrev pub Body : Form → List ℕ → Form

@@ -22,13 +22,13 @@ pub record IsNext (at : PieceWalk) (next : PlacedPiece) (to : PieceWalk) : Type 
   pub utf8 : IsUtf8 next.text.now
   pub byte_offset : next.byte_offset ≡ at.byte_offset
   pub past : to.byte_offset ≡ at.byte_offset + length next.text.now
-  pub behind : to.at_front ≡ false
+  pub front_after : to.at_front ≡ false
 
 -- whether `white` is all the white characters at the start of the walk `at`, and `to` is the walk after them
 pub record PassesWhite (at : PieceWalk) (white : List ℕ) (to : PieceWalk) : Type 0 where
   pub splits : SplitsWhite at.rest.now white to.rest.now
   pub past : to.byte_offset ≡ at.byte_offset + length white
-  pub behind : to.at_front ≡ (at.at_front && (length white == 0))
+  pub front_after : to.at_front ≡ (at.at_front && (length white == 0))
 
 -- whether `next` is the run of white characters at the start of the walk `at`, with the next piece if there is one.
 -- `to` is the walk after both

@@ -8,11 +8,11 @@ ghost use Rattle.std.specs.Str.{chars};
 ghost use Rattle.lexical.specs.Bytes.{ascii_in, has_kind, is_in};
 ghost use Rattle.lexical.specs.Finder.{while_front};
 ghost use Rattle.lexical.specs.Rule.{One, Run};
-ghost use Rattle.lexical.specs.Step.{Passes, Reads};
+ghost use Rattle.lexical.specs.RuleMatch.{Passes, Reads};
 ghost use Rattle.lexical.specs.Text.{first_passes};
 
 use crate::class::{continues_identifier, is_white, starts_identifier};
-use crate::cursor::Cursor;
+use crate::cursor::TextCursor;
 
 /// The base of an integer's digits, which a prefix such as `0x` announces.
 #[derive(Clone, Copy)]
@@ -205,11 +205,11 @@ pub fn count_ascii(bytes: &[u8], class: Class) -> usize
 
 /// Returns the cursor after the ASCII characters of the class, at the first character that is none of them.
 #[inline(always)]
-fn skip_ascii(at: Cursor<'_>, class: Class) -> Cursor<'_>
+fn skip_ascii(at: TextCursor<'_>, class: Class) -> TextCursor<'_>
     ensures { Passes (Run (ascii_in class)) at.entry result }
 {
     let size = count_ascii(at.rest.as_bytes(), class);
-    Cursor {
+    TextCursor {
         rest: &at.rest[size..],
         chars_before: at.chars_before + size,
     }
@@ -217,7 +217,7 @@ fn skip_ascii(at: Cursor<'_>, class: Class) -> Cursor<'_>
 
 /// Returns the cursor after all characters of the class, at the first character that is not in the class.
 #[inline]
-pub fn skip(at: Cursor<'_>, class: Class) -> Cursor<'_>
+pub fn skip(at: TextCursor<'_>, class: Class) -> TextCursor<'_>
     ensures { Passes (Run (is_in class)) at.entry result }
 {
     let mut end = skip_ascii(at, class);
@@ -229,7 +229,7 @@ pub fn skip(at: Cursor<'_>, class: Class) -> Cursor<'_>
 
 /// Returns the cursor after one character if that character is in the class, and otherwise `None`.
 #[inline]
-pub fn one(at: Cursor<'_>, class: Class) -> Option<Cursor<'_>>
+pub fn one(at: TextCursor<'_>, class: Class) -> Option<TextCursor<'_>>
     ensures { Reads (One (is_in class)) at.entry result }
 {
     let (c, after) = at.advance()?;
@@ -238,7 +238,7 @@ pub fn one(at: Cursor<'_>, class: Class) -> Option<Cursor<'_>>
 
 /// Whether the character at the cursor is in the class. At the end of the text it is not.
 #[inline]
-pub fn is_next(at: Cursor<'_>, class: Class) -> bool
+pub fn is_next(at: TextCursor<'_>, class: Class) -> bool
     ensures { result ≡ first_passes (is_in class) (chars at.entry.rest.now) }
 {
     match at.advance() {

@@ -7,16 +7,16 @@ ghost use Rattle.lexical.specs.Comment as rule;
 ghost use Rattle.lexical.specs.PieceFinder.{comment_found};
 ghost use Rattle.lexical.specs.PieceStep.{Answers};
 ghost use Rattle.lexical.specs.Rule.{Ends, find};
-ghost use Rattle.lexical.specs.Step.{Leads, Reads};
+ghost use Rattle.lexical.specs.RuleMatch.{Leads, Reads};
 
-use crate::cursor::Cursor;
+use crate::cursor::TextCursor;
 use crate::docs::comment_kind;
 use crate::piece::PieceKind;
 use crate::search::{skip_to, skip_to_either};
 use crate::text::before;
 
 /// Returns the cursor after the line comment at the cursor, by the rule `line-comment`.
-fn skip_line(at: Cursor<'_>) -> Option<Cursor<'_>>
+fn skip_line(at: TextCursor<'_>) -> Option<TextCursor<'_>>
     ensures { Reads rule.line_comment at.entry result }
 {
     let after = at.past("//")?;
@@ -25,7 +25,7 @@ fn skip_line(at: Cursor<'_>) -> Option<Cursor<'_>>
 
 /// Moves past one `/*`, one `*/` or one other character. Returns the cursor there and how many block comments are open
 /// there, where `depth` are open at `at`.
-fn step(at: Cursor<'_>, depth: usize) -> Option<(Cursor<'_>, usize)>
+fn step(at: TextCursor<'_>, depth: usize) -> Option<(TextCursor<'_>, usize)>
     requires inside { 0 < depth }
     requires fits { depth ≤ at.chars_before }
     ensures leads { MatchOption result (chars at.entry.rest.now ≡ [])
@@ -44,7 +44,7 @@ fn step(at: Cursor<'_>, depth: usize) -> Option<(Cursor<'_>, usize)>
 }
 
 /// Returns the cursor after the block comment at the cursor, by the rule `block-comment`.
-fn skip_block(at: Cursor<'_>) -> Option<Cursor<'_>>
+fn skip_block(at: TextCursor<'_>) -> Option<TextCursor<'_>>
     ensures { Reads rule.block_comment at.entry result }
 {
     let mut end = at.past("/*")?;
@@ -59,7 +59,7 @@ fn skip_block(at: Cursor<'_>) -> Option<Cursor<'_>>
 }
 
 /// Returns the cursor after the comment at the cursor, or `None` if no comment begins there.
-pub fn skip_comment(at: Cursor<'_>) -> Option<Cursor<'_>>
+pub fn skip_comment(at: TextCursor<'_>) -> Option<TextCursor<'_>>
     ensures { Reads rule.comment at.entry result }
 {
     match skip_line(at) {
@@ -71,7 +71,7 @@ pub fn skip_comment(at: Cursor<'_>) -> Option<Cursor<'_>>
 /// Returns the kind of the comment at the cursor, a gap or a doc comment, and the cursor after it. A doc comment is
 /// rejected if its text has a CR with no LF after it.
 #[inline(never)]
-pub fn comment(at: Cursor<'_>) -> Option<(PieceKind<'_>, Cursor<'_>)>
+pub fn comment(at: TextCursor<'_>) -> Option<(PieceKind<'_>, TextCursor<'_>)>
     ensures { Answers (comment_found (find rule.comment (chars at.entry.rest.now))) at.entry result }
 {
     let end = skip_comment(at)?;

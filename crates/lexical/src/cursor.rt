@@ -7,7 +7,7 @@ use crate::text::{char_count, split_first, strip};
 
 /// The rest of a text, and how many characters come before it.
 #[derive(Clone, Copy)]
-pub struct Cursor<'a> {
+pub struct TextCursor<'a> {
     /// The text after the cursor.
     pub rest: &'a str,
     /// How many characters of the text come before the cursor.
@@ -17,12 +17,12 @@ pub struct Cursor<'a> {
     pub ghost room: { chars_before + length (chars rest.now) < 2 ^ 64 },
 }
 
-impl<'a> Cursor<'a> {
+impl<'a> TextCursor<'a> {
     ghost use Rattle.std.specs.Prelude.{◌∷◌, ◌++◌, [], IsTrue, List, ℕ, MatchOption, drop, take};
     ghost use Rattle.std.specs.Str.{IsCharBoundary, encode_utf8_all};
     ghost use Rattle.lexical.specs.Ascii.{all_ascii};
     ghost use Rattle.lexical.specs.Rule.{Exactly};
-    ghost use Rattle.lexical.specs.Step.{Reads};
+    ghost use Rattle.lexical.specs.RuleMatch.{Reads};
 
     /// Returns the cursor at the start of a text.
     #[inline(always)]
@@ -32,7 +32,7 @@ impl<'a> Cursor<'a> {
     {
         // The contract of `iter` bounds how many bytes a text has, and so how many characters.
         let _bytes = text.as_bytes().iter();
-        Cursor {
+        TextCursor {
             rest: text,
             chars_before: 0,
         }
@@ -46,7 +46,7 @@ impl<'a> Cursor<'a> {
             × (x.1.chars_before ≡ self.entry.chars_before + 1)) }
     {
         let (first, rest) = split_first(self.rest)?;
-        let after = Cursor {
+        let after = TextCursor {
             rest,
             chars_before: self.chars_before + 1,
         };
@@ -60,7 +60,7 @@ impl<'a> Cursor<'a> {
         ensures { Reads (Exactly front.now) self.entry result }
     {
         let rest = strip(self.rest, front)?;
-        let after = Cursor {
+        let after = TextCursor {
             rest,
             chars_before: self.chars_before + front.len(),
         };
@@ -73,7 +73,7 @@ impl<'a> Cursor<'a> {
         ensures rest { result.rest.now ≡ drop size self.entry.rest.now }
         ensures count { result.chars_before ≡ self.entry.chars_before + length (chars (take size self.entry.rest.now)) }
     {
-        Cursor {
+        TextCursor {
             rest: &self.rest[size..],
             chars_before: self.chars_before + char_count(&self.rest[..size]),
         }

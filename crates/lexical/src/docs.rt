@@ -32,13 +32,13 @@ fn doc_text<'a>(comment: &'a str, rest: &str) -> &'a str
     requires { Where documents Comment (chars comment.now) (chars rest.now) }
     ensures { chars result.now ≡ text_of_doc (chars comment.now) (chars rest.now) }
 {
-    let said = &comment[3..];
+    let doc_body = &comment[3..];
     if begins(comment, "/*") {
-        before(said, "*/")
+        before(doc_body, "*/")
     } else if begins(rest, "\n") {
-        without_return(said)
+        without_return(doc_body)
     } else {
-        said
+        doc_body
     }
 }
 

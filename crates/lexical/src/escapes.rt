@@ -6,10 +6,10 @@ ghost use Rattle.std.specs.List.{list_all};
 ghost use Rattle.lexical.specs.Quoted as rule;
 ghost use Rattle.lexical.specs.Quoted.{is_code, is_code_digit, is_one_of};
 ghost use Rattle.lexical.specs.Rule.{One};
-ghost use Rattle.lexical.specs.Step.{Reads};
+ghost use Rattle.lexical.specs.RuleMatch.{Reads};
 
 use crate::bytes::{Base, Class, one, skip};
-use crate::cursor::Cursor;
+use crate::cursor::TextCursor;
 use crate::quoted::StringKind;
 use crate::skip::one as one_that;
 use crate::text::{before, begins};
@@ -26,21 +26,21 @@ pub fn is_letter(c: char, kind: StringKind) -> bool
 }
 
 /// Returns the cursor after the letter of a simple escape.
-fn simple(at: Cursor<'_>, kind: StringKind) -> Option<Cursor<'_>>
+fn simple(at: TextCursor<'_>, kind: StringKind) -> Option<TextCursor<'_>>
     ensures { Reads (One (is_one_of (rule.letters kind))) at.entry result }
 {
     one_that(at, |c| is_letter(c, kind))
 }
 
 /// Returns the cursor after two hex digits.
-fn hex_pair(at: Cursor<'_>) -> Option<Cursor<'_>>
+fn hex_pair(at: TextCursor<'_>) -> Option<TextCursor<'_>>
     ensures { Reads rule.hex_pair at.entry result }
 {
     one(one(at, Class::HexDigit)?, Class::HexDigit)
 }
 
 /// Returns the cursor after two hex digits if a literal of the kind allows them after `\x`.
-fn pair(at: Cursor<'_>, kind: StringKind) -> Option<Cursor<'_>>
+fn pair(at: TextCursor<'_>, kind: StringKind) -> Option<TextCursor<'_>>
     ensures { Reads (rule.pair kind) at.entry result }
 {
     match kind {
@@ -56,7 +56,7 @@ fn pair(at: Cursor<'_>, kind: StringKind) -> Option<Cursor<'_>>
 }
 
 /// Returns the cursor after `x` and its two digits, by the rule `hex-escape`.
-fn hex(at: Cursor<'_>, kind: StringKind) -> Option<Cursor<'_>>
+fn hex(at: TextCursor<'_>, kind: StringKind) -> Option<TextCursor<'_>>
     ensures { Reads (rule.hex (rule.pair kind)) at.entry result }
 {
     pair(at.past("x")?, kind)
@@ -97,7 +97,7 @@ pub fn writes_character(code: &[u8], kind: StringKind) -> bool
 }
 
 /// Returns the cursor after the code of a character: one hex digit and all hex digits and `_` after it.
-fn code(at: Cursor<'_>, kind: StringKind) -> Option<Cursor<'_>>
+fn code(at: TextCursor<'_>, kind: StringKind) -> Option<TextCursor<'_>>
     ensures { Reads (rule.code (rule.allows kind)) at.entry result }
 {
     let first = one(at, Class::HexDigit)?;
@@ -109,14 +109,14 @@ fn code(at: Cursor<'_>, kind: StringKind) -> Option<Cursor<'_>>
 }
 
 /// Returns the cursor after `u{`, the code of a character and `}`, by the rule `unicode-escape`.
-fn unicode(at: Cursor<'_>, kind: StringKind) -> Option<Cursor<'_>>
+fn unicode(at: TextCursor<'_>, kind: StringKind) -> Option<TextCursor<'_>>
     ensures { Reads (rule.unicode (rule.allows kind)) at.entry result }
 {
     code(at.past("u{")?, kind)?.past("}")
 }
 
 /// Returns the cursor after an escape: a letter, `x` and two digits, or `u{..}` with the code of a character.
-pub fn escape(at: Cursor<'_>, kind: StringKind) -> Option<Cursor<'_>>
+pub fn escape(at: TextCursor<'_>, kind: StringKind) -> Option<TextCursor<'_>>
     ensures { Reads (rule.escape kind) at.entry result }
 {
     if let Some(end) = simple(at, kind) {

@@ -8,8 +8,8 @@ ghost use Rattle.lexical.specs.Finder.{while_front};
 ghost use Rattle.lexical.specs.WhiteRun.{IsPastWhite, SplitsWhite, ascii_white};
 
 use crate::bytes::{Class, holds_ascii, skip};
-use crate::cursor::Cursor;
-use crate::quick::byte_at;
+use crate::cursor::TextCursor;
+use crate::fast_path::byte_at;
 
 /// Counts the spaces at the start, four at a time. It leaves up to three of them uncounted.
 #[inline(always)]
@@ -51,7 +51,7 @@ pub fn past_white(text: &str) -> (&str, usize)
 fn white_size(text: &str) -> usize
     ensures { result ≡ length (encode_utf8_all (while_front is_white (chars text.now))) }
 {
-    skip(Cursor::new(text), Class::White).bytes_in(text)
+    skip(TextCursor::new(text), Class::White).bytes_in(text)
 }
 
 /// Splits the text after all white characters at its start, past ASCII too.

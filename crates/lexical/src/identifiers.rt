@@ -8,16 +8,16 @@ ghost use Rattle.lexical.specs.Identifier as rule;
 ghost use Rattle.lexical.specs.Identifier.{is_reserved as reserved, literal_prefixes};
 ghost use Rattle.lexical.specs.PieceFinder.{found_identifier};
 ghost use Rattle.lexical.specs.PieceStep.{Answers};
-ghost use Rattle.lexical.specs.Step.{Reads};
+ghost use Rattle.lexical.specs.RuleMatch.{Reads};
 ghost use Rattle.lexical.specs.Text.{begins_any, begins_with};
 
 use crate::bytes::{Class, one, skip};
-use crate::cursor::Cursor;
+use crate::cursor::TextCursor;
 use crate::piece::PieceKind;
 use crate::text::{before, begins, is_text};
 
 /// Returns the cursor after the name at the cursor, by the rule `name`.
-pub fn name(at: Cursor<'_>) -> Option<Cursor<'_>>
+pub fn name(at: TextCursor<'_>) -> Option<TextCursor<'_>>
     ensures { Reads rule.name at.entry result }
 {
     let after = one(at, Class::IdentifierStart)?;
@@ -56,7 +56,7 @@ pub fn is_reserved(name: &str) -> bool
 
 /// Returns the cursor after the name of a raw identifier. The cursor `at` is after its `r#`.
 #[inline(never)]
-pub fn raw_name(at: Cursor<'_>) -> Option<Cursor<'_>>
+pub fn raw_name(at: TextCursor<'_>) -> Option<TextCursor<'_>>
     ensures { Reads rule.raw_name at.entry result }
 {
     let end = name(at)?;
@@ -68,9 +68,9 @@ pub fn raw_name(at: Cursor<'_>) -> Option<Cursor<'_>>
 
 /// Returns the cursor after the identifier at the cursor, even if a literal begins there. `raw` says whether the text
 /// there begins with `r#`.
-pub fn written(at: Cursor<'_>, raw: bool) -> Option<Cursor<'_>>
+pub fn any_identifier(at: TextCursor<'_>, raw: bool) -> Option<TextCursor<'_>>
     requires { begins_with (codes "r#") (chars at.rest.now) ≡ raw }
-    ensures { Reads (rule.written raw) at.entry result }
+    ensures { Reads (rule.any_identifier raw) at.entry result }
 {
     if raw {
         raw_name(at.past("r#")?)
@@ -83,10 +83,10 @@ pub fn written(at: Cursor<'_>, raw: bool) -> Option<Cursor<'_>>
 /// character at the cursor, and `after` is the cursor after that character.
 #[inline(always)]
 pub fn identifier<'a>(
-    at: Cursor<'a>,
+    at: TextCursor<'a>,
     first: char,
-    after: Cursor<'a>,
-) -> Option<(PieceKind<'a>, Cursor<'a>)>
+    after: TextCursor<'a>,
+) -> Option<(PieceKind<'a>, TextCursor<'a>)>
     requires starts { IsTrue (is_ident_start first) }
     requires split { chars at.rest.now ≡ first ∷ chars after.rest.now }
     requires one { after.chars_before ≡ at.chars_before + 1 }

@@ -9,36 +9,36 @@ ghost use Rattle.lexical.specs.Found.{IsAt, IsPieceAt};
 ghost use Rattle.lexical.specs.Identifier.{Name};
 ghost use Rattle.lexical.specs.Literal.{Literal};
 ghost use Rattle.lexical.specs.Piece.{HasNoPiece};
-ghost use Rattle.lexical.specs.PieceFinder.{found, found_literal};
+ghost use Rattle.lexical.specs.PieceFinder.{find_piece, found_literal};
 ghost use Rattle.lexical.specs.PieceStep.{Answers};
 ghost use Rattle.lexical.specs.Quick.{IsLiteralAt};
 ghost use Rattle.lexical.specs.Rule.{Rule};
-ghost use Rattle.lexical.specs.Step.{Reads};
-ghost use Rattle.lexical.specs.Word.{is_plain_ascii};
-ghost use Rattle.lexical.specs.declared.cursor.Cursor.{Cursor};
+ghost use Rattle.lexical.specs.RuleMatch.{Reads};
+ghost use Rattle.lexical.specs.MachineWord.{is_plain_ascii};
+ghost use Rattle.lexical.specs.declared.cursor.TextCursor.{TextCursor};
 
 use crate::class::{PieceStart, byte_start, piece_start_of};
 use crate::comments::comment;
-use crate::cursor::Cursor;
-use crate::identifiers::{identifier, name};
-use crate::literals::{literal, quoted};
-use crate::marks::{begins_comment, follows_quote, mark};
-use crate::numbers::number;
-use crate::piece::{Piece, PieceKind};
-use crate::quick::quoted::{
+use crate::cursor::TextCursor;
+use crate::fast_path::quoted::{
     bare_character, character, escaped_string, letter_character, plain_string, string,
     wide_character,
 };
-use crate::quick::{
-    Extent, byte_at, byte_literal, line_comment, lone_quote, long_number, quick, quick_literal,
+use crate::fast_path::{
+    Extent, byte_at, byte_literal, fast_literal, fast_piece, line_comment, lone_quote, long_number,
 };
+use crate::identifiers::{identifier, name};
+use crate::literals::{literal, skip_quoted};
+use crate::marks::{begins_comment, follows_quote, mark};
+use crate::numbers::number;
+use crate::piece::{Piece, PieceKind};
 use crate::text::strip;
 use crate::words::{count_few_plain, count_plain};
 
 /// Makes a piece of a literal that was read, if one was: its kind, and the cursor after it.
 #[inline(always)]
-fn as_literal(end: Option<Cursor<'_>>) -> Option<(PieceKind<'_>, Cursor<'_>)>
-    ensures { (rule : Rule) (at : Cursor) → Reads rule at end.entry
+fn as_literal(end: Option<TextCursor<'_>>) -> Option<(PieceKind<'_>, TextCursor<'_>)>
+    ensures { (rule : Rule) (at : TextCursor) → Reads rule at end.entry
         → Answers (found_literal rule (chars at.rest.now)) at result }
 {
     Some((PieceKind::Literal, end?))
@@ -47,15 +47,15 @@ fn as_literal(end: Option<Cursor<'_>>) -> Option<(PieceKind<'_>, Cursor<'_>)>
 /// Returns the kind of the piece at the cursor, and the cursor after it. The first character decides which rules to
 /// try. `at_front` says whether the cursor is at byte offset 0 of a source.
 #[inline(always)]
-fn read_piece(at: Cursor<'_>, at_front: bool) -> Option<(PieceKind<'_>, Cursor<'_>)>
-    ensures { Answers (found at_front (chars at.entry.rest.now)) at.entry result }
+fn read_piece(at: TextCursor<'_>, at_front: bool) -> Option<(PieceKind<'_>, TextCursor<'_>)>
+    ensures { Answers (find_piece at_front (chars at.entry.rest.now)) at.entry result }
 {
     let (first, after) = at.advance()?;
     match piece_start_of(first) {
         PieceStart::White => Some((PieceKind::Gap, after)),
         PieceStart::Letter => match identifier(at, first, after) {
             Some(name) => Some(name),
-            None => as_literal(quoted(at)),
+            None => as_literal(skip_quoted(at)),
         },
         PieceStart::Digit => as_literal(number(at)),
         PieceStart::Opener => match at.past("(/*ERROR*/)") {
@@ -71,7 +71,7 @@ fn read_piece(at: Cursor<'_>, at_front: bool) -> Option<(PieceKind<'_>, Cursor<'
         }
         PieceStart::Quote => {
             if !follows_quote(after) {
-                return as_literal(quoted(at));
+                return as_literal(skip_quoted(at));
             }
             let kind = PieceKind::Mark {
                 joint: true,
@@ -79,7 +79,7 @@ fn read_piece(at: Cursor<'_>, at_front: bool) -> Option<(PieceKind<'_>, Cursor<'
             };
             Some((kind, after))
         }
-        PieceStart::DoubleQuote => as_literal(quoted(at)),
+        PieceStart::DoubleQuote => as_literal(skip_quoted(at)),
         PieceStart::FrontMark => {
             if !at_front {
                 return None;
@@ -103,7 +103,7 @@ pub fn piece_at(text: &str, first: bool) -> Option<Piece<'_>>
     ensures found { IfSome result (λ piece. IsPieceAt first (chars text.now) piece) }
     ensures none { IfNone result (HasNoPiece first (chars text.now)) }
 {
-    match quick(text) {
+    match fast_piece(text) {
         Some(piece) => Some(piece),
         None => other_piece(text, first),
     }
@@ -300,7 +300,7 @@ fn piece_by_characters(text: &str, first: bool) -> Option<Piece<'_>>
     ensures found { IfSome result (λ piece. IsPieceAt first (chars text.now) piece) }
     ensures none { IfNone result (HasNoPiece first (chars text.now)) }
 {
-    let (kind, end) = read_piece(Cursor::new(text), first)?;
+    let (kind, end) = read_piece(TextCursor::new(text), first)?;
     let piece = Piece {
         kind,
         bytes: end.bytes_in(text),
@@ -317,7 +317,7 @@ pub fn literal_at(text: &str) -> Option<usize>
     ensures found { IfSome result (IsAt Literal (chars text.now)) }
     ensures none { IfNone result (HasNone Literal (chars text.now)) }
 {
-    match quick_literal(text) {
+    match fast_literal(text) {
         Some(size) => Some(size),
         None => literal_by_characters(text),
     }
@@ -329,7 +329,7 @@ fn literal_by_characters(text: &str) -> Option<usize>
     ensures found { IfSome result (IsAt Literal (chars text.now)) }
     ensures none { IfNone result (HasNone Literal (chars text.now)) }
 {
-    let after = literal(Cursor::new(text))?;
+    let after = literal(TextCursor::new(text))?;
     Some(after.bytes_in(text))
 }
 
@@ -341,6 +341,6 @@ pub fn name_at(text: &str) -> Option<usize>
     ensures found { IfSome result (IsAt Name (chars text.now)) }
     ensures none { IfNone result (HasNone Name (chars text.now)) }
 {
-    let end = name(Cursor::new(text))?;
+    let end = name(TextCursor::new(text))?;
     Some(end.bytes_in(text))
 }

@@ -7,9 +7,9 @@ ghost use Rattle.lexical.specs.Literal as rule;
 ghost use Rattle.lexical.specs.Quoted.{body, unit};
 ghost use Rattle.lexical.specs.RawString.{may_stand_raw, raw};
 ghost use Rattle.lexical.specs.Rule.{Either, Exactly, Then};
-ghost use Rattle.lexical.specs.Step.{Reads};
+ghost use Rattle.lexical.specs.RuleMatch.{Reads};
 
-use crate::cursor::Cursor;
+use crate::cursor::TextCursor;
 use crate::numbers::number;
 use crate::quoted::{StringKind, string};
 use crate::raw_strings::raw_string;
@@ -17,7 +17,7 @@ use crate::single_quotes::single;
 
 /// Returns the cursor after the literal between quotes at the cursor, by the rule `quoted-literal`.
 #[inline(never)]
-pub fn quoted(at: Cursor<'_>) -> Option<Cursor<'_>>
+pub fn skip_quoted(at: TextCursor<'_>) -> Option<TextCursor<'_>>
     ensures { Reads rule.quoted_literal at.entry result }
 {
     if let Some(end) = any_string(at, "\"", "r", StringKind::Plain) {
@@ -38,11 +38,11 @@ pub fn quoted(at: Cursor<'_>) -> Option<Cursor<'_>>
 /// Returns the cursor after the string at the cursor. `front` opens it if it has escapes, and `raw_front` opens it if
 /// it is raw.
 fn any_string<'a>(
-    at: Cursor<'a>,
+    at: TextCursor<'a>,
     front: &str,
     raw_front: &str,
     kind: StringKind,
-) -> Option<Cursor<'a>>
+) -> Option<TextCursor<'a>>
     requires ascii { IsTrue (all_ascii front.now && all_ascii raw_front.now) }
     ensures { Reads
         (Either (Then (Exactly front.now) (body (unit kind) (codes "\""))) (raw raw_front.now (may_stand_raw kind)))
@@ -55,10 +55,10 @@ fn any_string<'a>(
 }
 
 /// Returns the cursor after the literal at the cursor, by the rule `literal`.
-pub fn literal(at: Cursor<'_>) -> Option<Cursor<'_>>
+pub fn literal(at: TextCursor<'_>) -> Option<TextCursor<'_>>
     ensures { Reads rule.literal at.entry result }
 {
-    match quoted(at) {
+    match skip_quoted(at) {
         Some(end) => Some(end),
         None => number(at),
     }

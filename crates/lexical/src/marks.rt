@@ -8,8 +8,8 @@ ghost use Rattle.lexical.specs.Text.{begins_any, first_passes};
 ghost use Rattle.lexical.specs.declared.piece.PieceKind.TheVariants as kinds;
 
 use crate::bytes::{Class, holds};
-use crate::cursor::Cursor;
-use crate::identifiers::written;
+use crate::cursor::TextCursor;
+use crate::identifiers::any_identifier;
 use crate::piece::PieceKind;
 use crate::text::{begins, split_first};
 
@@ -43,7 +43,7 @@ pub fn mark<'a>(mark: char, rest: &str) -> PieceKind<'a>
 
 /// Whether a `'` may come right before an identifier that ends at the cursor. It may not if a `'` follows the
 /// identifier, or if a `#` follows and the identifier is not raw.
-fn is_unbarred(end: Cursor<'_>, raw: bool) -> bool
+fn is_unbarred(end: TextCursor<'_>, raw: bool) -> bool
     ensures { result ≡ not (first_passes (bars_quote raw) (chars end.entry.rest.now)) }
 {
     match end.advance() {
@@ -54,11 +54,11 @@ fn is_unbarred(end: Cursor<'_>, raw: bool) -> bool
 
 /// Whether a lone quote may come right before the cursor, by the rule `lone-quote`.
 #[inline(never)]
-pub fn follows_quote(at: Cursor<'_>) -> bool
+pub fn follows_quote(at: TextCursor<'_>) -> bool
     ensures { result ≡ follows (chars at.entry.rest.now) }
 {
     let raw = begins(at.rest, "r#");
-    match written(at, raw) {
+    match any_identifier(at, raw) {
         Some(end) => is_unbarred(end, raw),
         None => false,
     }

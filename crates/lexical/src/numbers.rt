@@ -8,16 +8,16 @@ ghost use Rattle.lexical.specs.Bytes.{radix};
 ghost use Rattle.lexical.specs.Number as rule;
 ghost use Rattle.lexical.specs.Number.{base_prefixes};
 ghost use Rattle.lexical.specs.Rule.{Exactly, Then};
-ghost use Rattle.lexical.specs.Step.{Reads};
+ghost use Rattle.lexical.specs.RuleMatch.{Reads};
 ghost use Rattle.lexical.specs.Text.{begins_any};
 
 use crate::bytes::{Base, Class, is_next, one, skip};
-use crate::cursor::Cursor;
+use crate::cursor::TextCursor;
 use crate::quoted::suffix;
 use crate::text::begins;
 
 /// Returns the cursor after the digits at the cursor, by the rule `digits`.
-fn digits(at: Cursor<'_>) -> Option<Cursor<'_>>
+fn digits(at: TextCursor<'_>) -> Option<TextCursor<'_>>
     ensures { Reads rule.digits at.entry result }
 {
     let after = one(at, Class::Digit)?;
@@ -25,7 +25,7 @@ fn digits(at: Cursor<'_>) -> Option<Cursor<'_>>
 }
 
 /// Returns the cursor after the suffix of a number, by the rule `number-end`.
-fn end(at: Cursor<'_>) -> Option<Cursor<'_>>
+fn end(at: TextCursor<'_>) -> Option<TextCursor<'_>>
     ensures { Reads rule.end at.entry result }
 {
     let end = suffix(at);
@@ -37,7 +37,7 @@ fn end(at: Cursor<'_>) -> Option<Cursor<'_>>
 }
 
 /// Returns the cursor after the dot of a number, by the rule `dot`.
-fn dot(at: Cursor<'_>) -> Option<Cursor<'_>>
+fn dot(at: TextCursor<'_>) -> Option<TextCursor<'_>>
     ensures { Reads rule.dot at.entry result }
 {
     let end = at.past(".")?;
@@ -49,7 +49,7 @@ fn dot(at: Cursor<'_>) -> Option<Cursor<'_>>
 }
 
 /// Returns the cursor after the exponent at the cursor, by the rule `exponent`.
-fn exponent(at: Cursor<'_>) -> Option<Cursor<'_>>
+fn exponent(at: TextCursor<'_>) -> Option<TextCursor<'_>>
     ensures { Reads rule.exponent at.entry result }
 {
     let letter = one(at, Class::ExponentLetter)?;
@@ -62,7 +62,7 @@ fn exponent(at: Cursor<'_>) -> Option<Cursor<'_>>
 }
 
 /// Returns the cursor after a number's dot and everything that follows the dot in the number.
-fn fraction(at: Cursor<'_>) -> Option<Cursor<'_>>
+fn fraction(at: TextCursor<'_>) -> Option<TextCursor<'_>>
     ensures { Reads rule.fraction at.entry result }
 {
     let after = skip(dot(at)?, Class::DigitOrUnderscore);
@@ -73,7 +73,7 @@ fn fraction(at: Cursor<'_>) -> Option<Cursor<'_>>
 }
 
 /// Returns the cursor after the part that makes a float of the digits before it.
-fn float_tail(at: Cursor<'_>) -> Option<Cursor<'_>>
+fn float_tail(at: TextCursor<'_>) -> Option<TextCursor<'_>>
     ensures { Reads rule.float_tail at.entry result }
 {
     match fraction(at) {
@@ -83,7 +83,7 @@ fn float_tail(at: Cursor<'_>) -> Option<Cursor<'_>>
 }
 
 /// Returns the cursor after a number that begins with no prefix of a base.
-fn decimal(at: Cursor<'_>) -> Option<Cursor<'_>>
+fn decimal(at: TextCursor<'_>) -> Option<TextCursor<'_>>
     ensures { Reads (Then rule.digits rule.tail) at.entry result }
 {
     let after = digits(at)?;
@@ -95,7 +95,7 @@ fn decimal(at: Cursor<'_>) -> Option<Cursor<'_>>
 
 /// Returns the cursor after the digits of this base, by the rule `base-digits`. A digit that is too large for the base
 /// must not follow.
-fn digits_in(at: Cursor<'_>, base: Base) -> Option<Cursor<'_>>
+fn digits_in(at: TextCursor<'_>, base: Base) -> Option<TextCursor<'_>>
     ensures { Reads (rule.digits_in (radix base)) at.entry result }
 {
     let first = one(skip(at, Class::Underscore), Class::DigitOf(base))?;
@@ -108,7 +108,7 @@ fn digits_in(at: Cursor<'_>, base: Base) -> Option<Cursor<'_>>
 }
 
 /// Returns the cursor after the prefix of a base and its digits.
-fn prefixed<'a>(at: Cursor<'a>, prefix: &str, base: Base) -> Option<Cursor<'a>>
+fn prefix_and_digits<'a>(at: TextCursor<'a>, prefix: &str, base: Base) -> Option<TextCursor<'a>>
     requires ascii { IsTrue (all_ascii prefix.now) }
     ensures { Reads (Then (Exactly prefix.now) (rule.digits_in (radix base))) at.entry result }
 {
@@ -116,15 +116,15 @@ fn prefixed<'a>(at: Cursor<'a>, prefix: &str, base: Base) -> Option<Cursor<'a>>
 }
 
 /// Returns the cursor after a prefix and its digits of base 16, 8 or 2, by the rule `based`.
-fn based(at: Cursor<'_>) -> Option<Cursor<'_>>
-    ensures { Reads rule.based at.entry result }
+fn based_number(at: TextCursor<'_>) -> Option<TextCursor<'_>>
+    ensures { Reads rule.based_number at.entry result }
 {
-    if let Some(end) = prefixed(at, "0x", Base::Hexadecimal) {
+    if let Some(end) = prefix_and_digits(at, "0x", Base::Hexadecimal) {
         return Some(end);
     }
-    match prefixed(at, "0o", Base::Octal) {
+    match prefix_and_digits(at, "0o", Base::Octal) {
         Some(end) => Some(end),
-        None => prefixed(at, "0b", Base::Binary),
+        None => prefix_and_digits(at, "0b", Base::Binary),
     }
 }
 
@@ -139,11 +139,11 @@ fn begins_based(text: &str) -> bool
 /// Returns the cursor after the number at the cursor, by the rule `number`.
 #[tactic(auto, using(crate::proofs::NumberFinderLemmas::read_numbers, crate::proofs::RuleSteps::steps))]
 #[inline(never)]
-pub fn number(at: Cursor<'_>) -> Option<Cursor<'_>>
+pub fn number(at: TextCursor<'_>) -> Option<TextCursor<'_>>
     ensures { Reads rule.number at.entry result }
 {
     if begins_based(at.rest) {
-        end(based(at)?)
+        end(based_number(at)?)
     } else {
         decimal(at)
     }

@@ -4,7 +4,7 @@
 pub use crate::bytes::{Base, Class, one, skip};
 pub use crate::class::{PieceStart, piece_start_of};
 pub use crate::comments::skip_comment;
-pub use crate::cursor::Cursor;
+pub use crate::cursor::TextCursor;
 pub use crate::identifiers::name;
 pub use crate::quoted::StringKind;
 pub use crate::search::{skip_to, skip_to_either};

@@ -5,10 +5,10 @@ ghost use Rattle.std.specs.Prelude.{◌≡◌, codes, IsTrue};
 ghost use Rattle.lexical.specs.Ascii.{all_ascii};
 ghost use Rattle.lexical.specs.Quoted as rule;
 ghost use Rattle.lexical.specs.Rule.{Exactly, One, Run, Then};
-ghost use Rattle.lexical.specs.Step.{Passes, Reads};
+ghost use Rattle.lexical.specs.RuleMatch.{Passes, Reads};
 
 use crate::contents::{count_allowed, may_stand};
-use crate::cursor::Cursor;
+use crate::cursor::TextCursor;
 use crate::escapes::escape;
 use crate::identifiers::name;
 use crate::skip::one;
@@ -27,7 +27,7 @@ pub enum StringKind {
 
 /// Returns the cursor after the suffix of a literal, by the rule `suffix`. A literal without a suffix leaves the cursor
 /// where it is.
-pub fn suffix(at: Cursor<'_>) -> Cursor<'_>
+pub fn suffix(at: TextCursor<'_>) -> TextCursor<'_>
     ensures { Passes rule.suffix at.entry result }
 {
     match name(at) {
@@ -47,7 +47,7 @@ fn stands_for_itself(c: char, kind: StringKind) -> bool
 }
 
 /// Returns the cursor after one character that needs no escape.
-fn plain(at: Cursor<'_>, kind: StringKind) -> Option<Cursor<'_>>
+fn plain(at: TextCursor<'_>, kind: StringKind) -> Option<TextCursor<'_>>
     ensures { Reads (One (rule.is_plain kind)) at.entry result }
 {
     one(at, |c| stands_for_itself(c, kind))
@@ -55,7 +55,7 @@ fn plain(at: Cursor<'_>, kind: StringKind) -> Option<Cursor<'_>>
 
 /// Returns the cursor after all characters that need no escape, at the first quote, backslash, CR or forbidden
 /// character.
-fn skip_plain(at: Cursor<'_>, kind: StringKind) -> Cursor<'_>
+fn skip_plain(at: TextCursor<'_>, kind: StringKind) -> TextCursor<'_>
     ensures { Passes (Run (rule.is_plain kind)) at.entry result }
 {
     let bytes = at.rest.as_bytes();
@@ -64,8 +64,8 @@ fn skip_plain(at: Cursor<'_>, kind: StringKind) -> Cursor<'_>
 }
 
 /// Returns the cursor after what may follow a backslash in a string.
-fn escaped(at: Cursor<'_>, kind: StringKind) -> Option<Cursor<'_>>
-    ensures { Reads (rule.escaped kind) at.entry result }
+fn escape_or_line_end(at: TextCursor<'_>, kind: StringKind) -> Option<TextCursor<'_>>
+    ensures { Reads (rule.escape_or_line_end kind) at.entry result }
 {
     if let Some(end) = at.past("\n") {
         return Some(end);
@@ -77,11 +77,11 @@ fn escaped(at: Cursor<'_>, kind: StringKind) -> Option<Cursor<'_>>
 }
 
 /// Returns the cursor after a unit of a string, by the rules `string-unit`, `byte-string-unit` and `c-string-unit`.
-fn unit(at: Cursor<'_>, kind: StringKind) -> Option<Cursor<'_>>
+fn unit(at: TextCursor<'_>, kind: StringKind) -> Option<TextCursor<'_>>
     ensures { Reads (rule.unit kind) at.entry result }
 {
     if let Some(escape) = at.past("\\") {
-        return escaped(escape, kind);
+        return escape_or_line_end(escape, kind);
     }
     match plain(at, kind) {
         Some(end) => Some(end),
@@ -91,7 +91,7 @@ fn unit(at: Cursor<'_>, kind: StringKind) -> Option<Cursor<'_>>
 
 /// Returns the cursor after the string at the cursor, which `front` opens, by the rules `string`, `byte-string` and
 /// `c-string`.
-pub fn string<'a>(at: Cursor<'a>, front: &str, kind: StringKind) -> Option<Cursor<'a>>
+pub fn string<'a>(at: TextCursor<'a>, front: &str, kind: StringKind) -> Option<TextCursor<'a>>
     requires ascii { IsTrue (all_ascii front.now) }
     ensures { Reads (Then (Exactly front.now) (rule.body (rule.unit kind) (codes "\""))) at.entry result }
 {

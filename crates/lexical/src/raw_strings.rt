@@ -8,11 +8,11 @@ ghost use Rattle.lexical.specs.Character.{double_quote};
 ghost use Rattle.lexical.specs.RawString as rule;
 ghost use Rattle.lexical.specs.RawString.{may_stand_raw};
 ghost use Rattle.lexical.specs.Rule.{Run};
-ghost use Rattle.lexical.specs.Step.{Passes, Reads, ReadsText};
+ghost use Rattle.lexical.specs.RuleMatch.{Passes, Reads, ReadsText};
 
 use crate::bytes::{Class, skip};
 use crate::contents::{count_allowed, may_stand};
-use crate::cursor::Cursor;
+use crate::cursor::TextCursor;
 use crate::quoted::{StringKind, suffix};
 use crate::text::{before, begins};
 use memchr::memchr2;
@@ -21,7 +21,7 @@ use memchr::memchr2;
 const MOST_HASHES: usize = 255;
 
 /// Returns the hash signs at the cursor, at most 255, and the cursor after them, by the rule `raw-hashes`.
-fn hashes(at: Cursor<'_>) -> Option<(&str, Cursor<'_>)>
+fn hashes(at: TextCursor<'_>) -> Option<(&str, TextCursor<'_>)>
     ensures { ReadsText rule.hashes at.entry result }
 {
     let end = skip(at, Class::Hash);
@@ -34,7 +34,7 @@ fn hashes(at: Cursor<'_>) -> Option<(&str, Cursor<'_>)>
 
 /// Returns the cursor after all characters that a raw string may contain, at the first quote, CR or forbidden
 /// character.
-fn skip_plain(at: Cursor<'_>, kind: StringKind) -> Cursor<'_>
+fn skip_plain(at: TextCursor<'_>, kind: StringKind) -> TextCursor<'_>
     ensures { Passes (Run (rule.is_raw_plain kind)) at.entry result }
 {
     let bytes = at.rest.as_bytes();
@@ -44,7 +44,7 @@ fn skip_plain(at: Cursor<'_>, kind: StringKind) -> Cursor<'_>
 
 /// Returns the cursor after a unit of a raw string with these hash signs, by the rule `raw-unit`.
 #[tactic(auto, unfolding(crate::specs::Rule::find))]
-fn raw_unit<'a>(at: Cursor<'a>, kind: StringKind, hashes: &str) -> Option<Cursor<'a>>
+fn raw_unit<'a>(at: TextCursor<'a>, kind: StringKind, hashes: &str) -> Option<TextCursor<'a>>
     requires { IsTrue (all_ascii hashes.now) }
     ensures { Reads (rule.raw_unit (may_stand_raw kind) (double_quote ∷ hashes.now)) at.entry result }
 {
@@ -64,7 +64,7 @@ fn raw_unit<'a>(at: Cursor<'a>, kind: StringKind, hashes: &str) -> Option<Cursor
 
 /// Returns the cursor after the raw string at the cursor, which `front` opens, by the rules `raw-string`,
 /// `raw-byte-string` and `raw-c-string`.
-pub fn raw_string<'a>(at: Cursor<'a>, front: &str, kind: StringKind) -> Option<Cursor<'a>>
+pub fn raw_string<'a>(at: TextCursor<'a>, front: &str, kind: StringKind) -> Option<TextCursor<'a>>
     requires ascii { IsTrue (all_ascii front.now) }
     ensures { Reads (rule.raw front.now (may_stand_raw kind)) at.entry result }
 {

@@ -6,13 +6,13 @@ ghost use Rattle.std.specs.Prelude.{◌≡◌, ◌<◌, ◌==◌, ◌||◌, not}
 ghost use Rattle.std.specs.Str.{IsUtf8, chars};
 ghost use Rattle.lexical.specs.Finder.{while_rest};
 ghost use Rattle.lexical.specs.Rule.{Run};
-ghost use Rattle.lexical.specs.Step.{Passes};
+ghost use Rattle.lexical.specs.RuleMatch.{Passes};
 
-use crate::cursor::Cursor;
+use crate::cursor::TextCursor;
 use memchr::{memchr, memchr2};
 
 /// Returns the cursor at the first `stop`, an ASCII character, or at the end of the text if there is none.
-pub fn skip_to(at: Cursor<'_>, stop: u8) -> Cursor<'_>
+pub fn skip_to(at: TextCursor<'_>, stop: u8) -> TextCursor<'_>
     requires { stop < 128 }
     ensures { Passes (Run (λ c. not (c == stop))) at.entry result }
 {
@@ -34,7 +34,7 @@ pub fn from_first(text: &str, stop: u8) -> &str
 }
 
 /// Returns the cursor at the first `a` or `b`, two ASCII characters, or at the end of the text if there is none.
-pub fn skip_to_either(at: Cursor<'_>, a: u8, b: u8) -> Cursor<'_>
+pub fn skip_to_either(at: TextCursor<'_>, a: u8, b: u8) -> TextCursor<'_>
     requires ascii_a { a < 128 }
     requires ascii_b { b < 128 }
     ensures { Passes (Run (λ c. not (c == a || c == b))) at.entry result }

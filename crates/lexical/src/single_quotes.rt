@@ -7,9 +7,9 @@ ghost use Rattle.lexical.specs.Quoted.{escape};
 ghost use Rattle.lexical.specs.Rule.{One};
 ghost use Rattle.lexical.specs.SingleQuoted as rule;
 ghost use Rattle.lexical.specs.SingleQuoted.{is_plain};
-ghost use Rattle.lexical.specs.Step.{Reads};
+ghost use Rattle.lexical.specs.RuleMatch.{Reads};
 
-use crate::cursor::Cursor;
+use crate::cursor::TextCursor;
 use crate::escapes::escape;
 use crate::quoted::{StringKind, suffix};
 use crate::skip::one;
@@ -25,14 +25,14 @@ pub fn stands_bare(c: char, kind: StringKind) -> bool
 }
 
 /// Returns the cursor after one character that needs no escape.
-fn bare(at: Cursor<'_>, kind: StringKind) -> Option<Cursor<'_>>
+fn bare(at: TextCursor<'_>, kind: StringKind) -> Option<TextCursor<'_>>
     ensures { Reads (One (is_plain kind)) at.entry result }
 {
     one(at, |c| stands_bare(c, kind))
 }
 
 /// Returns the cursor after one character that needs no escape, or after a backslash and its escape.
-fn unit(at: Cursor<'_>, kind: StringKind) -> Option<Cursor<'_>>
+fn unit(at: TextCursor<'_>, kind: StringKind) -> Option<TextCursor<'_>>
     ensures { Reads (rule.unit (is_plain kind) (escape kind)) at.entry result }
 {
     match bare(at, kind) {
@@ -43,7 +43,7 @@ fn unit(at: Cursor<'_>, kind: StringKind) -> Option<Cursor<'_>>
 
 /// Returns the cursor after the literal between single quotes at the cursor, which `front` opens, by the rules
 /// `character` and `byte`.
-pub fn single<'a>(at: Cursor<'a>, front: &str, kind: StringKind) -> Option<Cursor<'a>>
+pub fn single<'a>(at: TextCursor<'a>, front: &str, kind: StringKind) -> Option<TextCursor<'a>>
     requires ascii { IsTrue (all_ascii front.now) }
     ensures { Reads (rule.single front.now (is_plain kind) (escape kind)) at.entry result }
 {

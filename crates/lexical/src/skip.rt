@@ -3,12 +3,12 @@
 
 ghost use Rattle.std.specs.Prelude.{◌≡◌, Bool, ℕ};
 ghost use Rattle.lexical.specs.Rule.{One, Run};
-ghost use Rattle.lexical.specs.Step.{Passes, Reads};
+ghost use Rattle.lexical.specs.RuleMatch.{Passes, Reads};
 
-use crate::cursor::Cursor;
+use crate::cursor::TextCursor;
 
 /// Returns the cursor after one character if the character passes the test, and otherwise `None`.
-pub fn one<F: Fn(char) -> bool>(at: Cursor<'_>, passes: F) -> Option<Cursor<'_>>
+pub fn one<F: Fn(char) -> bool>(at: TextCursor<'_>, passes: F) -> Option<TextCursor<'_>>
     requires { F.IsAlwaysCallable passes }
     ensures { (test : ℕ → Bool) → ((c : ℕ) (b : Bool) → F.post passes c b → b ≡ test c)
         → Reads (One test) at.entry result }

@@ -4,7 +4,7 @@ ghost use Rattle.std.specs.Prelude.{◌≡◌, ◌<◌, ◌≤◌, IfNone, IfSom
 ghost use Rattle.std.specs.List.{list_all};
 ghost use Rattle.lexical.specs.Bytes.{ascii_in};
 ghost use Rattle.lexical.specs.Finder.{while_front};
-ghost use Rattle.lexical.specs.Word.{is_line_ascii, is_plain_ascii};
+ghost use Rattle.lexical.specs.MachineWord.{is_line_ascii, is_plain_ascii};
 ghost use Rattle.lexical.specs.declared.bytes.Class.TheVariants.{IdentifierContinue};
 
 use crate::bytes::{Class, count_ascii};

@@ -19,11 +19,11 @@ pub data State : Type 0 where
   Keyword : Name → State
 
 -- the state of the program's value
-abbrev pub seen : program.State → State
-seen variants.Nothing = Nothing
-seen variants.Inner = Inner
-seen variants.Documented = Documented
-seen (variants.Keyword name) = Keyword name.now
+abbrev pub state_of : program.State → State
+state_of variants.Nothing = Nothing
+state_of variants.Inner = Inner
+state_of variants.Documented = Documented
+state_of (variants.Keyword name) = Keyword name.now
 
 -- whether the name is this word
 abbrev pub is_word : Name → List ℕ → Bool

@@ -36,6 +36,6 @@ pub fn print_text<W: Write>(alloc: Global, text: &str, writer: &mut W) -> Result
             }
             Ok(())
         }
-        Err(error) => Err(Failure::unparsed(error, &map)),
+        Err(error) => Err(Failure::parse_failure(error, &map)),
     }
 }

@@ -5,7 +5,7 @@
 //! name.
 ghost use Rattle.std.specs.Prelude.{◌≡◌, OnOk};
 ghost use Rattle.std.specs.Io.KnownBytes.{Appends};
-ghost use Rattle.list_docs.specs.Item.{after, after_doc, is_keyword, is_mark, line_of_item, seen};
+ghost use Rattle.list_docs.specs.Item.{after, after_doc, is_keyword, is_mark, line_of_item, state_of};
 
 use crate::doc::doc_text;
 use proc_macro2::{Ident, TokenTree};
@@ -28,7 +28,7 @@ pub enum State<'a> {
 impl<'a> State<'a> {
     /// Returns the state after the tree is read too.
     pub fn after(self, tree: &'a TokenTree) -> State<'a>
-        ensures { seen result ≡ after (seen self.entry) tree.now }
+        ensures { state_of result ≡ after (state_of self.entry) tree.now }
     {
         match (self, doc_text(tree)) {
             (State::Inner, Some(_)) => State::Nothing,
@@ -43,7 +43,7 @@ impl<'a> State<'a> {
 /// Returns the state after a tree that follows a doc comment. The search for a keyword ends at `:`, which follows the
 /// name of a field.
 fn after_doc(tree: &TokenTree) -> State<'_>
-    ensures { seen result ≡ after_doc tree.now }
+    ensures { state_of result ≡ after_doc tree.now }
 {
     match tree {
         TokenTree::Ident(name) if is_keyword(name) => State::Keyword(name),
@@ -77,7 +77,7 @@ fn is_keyword(name: &Ident) -> bool
 /// Writes a line for a documented item if the tree is its name. For `fn` and `add` the line is `fn add`.
 pub fn print_item<W: Write>(state: State<'_>, tree: &TokenTree, writer: &mut W) -> io::Result<()>
     ensures { OnOk result (Appends (W.contents writer.old) (W.contents writer.new)
-        (line_of_item (seen state.entry) tree.now)) }
+        (line_of_item (state_of state.entry) tree.now)) }
 {
     if let State::Keyword(keyword) = state {
         if let TokenTree::Ident(name) = tree {

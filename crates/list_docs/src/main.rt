@@ -20,7 +20,7 @@ use std::process::ExitCode;
 const USAGE: &str = "list_docs [FILE]";
 
 fn main(rt: HostRuntime) -> ExitCode {
-    match asked(&rt) {
+    match path_argument(&rt) {
         Ok(path) => {
             let outcome = run(&rt, path.as_str());
             conclude(rt.alloc(), path.as_str(), outcome, &mut rt.stderr())
@@ -30,7 +30,7 @@ fn main(rt: HostRuntime) -> ExitCode {
 }
 
 /// Returns the path of the file that the command line names.
-fn asked(rt: &HostRuntime) -> Result<String, Failure> {
+fn path_argument(rt: &HostRuntime) -> Result<String, Failure> {
     let words = words(rt.alloc(), env::args(rt), USAGE)?;
     path(rt.alloc(), words.as_slice(), USAGE)
 }

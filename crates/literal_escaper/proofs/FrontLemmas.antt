@@ -6,7 +6,8 @@ use Rattle.std.specs.Char.{digit_value}
 use Rattle.std.proofs.lemmas.Bool.{cond_both}
 use Rattle.literal_escaper.specs.Character.{backslash, close_brace, is_blank, letter_u, letter_x, line_feed, open_brace}
 use Rattle.literal_escaper.specs.Character.{underscore}
-use Rattle.literal_escaper.specs.Escape.{Read, braced, closed, coded, escape, hex_escape, is_code_character, is_hex}
+use Rattle.literal_escaper.specs.Escape.{Read, read_braced, read_closing, read_code, escape, hex_escape}
+use Rattle.literal_escaper.specs.Escape.{is_code_character, is_hex}
 use Rattle.literal_escaper.specs.Escape.{second_digit, unicode_escape}
 use Rattle.literal_escaper.specs.Items.{Front, front, line_skip, unit_front}
 use Rattle.literal_escaper.specs.Kind.{Kind}
@@ -37,19 +38,19 @@ while_end passes (c ∷ text) = cond_both (passes c) (while_rest passes text) (c
     (λ e. end_past c text (while_rest passes text) (while_end passes text))
     (λ e. end_whole (c ∷ text))
 
-closed_end : {U : Type 0} (kind : Kind U) (digits text : List ℕ) → IsEnd text (closed kind digits text).rest
+closed_end : {U : Type 0} (kind : Kind U) (digits text : List ℕ) → IsEnd text (read_closing kind digits text).rest
 closed_end kind digits [] = end_whole []
 closed_end {U = U} kind digits (c ∷ text) =
     cond_both (c == close_brace) _ _ (λ (read : Read U). IsEnd (c ∷ text) read.rest) (λ e. end_tail c text)
     (λ e. end_tail c text)
 
-coded_end : {U : Type 0} (kind : Kind U) (text : List ℕ) → IsEnd text (coded kind text).rest
-unfolding coded
+coded_end : {U : Type 0} (kind : Kind U) (text : List ℕ) → IsEnd text (read_code kind text).rest
+unfolding read_code
 coded_end kind text =
     end_of_end text (while_rest is_code_character text) _ (while_end is_code_character text)
     (closed_end kind (filter is_hex (while_front is_code_character text)) (while_rest is_code_character text))
 
-braced_end : {U : Type 0} (kind : Kind U) (text : List ℕ) → IsEnd text (braced kind text).rest
+braced_end : {U : Type 0} (kind : Kind U) (text : List ℕ) → IsEnd text (read_braced kind text).rest
 braced_end kind [] = end_whole []
 braced_end {U = U} kind (c ∷ text) =
     cond_both (c == underscore) _ _ (λ (read : Read U). IsEnd (c ∷ text) read.rest) (λ e. end_tail c text)
@@ -62,7 +63,7 @@ unfolding unicode_escape
 unicode_end kind [] = end_whole []
 unicode_end {U = U} kind (c ∷ text) =
     cond_both (c == open_brace) _ _ (λ (read : Read U). IsEnd (c ∷ text) read.rest)
-    (λ e. end_past c text (braced kind text).rest (braced_end kind text))
+    (λ e. end_past c text (read_braced kind text).rest (braced_end kind text))
     (λ e. end_tail c text)
 
 second_end : {U : Type 0} (kind : Kind U) (high : ℕ) (text : List ℕ) → IsEnd text (second_digit kind high text).rest

@@ -63,13 +63,13 @@ line_within : {U : Type 0} (content text line : List ℕ) → EndsIn content tex
 unfolding line_skip
 line_within {U = U} content text line e f =
     let rest : List ℕ = while_rest is_blank line in
-    let behind : IsEnd text (while_rest is_blank line) =
+    let blank_end : IsEnd text (while_rest is_blank line) =
     end_of_end text line (while_rest is_blank line) f (line_end line) in
     both_within content
     (warning_at MultipleSkippedLinesWarning (lines_range (bytes (chars content)) text (while_front is_blank line) rest))
     (warning_at UnskippedWhitespaceWarning (white_range (bytes (chars content)) text rest))
-    (lines_within {U = U} content text (while_front is_blank line) rest e behind)
-    (white_within {U = U} content text rest e behind)
+    (lines_within {U = U} content text (while_front is_blank line) rest e blank_end)
+    (white_within {U = U} content text rest e blank_end)
 
 front_within : {U : Type 0} (kind : Kind U) (content : List ℕ) (c : ℕ) (text : List ℕ) → EndsIn content (c ∷ text)
     → AreWithin content (front kind (bytes (chars content)) (c ∷ text)).items

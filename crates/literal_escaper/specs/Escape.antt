@@ -73,30 +73,31 @@ code_unit kind digits =
     if nat_lt 6 (length digits) then Err OverlongUnicodeEscape else kind.of_code (character (hex_number digits))
 
 -- reads the closing brace after `digits`
-abbrev pub closed : {U : Type 0} → Kind U → List ℕ → List ℕ → Read U
-closed kind digits [] = fault UnclosedUnicodeEscape []
-closed kind digits (c ∷ text) =
+abbrev pub read_closing : {U : Type 0} → Kind U → List ℕ → List ℕ → Read U
+read_closing kind digits [] = fault UnclosedUnicodeEscape []
+read_closing kind digits (c ∷ text) =
     if c == close_brace then record { unit = code_unit kind digits; rest = text }
     else fault InvalidCharInUnicodeEscape text
 
 -- reads the digits at the start of a text, of which the first is a hex digit, and the closing brace
-unfoldable pub coded : {U : Type 0} → Kind U → List ℕ → Read U
-coded kind text = closed kind (filter is_hex (while_front is_code_character text)) (while_rest is_code_character text)
+unfoldable pub read_code : {U : Type 0} → Kind U → List ℕ → Read U
+read_code kind text = read_closing kind (filter is_hex (while_front is_code_character text))
+    (while_rest is_code_character text)
 
 -- reads the digits after `{` and the closing brace
-abbrev pub braced : {U : Type 0} → Kind U → List ℕ → Read U
-braced kind [] = fault UnclosedUnicodeEscape []
-braced kind (c ∷ text) =
+abbrev pub read_braced : {U : Type 0} → Kind U → List ℕ → Read U
+read_braced kind [] = fault UnclosedUnicodeEscape []
+read_braced kind (c ∷ text) =
     if c == underscore then fault LeadingUnderscoreUnicodeEscape text
     else if c == close_brace then fault EmptyUnicodeEscape text
-    else if is_hex c then coded kind (c ∷ text)
+    else if is_hex c then read_code kind (c ∷ text)
     else fault InvalidCharInUnicodeEscape text
 
 -- `item-code`: reads a character's code in braces
 unfoldable pub unicode_escape : {U : Type 0} → Kind U → List ℕ → Read U
 unicode_escape kind [] = fault NoBraceInUnicodeEscape []
 unicode_escape kind (c ∷ text) =
-    if c == open_brace then braced kind text else fault NoBraceInUnicodeEscape text
+    if c == open_brace then read_braced kind text else fault NoBraceInUnicodeEscape text
 
 -- `item-escape`: reads an escape after a backslash
 unfoldable pub escape : {U : Type 0} → Kind U → List ℕ → Read U

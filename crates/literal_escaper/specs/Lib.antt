@@ -6,7 +6,7 @@ pub mod Character
 pub mod Text
 pub mod Kind
 pub mod Escape
-pub mod Class
+pub mod ContentClass
 pub mod Items
 pub mod Single
 pub mod Errors

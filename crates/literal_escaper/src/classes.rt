@@ -3,11 +3,11 @@
 //! An ASCII character is looked up in a table by its byte. Any other character is decoded.
 
 ghost use Rattle.std.specs.Prelude.{◌≡◌, ◌<◌, ℕ};
-ghost use Rattle.literal_escaper.specs.Class.{has_class, is_in};
+ghost use Rattle.literal_escaper.specs.ContentClass.{has_class, is_in};
 
 /// A class of characters that the rules for contents name.
 #[derive(Clone, Copy)]
-pub enum Class {
+pub enum ContentClass {
     /// A character that is skipped after a backslash and a line end.
     Blank,
     /// White space.
@@ -85,31 +85,31 @@ static CLASSES: [u8; 128] = [
 
 /// Returns the bit of the class.
 #[inline(always)]
-fn bit(class: Class) -> u8
+fn bit(class: ContentClass) -> u8
     ensures { (byte : ℕ) → byte < 128 → has_class result byte ≡ is_in class byte }
 {
     match class {
-        Class::Blank => BLANK,
-        Class::White => WHITE,
-        Class::HexDigit => HEX,
-        Class::CodeCharacter => CODE,
-        Class::SimpleEscape => SIMPLE,
-        Class::StringSpecial => IN_STRING,
-        Class::CharSpecial => IN_CHAR,
-        Class::RawSpecial => IN_RAW,
+        ContentClass::Blank => BLANK,
+        ContentClass::White => WHITE,
+        ContentClass::HexDigit => HEX,
+        ContentClass::CodeCharacter => CODE,
+        ContentClass::SimpleEscape => SIMPLE,
+        ContentClass::StringSpecial => IN_STRING,
+        ContentClass::CharSpecial => IN_CHAR,
+        ContentClass::RawSpecial => IN_RAW,
     }
 }
 
 /// Whether the character is in the class.
 #[inline(always)]
-pub fn holds(class: Class, c: char) -> bool
+pub fn holds(class: ContentClass, c: char) -> bool
     ensures { result ≡ is_in class c }
 {
     if c.is_ascii() {
         return CLASSES[c as usize] & bit(class) != 0;
     }
     match class {
-        Class::White => c.is_whitespace(),
+        ContentClass::White => c.is_whitespace(),
         _ => false,
     }
 }

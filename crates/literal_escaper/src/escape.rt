@@ -1,14 +1,14 @@
 //! Reads escapes: what follows a backslash.
 
 ghost use Rattle.std.specs.Prelude.{◌≡◌, ◌<◌, ◌≤◌};
-ghost use Rattle.literal_escaper.specs.Escape.{braced, coded, escape as what_escapes, hex_escape as hex_read};
+ghost use Rattle.literal_escaper.specs.Escape.{read_braced, read_code, escape as what_escapes, hex_escape as hex_read};
 ghost use Rattle.literal_escaper.specs.Escape.{is_code_character, letter, letter_unit, second_digit};
 ghost use Rattle.literal_escaper.specs.Escape.{unicode_escape as unicode_read};
 ghost use Rattle.literal_escaper.specs.Unescaping.{Gives, code_answer, digit_count, digit_number, next_count};
 ghost use Rattle.literal_escaper.specs.Unescaping.{next_number, text_at};
 ghost use Rattle.literal_escaper.specs.Text.{while_rest};
 
-use crate::classes::{Class, holds};
+use crate::classes::{ContentClass, holds};
 use crate::content_cursor::ContentCursor;
 use crate::errors::EscapeError;
 use crate::kind::{Unescape, character_of};
@@ -17,7 +17,7 @@ use crate::kind::{Unescape, character_of};
 fn simple_escape(c: char) -> Option<char>
     ensures { result ≡ letter c }
 {
-    if !holds(Class::SimpleEscape, c) {
+    if !holds(ContentClass::SimpleEscape, c) {
         return None;
     }
     match c {
@@ -97,7 +97,7 @@ fn one_more(count: u32) -> u32
 }
 
 /// Returns the number with the digit after it. A number above 10FFFF stays as it is.
-fn extended(number: u32, digit: u32) -> u32
+fn append_digit(number: u32, digit: u32) -> u32
     requires number { number ≤ LARGEST_CODE }
     requires digit { digit < 16 }
     ensures value { result ≡ next_number number digit }
@@ -121,12 +121,12 @@ fn digits(at: ContentCursor<'_>) -> Code<'_>
     let mut number: u32 = 0;
     let mut after = at;
     while let Some((c, next)) = after.advance() {
-        if !holds(Class::CodeCharacter, c) {
+        if !holds(ContentClass::CodeCharacter, c) {
             break;
         }
         if let Some(digit) = c.to_digit(16) {
             count = one_more(count);
-            number = extended(number, digit);
+            number = append_digit(number, digit);
         }
         after = next;
     }
@@ -148,11 +148,11 @@ fn code_escape<K: Unescape>(count: u32, number: u32) -> Result<K::Unit, EscapeEr
 }
 
 /// Reads the digits at the cursor and the closing brace after them.
-#[tactic(auto, using(crate::proofs::CodeLemmas::code_unit_is), unfolding(crate::specs::Escape::coded))]
+#[tactic(auto, using(crate::proofs::CodeLemmas::code_unit_is), unfolding(crate::specs::Escape::read_code))]
 fn rest_of_code<K: Unescape>(
     at: ContentCursor<'_>,
 ) -> (Result<K::Unit, EscapeError>, ContentCursor<'_>)
-    ensures { Gives (coded K.kind (text_at at.entry)) at.entry result }
+    ensures { Gives (read_code K.kind (text_at at.entry)) at.entry result }
 {
     let code = digits(at);
     match code.after.advance() {
@@ -166,7 +166,7 @@ fn rest_of_code<K: Unescape>(
 fn braced_escape<K: Unescape>(
     at: ContentCursor<'_>,
 ) -> (Result<K::Unit, EscapeError>, ContentCursor<'_>)
-    ensures { Gives (braced K.kind (text_at at.entry)) at.entry result }
+    ensures { Gives (read_braced K.kind (text_at at.entry)) at.entry result }
 {
     let Some((c, after)) = at.advance() else {
         return (Err(EscapeError::UnclosedUnicodeEscape), at);
@@ -177,7 +177,7 @@ fn braced_escape<K: Unescape>(
     if c == '}' {
         return (Err(EscapeError::EmptyUnicodeEscape), after);
     }
-    if !holds(Class::HexDigit, c) {
+    if !holds(ContentClass::HexDigit, c) {
         return (Err(EscapeError::InvalidCharInUnicodeEscape), after);
     }
     rest_of_code::<K>(at)

@@ -6,7 +6,7 @@ ghost use Rattle.literal_escaper.specs.Items.{front, items_from, line_skip, unit
 ghost use Rattle.literal_escaper.specs.Unescaping.{Gives, GivesFront, front_items, skips_line, text_at};
 ghost use Rattle.literal_escaper.specs.Text.{first_is, while_rest};
 
-use crate::classes::{Class, holds};
+use crate::classes::{ContentClass, holds};
 use crate::content_cursor::ContentCursor;
 use crate::errors::EscapeError;
 use crate::escape::escape;
@@ -31,7 +31,7 @@ pub struct Front<'a, U: Copy> {
 fn is_blank(c: char) -> bool
     ensures { result ≡ blank c }
 {
-    holds(Class::Blank, c)
+    holds(ContentClass::Blank, c)
 }
 
 /// Returns whether a line end is among the blanks at the cursor, and the cursor after them.
@@ -58,7 +58,7 @@ fn unskipped_white(start: ContentCursor<'_>, after: ContentCursor<'_>) -> Option
     ensures { result ≡ white_range start.entry.end (text_at start.entry) (text_at after.entry) }
 {
     let (c, past) = after.advance()?;
-    if holds(Class::White, c) {
+    if holds(ContentClass::White, c) {
         Some(start.byte_offset()..past.byte_offset())
     } else {
         None
@@ -99,7 +99,7 @@ fn read_unit<K: Unescape>(
 ) -> (Result<K::Unit, EscapeError>, ContentCursor<'_>)
     ensures { Gives (unit_front K.kind c (text_at after.entry)) after.entry result }
 {
-    if !holds(Class::StringSpecial, c) {
+    if !holds(ContentClass::StringSpecial, c) {
         return (K::of_char(c), after);
     }
     match c {

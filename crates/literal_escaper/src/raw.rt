@@ -5,7 +5,7 @@ ghost use Rattle.std.specs.Iterator.{YieldsFirst};
 ghost use Rattle.literal_escaper.specs.Items.{raw_unit};
 ghost use Rattle.literal_escaper.specs.Unescaping.{raw_left};
 
-use crate::classes::{Class, holds};
+use crate::classes::{ContentClass, holds};
 use crate::content_cursor::ContentCursor;
 use crate::errors::EscapeError;
 use crate::front::Item;
@@ -15,7 +15,7 @@ use crate::kind::CheckRaw;
 fn unit<K: CheckRaw>(c: char) -> Result<K::Unit, EscapeError>
     ensures { result ≡ raw_unit K.unit_of c }
 {
-    if holds(Class::RawSpecial, c) {
+    if holds(ContentClass::RawSpecial, c) {
         Err(EscapeError::BareCarriageReturnInRawString)
     } else {
         K::of_char(c)

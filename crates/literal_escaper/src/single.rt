@@ -3,7 +3,7 @@
 ghost use Rattle.literal_escaper.specs.Unescaping.{Gives, text_at};
 ghost use Rattle.literal_escaper.specs.Single.{single, single_front};
 
-use crate::classes::{Class, holds};
+use crate::classes::{ContentClass, holds};
 use crate::content_cursor::ContentCursor;
 use crate::errors::EscapeError;
 use crate::escape::escape;
@@ -16,7 +16,7 @@ fn first_unit<K: Unescape>(
 ) -> (Result<K::Unit, EscapeError>, ContentCursor<'_>)
     ensures { Gives (single_front K.kind c (text_at after.entry)) after.entry result }
 {
-    if !holds(Class::CharSpecial, c) {
+    if !holds(ContentClass::CharSpecial, c) {
         return (K::of_char(c), after);
     }
     match c {

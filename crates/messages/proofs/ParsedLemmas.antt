@@ -43,7 +43,7 @@ pub unparsed_may_fail : (T : Type 0) (text : List ℕ) (known : Option (List ℕ
     → MayFail text known known failure
 unparsed_may_fail T text known map (Lex fault) failure kept stands full (start, is, starts) too_long no_memory =
     rw is (fault.lo, stands.1, fault_starts new_map map text fault start kept stands starts, Keeps-same known)
-unparsed_may_fail T text known map MapFull failure kept stands full said too_long no_memory =
+unparsed_may_fail T text known map MapFull failure kept stands full lex_fault too_long no_memory =
     rw (too_long refl) (full refl, Keeps-same known)
-unparsed_may_fail T text known map (Memory refused) failure kept stands full said too_long no_memory =
+unparsed_may_fail T text known map (Memory refused) failure kept stands full lex_fault too_long no_memory =
     rw (no_memory refused refl) tt

@@ -16,5 +16,5 @@ escape c =
     else (if nat_lt c 32 then codes "\\u001" ++ hex (c - 16) else encode_utf8 c)))
 
 -- a text in a string of JSON
-abbrev pub escaped : List ℕ → List ℕ
-escaped text = each escape (chars text)
+abbrev pub json_escape : List ℕ → List ℕ
+json_escape text = each escape (chars text)

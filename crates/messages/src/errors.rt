@@ -32,7 +32,7 @@ pub enum Failure {
 impl Failure {
     /// Returns the failure for a text that was not parsed into the map: `Fault` with the line and column of the syntax
     /// error, `MapFull`, or `Memory`.
-    pub fn unparsed(error: ParseError, map: &SourceMap) -> Failure
+    pub fn parse_failure(error: ParseError, map: &SourceMap) -> Failure
         requires { IfLex error (Holds map.now) }
         ensures fault { IfLex error (λ fault. (start : LineColumn)
             × (result ≡ Failure.Fault start) × StartsAt map.now fault start) }

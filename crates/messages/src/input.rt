@@ -72,13 +72,13 @@ fn text_of<R: Read + Drop>(alloc: Global, mut reader: R) -> Result<String, Failu
 {
     let mut bytes = Vec::new(alloc);
     match reader.read_to_end(&mut bytes) {
-        Ok(_) => decoded(bytes),
+        Ok(_) => decode(bytes),
         Err(error) => Err(Failure::reading(error)),
     }
 }
 
 /// Returns the bytes as a text.
-fn decoded(bytes: Vec<u8>) -> Result<String, Failure>
+fn decode(bytes: Vec<u8>) -> Result<String, Failure>
     ensures { IsTextOf bytes.items result }
 {
     match String::from_utf8(bytes) {

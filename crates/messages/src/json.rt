@@ -1,12 +1,12 @@
 //! Texts in JSON.
 ghost use Rattle.std.specs.Prelude.{◌≡◌, ◌∷◌, ◌++◌, ◌<◌, [], IfOk, OnOk, string_bytes};
-ghost use Rattle.messages.specs.Json.{escape, escaped, hex};
+ghost use Rattle.messages.specs.Json.{escape, json_escape, hex};
 
 use std::alloc::{AllocError, Global};
 
 /// Returns the text as it is written in a string of JSON.
-pub fn escaped(alloc: Global, text: &str) -> Result<String, AllocError>
-    ensures { IfOk result (λ out. string_bytes out ≡ escaped text.now) }
+pub fn json_escape(alloc: Global, text: &str) -> Result<String, AllocError>
+    ensures { IfOk result (λ out. string_bytes out ≡ json_escape text.now) }
 {
     let mut out = String::new(alloc);
     for c in text.chars() {

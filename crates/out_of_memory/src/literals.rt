@@ -10,22 +10,22 @@ use std::io::Write;
 pub fn run<W: Write>(alloc: Global, out: &mut W, call: &str, text: &str) -> Result<(), Fail> {
     for _ in 0..2 {
         begin(out)?;
-        show(out, made(alloc, call, text).ok_or(Fail::NoCase)?)?;
+        show(out, make_named(alloc, call, text).ok_or(Fail::NoCase)?)?;
     }
     Ok(())
 }
 
-fn made(alloc: Global, call: &str, text: &str) -> Option<Result<Literal, AllocError>> {
-    if let Some(literal) = quoted(alloc, call, text) {
+fn make_named(alloc: Global, call: &str, text: &str) -> Option<Result<Literal, AllocError>> {
+    if let Some(literal) = make_quoted(alloc, call, text) {
         return Some(literal);
     }
-    if let Some(literal) = unsigned(alloc, call) {
+    if let Some(literal) = make_unsigned(alloc, call) {
         return Some(literal);
     }
-    signed(alloc, call)
+    make_signed(alloc, call)
 }
 
-fn quoted(alloc: Global, call: &str, text: &str) -> Option<Result<Literal, AllocError>> {
+fn make_quoted(alloc: Global, call: &str, text: &str) -> Option<Result<Literal, AllocError>> {
     match call {
         "string" => Some(Literal::string(alloc, text)),
         "character" => Some(Literal::character(alloc, char::MAX)),
@@ -39,7 +39,7 @@ fn quoted(alloc: Global, call: &str, text: &str) -> Option<Result<Literal, Alloc
     }
 }
 
-fn unsigned(alloc: Global, call: &str) -> Option<Result<Literal, AllocError>> {
+fn make_unsigned(alloc: Global, call: &str) -> Option<Result<Literal, AllocError>> {
     Some(match call {
         "u8_unsuffixed" => Literal::u8_unsuffixed(alloc, u8::MAX),
         "u8_suffixed" => Literal::u8_suffixed(alloc, u8::MAX),
@@ -57,7 +57,7 @@ fn unsigned(alloc: Global, call: &str) -> Option<Result<Literal, AllocError>> {
     })
 }
 
-fn signed(alloc: Global, call: &str) -> Option<Result<Literal, AllocError>> {
+fn make_signed(alloc: Global, call: &str) -> Option<Result<Literal, AllocError>> {
     Some(match call {
         "i8_unsuffixed" => Literal::i8_unsuffixed(alloc, i8::MAX),
         "i8_suffixed" => Literal::i8_suffixed(alloc, i8::MAX),

@@ -10,12 +10,12 @@ use std::io::Write;
 pub fn run<W: Write>(alloc: Global, out: &mut W, call: &str, name: &str) -> Result<(), Fail> {
     for _ in 0..2 {
         begin(out)?;
-        show(out, made(alloc, call, name).ok_or(Fail::NoCase)?)?;
+        show(out, make_named(alloc, call, name).ok_or(Fail::NoCase)?)?;
     }
     Ok(())
 }
 
-fn made(alloc: Global, call: &str, name: &str) -> Option<Result<Ident, IdentError>> {
+fn make_named(alloc: Global, call: &str, name: &str) -> Option<Result<Ident, IdentError>> {
     match call {
         "new" => Some(Ident::new(alloc, name, Span::call_site())),
         "new_raw" => Some(Ident::new_raw(alloc, name, Span::call_site())),

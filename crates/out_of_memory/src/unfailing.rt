@@ -44,13 +44,13 @@ fn ask<W: Write>(alloc: Global, out: &mut W, call: &str, text: &str) -> Result<(
     }
 }
 
-fn parsed(alloc: Global, text: &str) -> Result<TokenStream, ParseError> {
+fn parse_text(alloc: Global, text: &str) -> Result<TokenStream, ParseError> {
     TokenStream::from_str(text, &mut SourceMap::new(alloc))
 }
 
 fn ask_streams<W: Write>(alloc: Global, out: &mut W, text: &str) -> Result<(), Fail> {
-    let stream = parsed(alloc, text)?;
-    let other = parsed(alloc, text)?;
+    let stream = parse_text(alloc, text)?;
+    let other = parse_text(alloc, text)?;
     begin(out)?;
     let answers = (
         TokenStream::new(alloc).is_empty(),
@@ -87,7 +87,7 @@ fn asked_of_maps(alloc: Global, map: &mut SourceMap, span: Span) -> (bool, bool,
 }
 
 fn ask_spans<W: Write>(alloc: Global, out: &mut W, text: &str) -> Result<(), Fail> {
-    let stream = parsed(alloc, text)?;
+    let stream = parse_text(alloc, text)?;
     let [first, .., last] = stream.trees() else {
         return Err(Fail::NoCase);
     };
@@ -126,11 +126,11 @@ fn look_up<W: Write>(alloc: Global, out: &mut W, text: &str) -> Result<(), Fail>
 }
 
 fn ask_groups<W: Write>(alloc: Global, out: &mut W, text: &str) -> Result<(), Fail> {
-    let stream = parsed(alloc, text)?;
+    let stream = parse_text(alloc, text)?;
     let Some(TokenTree::Group(group)) = stream.trees().first() else {
         return Err(Fail::NoCase);
     };
-    let inside = parsed(alloc, text)?;
+    let inside = parse_text(alloc, text)?;
     begin(out)?;
     show(out, asked_of_a_group(group, inside))
 }
@@ -191,7 +191,7 @@ fn asked_of_names(
     name.hash(&mut hasher);
     name.set_span(Span::call_site());
     let hash = hasher.finish();
-    let (is_same, is_itself, order, is_less) = compared(name, raw);
+    let (is_same, is_itself, order, is_less) = compare_idents(name, raw);
     let (is_text, is_raw_text) = (name.eq_str(text), raw.eq_str(text));
     (
         is_same,
@@ -205,7 +205,7 @@ fn asked_of_names(
     )
 }
 
-fn compared(name: &Ident, raw: &Ident) -> (bool, bool, Ordering, bool) {
+fn compare_idents(name: &Ident, raw: &Ident) -> (bool, bool, Ordering, bool) {
     (*name == *raw, *name == *name, name.cmp(raw), *name < *raw)
 }
 
@@ -229,7 +229,7 @@ fn ask_literals<W: Write>(alloc: Global, out: &mut W, text: &str) -> Result<(), 
 }
 
 fn ask_iterators<W: Write>(alloc: Global, out: &mut W, text: &str) -> Result<(), Fail> {
-    let mut trees = parsed(alloc, text)?.into_iter()?;
+    let mut trees = parse_text(alloc, text)?.into_iter()?;
     begin(out)?;
     show(out, two_taken(&mut trees))
 }
@@ -243,7 +243,7 @@ fn two_taken(trees: &mut IntoIter) -> (Hint, Option<TokenTree>, Option<TokenTree
 }
 
 fn ask_faults<W: Write>(alloc: Global, out: &mut W, text: &str) -> Result<(), Fail> {
-    let fault: LexError = match parsed(alloc, text) {
+    let fault: LexError = match parse_text(alloc, text) {
         Err(ParseError::Lex(fault)) => fault,
         _ => return Err(Fail::NoCase),
     };

@@ -12,7 +12,7 @@ use Rattle.std.specs.declared.alloc.Global.{Global}
 use Rattle.std.specs.declared.cmp.Ordering.TheVariants.{Less, Equal, Greater}
 use native.Mathlib.Numerals.{unary_clauses}
 use Rattle.outline.specs.Files.{AreOf, IsOf, Outcome}
-use Rattle.outline.specs.Tags.{ended}
+use Rattle.outline.specs.Tags.{lines_text}
 use Rattle.outline.specs.declared.options.Form.{Form}
 
 -- the outcomes of these files are that of the first file and those of the others
@@ -32,10 +32,10 @@ pub of_none : (form : Form) (paths : List (String Global)) (k : ℕ) → length 
     → AreOf form (map string_bytes (drop k paths)) []
 of_none form paths k past = subst (λ l. AreOf form (map string_bytes l) []) (sym (drop_of_length-le paths past)) tt
 
-pub ended_append : (xs ys : List (List ℕ)) → ended xs ++ ended ys ≡ ended (xs ++ ys)
+pub ended_append : (xs ys : List (List ℕ)) → lines_text xs ++ lines_text ys ≡ lines_text (xs ++ ys)
 ended_append [] ys = refl
 ended_append (x ∷ xs) ys =
-    append_assoc x (codes "\n" ++ ended xs) (ended ys)
+    append_assoc x (codes "\n" ++ lines_text xs) (lines_text ys)
     ∙ ap (λ l. x ++ (codes "\n" ++ l)) (ended_append xs ys)
 
 pub texts_append : (xs ys : List (String Global))

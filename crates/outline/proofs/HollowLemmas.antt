@@ -19,19 +19,19 @@ use Rattle.pm_stream.specs.declared.stream.TokenTree.{TokenTree}
 use Rattle.pm_stream.specs.declared.stream.TokenTree.TheVariants.{Group, Ident, Punct, Literal}
 use Rattle.token_buffer.specs.Outer.{kept_inside}
 use Rattle.declarations.proofs.ReadingLemmas.{trees-append}
-use Rattle.declarations.proofs.SignLemmas.{behind_first, trees_of-signs}
+use Rattle.declarations.proofs.SignLemmas.{after_first_sign, trees_of-signs}
 use Rattle.declarations.specs.File.{body_of, braces, in_braces, last_braces}
 use Rattle.declarations.specs.Forms.{any_item}
 use Rattle.declarations.specs.Grammar.{names, step}
 use Rattle.declarations.specs.Kind.{Tells}
-use Rattle.declarations.specs.Reading.{Reads, first_name, name_of, named}
+use Rattle.declarations.specs.Reading.{Reads, first_name, name_of, name_so_far}
 use Rattle.declarations.specs.Signs.{Sign, classes_of, group_class, is_restriction, is_written, pair_class, restricts}
 use Rattle.declarations.specs.Signs.{parentheses_class, signs, signs_after, tree_class, trees_of}
 use Rattle.declarations.specs.Walk.{walk}
 use Rattle.declarations.specs.declared.any_item.ItemKind.{ItemKind}
 use Rattle.declarations.specs.declared.any_item.ItemKind.TheVariants as kinds
-use Rattle.declarations.specs.declared.class.Class.{Class}
-use Rattle.declarations.specs.declared.place.Place.{Place}
+use Rattle.declarations.specs.declared.class.SignClass.{SignClass}
+use Rattle.declarations.specs.declared.walk_state.WalkState.{WalkState}
 use Rattle.outline.specs.Hollow.{hollow, hollow_group}
 use Rattle.outline.specs.Outline.{first_of, last_of}
 
@@ -103,7 +103,7 @@ abbrev pub hollow_sign : Sign → Sign
 hollow_sign sign = record { class = sign.class; trees = map hollow sign.trees }
 
 -- the signs of two trees and others, if it is known whether the two are one sign
-abbrev pairing : Option Class → TokenTree → TokenTree → List TokenTree → List Sign
+abbrev pairing : Option SignClass → TokenTree → TokenTree → List TokenTree → List Sign
 pairing o first second rest = elim o as (λ x. List Sign) [
   | None ↦ record { class = tree_class first; trees = first ∷ [] } ∷ signs_after (Some second) rest
   | Some class ↦ record { class = class; trees = first ∷ second ∷ [] } ∷ signs_after None rest
@@ -114,12 +114,12 @@ hollow_after : (first : Option TokenTree) (trees : List TokenTree)
 hollow_after None [] = refl
 hollow_after None (tree ∷ rest) = hollow_after (Some tree) rest
 hollow_after (Some first) [] =
-    ap (λ (c : Class). record { class = c; trees = hollow first ∷ [] } ∷ []) (hollow_class first)
+    ap (λ (c : SignClass). record { class = c; trees = hollow first ∷ [] } ∷ []) (hollow_class first)
 hollow_after (Some first) (tree ∷ rest) =
     ap (λ o. pairing o (hollow first) (hollow tree) (map hollow rest)) (hollow_pair first tree)
     ∙ elim (pair_class first tree) as (λ o. pairing o (hollow first) (hollow tree) (map hollow rest)
     ≡ map hollow_sign (pairing o first tree rest)) [
-      | None ↦ ap₂ (λ (c : Class) (ss : List Sign). record { class = c; trees = hollow first ∷ [] } ∷ ss)
+      | None ↦ ap₂ (λ (c : SignClass) (ss : List Sign). record { class = c; trees = hollow first ∷ [] } ∷ ss)
           (hollow_class first) (hollow_after (Some tree) rest)
       | Some class ↦ ap (λ (ss : List Sign). record { class = class; trees = hollow first ∷ hollow tree ∷ [] } ∷ ss)
           (hollow_after None rest)
@@ -144,21 +144,21 @@ hollow_first_name (Ident i ∷ trees) = refl
 hollow_first_name (Punct p ∷ trees) = refl
 hollow_first_name (Literal l ∷ trees) = refl
 
-hollow_name : (place : Place) (name : Option Name) (ss : List Sign)
+hollow_name : (place : WalkState) (name : Option Name) (ss : List Sign)
     → name_of place name (map hollow_sign ss) ≡ name_of place name ss
 hollow_name place name [] = refl
 hollow_name place name (sign ∷ ss) =
     elim (step place sign.class) as (λ o. (elim o as (λ x. Option Name) [
       | None ↦ name
-      | Some next ↦ name_of next (named place sign.class (map hollow sign.trees) name) (map hollow_sign ss)
+      | Some next ↦ name_of next (name_so_far place sign.class (map hollow sign.trees) name) (map hollow_sign ss)
     ]) ≡ (elim o as (λ x. Option Name) [
       | None ↦ name
-      | Some next ↦ name_of next (named place sign.class sign.trees name) ss
+      | Some next ↦ name_of next (name_so_far place sign.class sign.trees name) ss
     ])) [
       | None ↦ refl
       | Some next ↦ ap (λ n. name_of next (cond (names place sign.class) n name) (map hollow_sign ss))
           (hollow_first_name sign.trees)
-          ∙ hollow_name next (named place sign.class sign.trees name) ss
+          ∙ hollow_name next (name_so_far place sign.class sign.trees name) ss
     ]
 
 -- ---- what is read
@@ -187,31 +187,32 @@ cut_map f (x ∷ xs) (b ∷ front) back is =
     }
 
 -- the signs after some signs are the signs of their trees
-signs_behind : (front back : List Sign) (trees : List TokenTree) → signs trees ≡ front ++ back
+signs_after_front : (front back : List Sign) (trees : List TokenTree) → signs trees ≡ front ++ back
     → back ≡ signs (trees_of back)
-signs_behind [] back trees is = sym is ∙ ap signs (sym (trees_of-signs trees) ∙ ap trees_of is)
-signs_behind (sign ∷ front) back trees is =
-    let behind = behind_first trees sign (front ++ back) is in signs_behind front back behind.rest behind.read
+signs_after_front [] back trees is = sym is ∙ ap signs (sym (trees_of-signs trees) ∙ ap trees_of is)
+signs_after_front (sign ∷ front) back trees is =
+    let after_first = after_first_sign trees sign (front ++ back) is in signs_after_front front back after_first.rest
+    after_first.read
 
 -- a part of hollow trees that is read is made from a part of the trees that can be read
-pub record IsReal (form : List Class → List Class → Type 0) (trees part rest : List TokenTree) : Type 0 where
+pub record IsReal (form : List SignClass → List SignClass → Type 0) (trees part rest : List TokenTree) : Type 0 where
   pub front : List TokenTree
   pub after : List TokenTree
   pub front_is : part ≡ map hollow front
   pub after_is : rest ≡ map hollow after
   pub read : Reads form trees front after
 
-pub real : (form : List Class → List Class → Type 0) (trees part rest : List TokenTree)
+pub real : (form : List SignClass → List SignClass → Type 0) (trees part rest : List TokenTree)
     → Reads form (map hollow trees) part rest → IsReal form trees part rest
 real form trees part rest reads =
     let cut = cut_map hollow_sign (signs trees) reads.piece (signs rest) (sym (hollow_signs trees) ∙ reads.read) in
     let front : List TokenTree = trees_of cut.first in
     let after : List TokenTree = trees_of cut.rest in
-    let behind : cut.rest ≡ signs after = signs_behind cut.first cut.rest trees cut.whole in
+    let after_first : cut.rest ≡ signs after = signs_after_front cut.first cut.rest trees cut.whole in
     let front_classes : classes_of reads.piece ≡ classes_of cut.first =
     ap classes_of (sym cut.first_is) ∙ hollow_classes cut.first in
     let after_classes : classes_of (signs rest) ≡ classes_of (signs after) =
-    ap classes_of (sym cut.rest_is) ∙ hollow_classes cut.rest ∙ ap classes_of behind in
+    ap classes_of (sym cut.rest_is) ∙ hollow_classes cut.rest ∙ ap classes_of after_first in
     record {
       front = front;
       after = after;
@@ -219,7 +220,7 @@ real form trees part rest reads =
       after_is = sym (trees_of-signs rest) ∙ ap trees_of (sym cut.rest_is) ∙ hollow_trees cut.rest;
       read = record {
         piece = cut.first;
-        read = cut.whole ∙ ap (λ ss. cut.first ++ ss) behind;
+        read = cut.whole ∙ ap (λ ss. cut.first ++ ss) after_first;
         taken = refl;
         whole = sym (trees_of-signs trees) ∙ ap trees_of cut.whole ∙ trees-append cut.first cut.rest;
         stands = subst (λ cs. form cs (classes_of (signs after))) front_classes
@@ -227,7 +228,7 @@ real form trees part rest reads =
       };
     }
 
-pub reads_hollow : (form : List Class → List Class → Type 0) (trees part rest : List TokenTree)
+pub reads_hollow : (form : List SignClass → List SignClass → Type 0) (trees part rest : List TokenTree)
     → Reads form trees part rest → Reads form (map hollow trees) (map hollow part) (map hollow rest)
 reads_hollow form trees part rest reads =
     let rest_classes : classes_of (signs rest) ≡ classes_of (signs (map hollow rest)) =
@@ -244,17 +245,17 @@ reads_hollow form trees part rest reads =
     }
 
 -- the walk over hollow trees finds the same kind and name as the walk over the trees
-pub real_tells : (form : List Class → List Class → Type 0) (trees part rest : List TokenTree) (kind : ItemKind)
+pub real_tells : (form : List SignClass → List SignClass → Type 0) (trees part rest : List TokenTree) (kind : ItemKind)
     (name : Option Name) → Reads form trees part rest → Tells (map hollow trees) (map hollow rest) kind name
     → Tells trees rest kind name
 unfolding reads_hollow
-real_tells form trees part rest kind name reads told =
-    let walked = told.walked in
+real_tells form trees part rest kind name reads kind_and_name =
+    let walked = kind_and_name.walked in
     let fronts : walked.front ≡ map hollow_sign reads.piece =
     append_cancel_right walked.front (map hollow_sign reads.piece) (signs (map hollow rest))
     (sym walked.read ∙ (reads_hollow form trees part rest reads).read) in
     record {
-      last = told.last;
+      last = kind_and_name.last;
       walked = record {
         front = reads.piece;
         read = reads.read;
@@ -263,7 +264,7 @@ real_tells form trees part rest kind name reads told =
             ∙ walked.walks;
         takes = walked.takes ∙ ap (name_of any_item None) fronts ∙ hollow_name any_item None reads.piece;
       };
-      is = told.is;
+      is = kind_and_name.is;
     }
 
 -- ---- the braces that hold items

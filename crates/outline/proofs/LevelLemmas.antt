@@ -31,20 +31,21 @@ use Rattle.declarations.specs.Kind.{Tells}
 use Rattle.declarations.specs.Reading.{Reads}
 use Rattle.declarations.specs.declared.any_item.AnyItem.{AnyItem}
 use Rattle.declarations.specs.declared.any_item.ItemKind.{ItemKind}
-use Rattle.outline.specs.Answer.{lines_of, name_in, place_in, shown, through}
+use Rattle.outline.specs.Answer.{lines_of, name_in, place_in, shown_line, through}
 use Rattle.outline.specs.Hollow.{hollow, trees_in}
 use Rattle.outline.specs.Levels.{BeginsWith, IsStopped, Takes, level_left, trees_left}
 use Rattle.outline.specs.Line.{line_of, one_line}
 use Rattle.outline.specs.Outline.{AreInside, AreTrees, BeginsWithItem, Entry, Outline, IsTreesOutline, entries_of}
-use Rattle.outline.specs.Outline.{entry_of, is_listed, listed, seen}
+use Rattle.outline.specs.Outline.{entry_of, is_listed, lists, entry_of_value}
 use Rattle.outline.specs.declared.entries.Entry.{Entry as Given}
 use Rattle.outline.specs.declared.level.Level.{Level}
-use Rattle.outline.specs.declared.levels.Step.{Step}
+use Rattle.outline.specs.declared.levels.ReadItem.{ReadItem}
 use Rattle.outline.specs.declared.options.Form.{Form}
 use Rattle.outline.proofs.HollowLemmas.{body_is_last, has_body, hollow_first_of, hollow_last_of, real, real_tells}
 use Rattle.outline.proofs.HollowLemmas.{reads_hollow}
 use Rattle.outline.proofs.OnlyLemmas.{Requires, closed_stops, item_stops, same_trees, trees_in-forest}
-use Rattle.outline.proofs.OutlineLemmas.{Completes, completes_all, completes_alone, completes_item, stack, told_copied}
+use Rattle.outline.proofs.OutlineLemmas.{Completes, completes_all, completes_alone, completes_item, stack}
+use Rattle.outline.proofs.OutlineLemmas.{kind_and_name_copied}
 
 -- ---- the trees of a stream
 
@@ -198,7 +199,7 @@ hollow_name_in text None header =
 hollow_name_in text (Some name) header = refl
 
 hollow_shown : (text : List ℕ) (depth : ℕ) (kind : ItemKind) (name : Option Name) (header : List TokenTree)
-    → shown text (entry_of depth kind name (map hollow header)) ≡ shown text (entry_of depth kind name header)
+    → shown_line text (entry_of depth kind name (map hollow header)) ≡ shown_line text (entry_of depth kind name header)
 hollow_shown text depth kind name header =
     ap₂ (λ named start. record {
       depth = depth;
@@ -210,32 +211,33 @@ hollow_shown text depth kind name header =
 
 hollow_line : (form : Form) (path text : List ℕ) (is : Bool) (depth : ℕ) (kind : ItemKind) (name : Option Name)
     (header : List TokenTree)
-    → lines_of form path text (listed is (entry_of depth kind name (map hollow header)))
-    ≡ lines_of form path text (listed is (entry_of depth kind name header))
+    → lines_of form path text (lists is (entry_of depth kind name (map hollow header)))
+    ≡ lines_of form path text (lists is (entry_of depth kind name header))
 hollow_line form path text true depth kind name header =
     ap (λ x. option_to_list (line_of form path x) ++ []) (hollow_shown text depth kind name header)
 hollow_line form path text false depth kind name header = refl
 
 pub takes : (files : Files) (form : Form) (path : List ℕ) (depth : ℕ) (items rest all : List TokenTree) (it : AnyItem)
-    (entry : Given) (step : Step) → items ≡ map hollow all → Reads IsAnyItem items it.trees.now rest
+    (entry : Given) (step : ReadItem) → items ≡ map hollow all → Reads IsAnyItem items it.trees.now rest
     → TellsOf items rest it
     → ((attributes : List TokenTree) × Reads AreAttributes it.trees.now attributes entry.header.now
-    × (seen entry ≡ entry_of depth it.kind (option_copied it.name) entry.header.now))
+    × (entry_of_value entry ≡ entry_of depth it.kind (option_copied it.name) entry.header.now))
     → ((text : List ℕ) → files ≡ with_file new_map text → option_to_list (option_map string_bytes step.line)
-    ≡ lines_of form path text (listed (is_listed entry.kind (option_copied entry.name)) (seen entry)))
+    ≡ lines_of form path text (lists (is_listed entry.kind (option_copied entry.name)) (entry_of_value entry)))
     → step.count ≡ length it.trees.now → step.has_body ≡ is_some (body_of it.kind it.trees.now)
     → Takes files form path depth all step
-takes files form path depth items rest all it entry step are reads told (attributes, front, is) line counted body =
+takes files form path depth items rest all it entry step are reads kind_and_name (attributes, front, is) line counted
+    body =
     let name = option_copied it.name in
     let found = real IsAnyItem all it.trees.now rest (subst (λ ts. Reads IsAnyItem ts it.trees.now rest) are reads) in
     let head = real AreAttributes found.front attributes entry.header.now
     (subst (λ ts. Reads AreAttributes ts attributes entry.header.now) found.front_is front) in
     let tells : Tells (map hollow all) (map hollow found.after) it.kind name =
     subst (λ ts. Tells (map hollow all) ts it.kind name) found.after_is
-    (subst (λ ts. Tells ts rest it.kind name) are (told_copied items rest it told)) in
+    (subst (λ ts. Tells ts rest it.kind name) are (kind_and_name_copied items rest it kind_and_name)) in
     let size : step.count ≡ length found.front =
     counted ∙ ap length found.front_is ∙ length-map found.front hollow in
-    let entry_is : seen entry ≡ entry_of depth it.kind name (map hollow head.after) =
+    let entry_is : entry_of_value entry ≡ entry_of depth it.kind name (map hollow head.after) =
     is ∙ ap (entry_of depth it.kind name) head.after_is in
     let fewer = reads_fewer any_item all found.front found.after refl found.read in
     let sizes : length all ≡ length found.front + length found.after =
@@ -248,13 +250,13 @@ takes files form path depth items rest all it entry step are reads told (attribu
       attributes = head.front;
       header = head.after;
       read = found.read;
-      told = real_tells IsAnyItem all found.front found.after it.kind name found.read tells;
+      kind_and_name = real_tells IsAnyItem all found.front found.after it.kind name found.read tells;
       front = head.read;
       counted = size;
       some = omega (arith, size, sizes, fewer);
       body = body ∙ ap (λ ts. is_some (body_of it.kind ts)) found.front_is ∙ has_body it.kind found.front;
       line = λ text of. line text of
-          ∙ ap (λ (e : Entry). lines_of form path text (listed (is_listed e.kind e.name) e)) entry_is
+          ∙ ap (λ (e : Entry). lines_of form path text (lists (is_listed e.kind e.name) e)) entry_is
           ∙ hollow_line form path text (is_listed it.kind name) depth it.kind name head.after;
     }
 
@@ -269,19 +271,19 @@ pub stops_entry : (items rest all : List TokenTree) (it : AnyItem) → items ≡
     → Reads IsAnyItem items it.trees.now rest → TellsOf items rest it
     → ((attributes header : List TokenTree) → Reads AreAttributes it.trees.now attributes header → ⊥)
     → IsStopped all
-stops_entry items rest all it are reads told never =
+stops_entry items rest all it are reads kind_and_name never =
     let name = option_copied it.name in
     let found = real IsAnyItem all it.trees.now rest (subst (λ ts. Reads IsAnyItem ts it.trees.now rest) are reads) in
     let tells : Tells (map hollow all) (map hollow found.after) it.kind name =
     subst (λ ts. Tells (map hollow all) ts it.kind name) found.after_is
-    (subst (λ ts. Tells ts rest it.kind name) are (told_copied items rest it told)) in
+    (subst (λ ts. Tells ts rest it.kind name) are (kind_and_name_copied items rest it kind_and_name)) in
     inr (record {
       part = found.front;
       rest = found.after;
       kind = it.kind;
       name = name;
       read = found.read;
-      told = real_tells IsAnyItem all found.front found.after it.kind name found.read tells;
+      kind_and_name = real_tells IsAnyItem all found.front found.after it.kind name found.read tells;
       never = λ attributes header inside front holds.
           never (map hollow attributes) (map hollow header)
           (subst (λ ts. Reads AreAttributes ts (map hollow attributes) (map hollow header)) (sym found.front_is)
@@ -291,7 +293,7 @@ stops_entry items rest all it are reads told never =
 -- ---- what a step leaves
 
 pub takes_within : (files : Files) (form : Form) (path : List ℕ) (depth : ℕ) (all items : List TokenTree) (at : ℕ)
-    (step : Step) → Takes files form path depth all step → drop at items ≡ map hollow all
+    (step : ReadItem) → Takes files form path depth all step → drop at items ≡ map hollow all
     → at + step.count ≤ length items
 takes_within files form path depth all items at step takes even =
     let size : length items - at ≡ length all =
@@ -301,7 +303,7 @@ takes_within files form path depth all items at step takes even =
     omega (arith, takes.counted, takes.some)
 
 pub begins_taken : (files : Files) (form : Form) (path : List ℕ) (depth : ℕ) (all items after : List TokenTree)
-    (step : Step) (takes : Takes files form path depth all step) → AreInside (body_of takes.kind takes.part) items
+    (step : ReadItem) (takes : Takes files form path depth all step) → AreInside (body_of takes.kind takes.part) items
     → after ≡ drop step.count all → BeginsWithItem all takes.kind takes.name takes.header items after
 begins_taken files form path depth all items after step takes inside is =
     let same : takes.rest ≡ after =
@@ -310,7 +312,7 @@ begins_taken files form path depth all items after step takes inside is =
       part = takes.part;
       attributes = takes.attributes;
       read = subst (Reads IsAnyItem all takes.part) same takes.read;
-      told = subst (λ ts. Tells all ts takes.kind takes.name) same takes.told;
+      kind_and_name = subst (λ ts. Tells all ts takes.kind takes.name) same takes.kind_and_name;
       front = takes.front;
       inside = inside;
     }
@@ -319,7 +321,7 @@ none_inside : (body : Option Grouped) → is_some body ≡ false → AreInside b
 none_inside None is = refl
 none_inside (Some g) is = cc
 
-pub no_body : (files : Files) (form : Form) (path : List ℕ) (depth : ℕ) (all : List TokenTree) (step : Step)
+pub no_body : (files : Files) (form : Form) (path : List ℕ) (depth : ℕ) (all : List TokenTree) (step : ReadItem)
     (takes : Takes files form path depth all step) → step.has_body ≡ false
     → AreInside (body_of takes.kind takes.part) []
 no_body files form path depth all step takes none =
@@ -335,7 +337,7 @@ pub record HasBody (kind : ItemKind) (part : List TokenTree) (last : Cursor) : T
   pub is : body_of kind part ≡ Some group
   pub begins : BeginsWith last group
 
-pub body_comes : (files : Files) (form : Form) (path : List ℕ) (depth : ℕ) (all : List TokenTree) (step : Step)
+pub body_comes : (files : Files) (form : Form) (path : List ℕ) (depth : ℕ) (all : List TokenTree) (step : ReadItem)
     (last : Cursor) (takes : Takes files form path depth all step) → step.has_body ≡ true
     → trees_left last ≡ drop (step.count - 1) all → HasBody takes.kind takes.part last
 body_comes files form path depth all step last takes has is =
@@ -371,7 +373,7 @@ pub lines_of-append : (form : Form) (path text : List ℕ) (xs ys : List Entry)
     → lines_of form path text (xs ++ ys) ≡ lines_of form path text xs ++ lines_of form path text ys
 lines_of-append form path text [] ys = refl
 lines_of-append form path text (x ∷ xs) ys =
-    let line = option_to_list (line_of form path (shown text x)) in
+    let line = option_to_list (line_of form path (shown_line text x)) in
     ap (λ ls. line ++ ls) (lines_of-append form path text xs ys)
     ∙ sym (append_assoc line (lines_of form path text xs) (lines_of form path text ys))
 
@@ -392,20 +394,20 @@ lines_all form path text trees lines levels none h =
 
 -- the line of a step's item comes after the lines before it
 lines_put : (files : Files) (form : Form) (path text : List ℕ) (lines more : List (List ℕ)) (found : List Entry)
-    (all : List TokenTree) (step : Step) (depth size : ℕ) (takes : Takes files form path depth all step)
+    (all : List TokenTree) (step : ReadItem) (depth size : ℕ) (takes : Takes files form path depth all step)
     → files ≡ with_file new_map text → depth ≡ size → lines ≡ lines_of form path text found
     → more ≡ lines ++ option_to_list (option_map string_bytes step.line)
     → more ≡ lines_of form path text
-    (found ++ listed (is_listed takes.kind takes.name) (entry_of size takes.kind takes.name takes.header))
+    (found ++ lists (is_listed takes.kind takes.name) (entry_of size takes.kind takes.name takes.header))
 lines_put files form path text lines more found all step depth size takes of deep are put =
     let entries : ℕ → List Entry =
-    λ n. listed (is_listed takes.kind takes.name) (entry_of n takes.kind takes.name takes.header) in
+    λ n. lists (is_listed takes.kind takes.name) (entry_of n takes.kind takes.name takes.header) in
     put ∙ ap₂ (λ (xs ys : List (List ℕ)). xs ++ ys) are (takes.line text of)
     ∙ sym (lines_of-append form path text found (entries depth))
     ∙ ap (λ n. lines_of form path text (found ++ entries n)) deep
 
 pub lines_item : (files : Files) (form : Form) (path text : List ℕ) (trees : List TokenTree)
-    (lines more : List (List ℕ)) (old new inside : Level) (levels less once twice : List Level) (step : Step)
+    (lines more : List (List ℕ)) (old new inside : Level) (levels less once twice : List Level) (step : ReadItem)
     (depth : ℕ) (takes : Takes files form path depth (level_left old) step) → files ≡ with_file new_map text
     → CompletesLines form path text trees lines (stack level_left levels) → levels ≡ less ++ old ∷ []
     → depth ≡ length less → more ≡ lines ++ option_to_list (option_map string_bytes step.line)
@@ -415,7 +417,7 @@ pub lines_item : (files : Files) (form : Form) (path text : List ℕ) (trees : L
 lines_item files form path text trees lines more old new inside levels less once twice step depth takes of h split deep
     put begins pushed again =
     let found : List Entry =
-    h.found ++ listed (is_listed takes.kind takes.name) (entry_of (length less) takes.kind takes.name takes.header) in
+    h.found ++ lists (is_listed takes.kind takes.name) (entry_of (length less) takes.kind takes.name takes.header) in
     record {
       found = found;
       are = lines_put files form path text lines more h.found (level_left old) step depth (length less) takes of deep
@@ -425,7 +427,7 @@ lines_item files form path text trees lines more old new inside levels less once
     }
 
 pub lines_alone : (files : Files) (form : Form) (path text : List ℕ) (trees : List TokenTree)
-    (lines more : List (List ℕ)) (old new : Level) (levels less once : List Level) (step : Step)
+    (lines more : List (List ℕ)) (old new : Level) (levels less once : List Level) (step : ReadItem)
     (depth : ℕ) (takes : Takes files form path depth (level_left old) step) → files ≡ with_file new_map text
     → CompletesLines form path text trees lines (stack level_left levels) → levels ≡ less ++ old ∷ []
     → depth ≡ length less → more ≡ lines ++ option_to_list (option_map string_bytes step.line)
@@ -434,7 +436,7 @@ pub lines_alone : (files : Files) (form : Form) (path text : List ℕ) (trees : 
 lines_alone files form path text trees lines more old new levels less once step depth takes of h split deep put begins
     pushed =
     let found : List Entry =
-    h.found ++ listed (is_listed takes.kind takes.name) (entry_of (length less) takes.kind takes.name takes.header) in
+    h.found ++ lists (is_listed takes.kind takes.name) (entry_of (length less) takes.kind takes.name takes.header) in
     record {
       found = found;
       are = lines_put files form path text lines more h.found (level_left old) step depth (length less) takes of deep
@@ -444,11 +446,11 @@ lines_alone files form path text trees lines more old new levels less once step 
     }
 
 pub one_listed : (form : Form) (path text : List ℕ) (is : Bool) (entry : Entry) (line : Option (List ℕ)) → true ≡ is
-    → line ≡ line_of form path (shown text entry)
-    → option_to_list line ≡ lines_of form path text (listed is entry)
+    → line ≡ line_of form path (shown_line text entry)
+    → option_to_list line ≡ lines_of form path text (lists is entry)
 one_listed form path text is entry line put so =
-    ap option_to_list so ∙ sym (append-nil (option_to_list (line_of form path (shown text entry))))
-    ∙ ap (λ b. lines_of form path text (listed b entry)) put
+    ap option_to_list so ∙ sym (append-nil (option_to_list (line_of form path (shown_line text entry))))
+    ∙ ap (λ b. lines_of form path text (lists b entry)) put
 
 -- ---- the results of calls
 
@@ -479,10 +481,10 @@ none_weaker (Ok (Ok x)) P Q f h = tt
 none_weaker (Ok (Err y)) P Q f h = f y h
 none_weaker (Err e) P Q f h = tt
 
-pub stopped : {T : Type 0} (of : T → List TokenTree) (trees : List TokenTree) (old : T) (levels less : List T)
+pub stop_holds : {T : Type 0} (of : T → List TokenTree) (trees : List TokenTree) (old : T) (levels less : List T)
     → Requires trees (stack of levels) → levels ≡ less ++ old ∷ [] → (of old ≡ [] → ⊥) → IsStopped (of old)
     → (whole : Outline) → IsTreesOutline trees whole → ⊥
-stopped of trees old levels less h split some (inl never) = item_stops of trees old levels less h split some never
-stopped of trees old levels less h split some (inr closed) =
+stop_holds of trees old levels less h split some (inl never) = item_stops of trees old levels less h split some never
+stop_holds of trees old levels less h split some (inr closed) =
     closed_stops of trees old levels less closed.part closed.rest closed.kind closed.name h split closed.read
-    closed.told closed.never
+    closed.kind_and_name closed.never

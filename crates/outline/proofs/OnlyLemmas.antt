@@ -20,10 +20,10 @@ use Rattle.declarations.specs.Reading.{Reads}
 use Rattle.declarations.specs.Signs.{Sign, classes_of, signs}
 use Rattle.declarations.specs.Walk.{walk}
 use Rattle.declarations.specs.declared.any_item.ItemKind.{ItemKind}
-use Rattle.declarations.specs.declared.place.Place.{Place}
-use Rattle.declarations.specs.declared.place.Rule.TheVariants as rules
-use Rattle.declarations.specs.declared.place.State.TheVariants as states
-use Rattle.declarations.specs.declared.place.Spot.TheVariants as spots
+use Rattle.declarations.specs.declared.walk_state.WalkState.{WalkState}
+use Rattle.declarations.specs.declared.walk_state.Continuation.TheVariants as rules
+use Rattle.declarations.specs.declared.walk_state.State.TheVariants as states
+use Rattle.declarations.specs.declared.walk_state.Spot.TheVariants as spots
 use Rattle.outline.specs.Hollow.{trees_in}
 use Rattle.outline.specs.Outline.{AreInside, AreTrees, BeginsWithItem, IsOutline, IsTreesOutline, NeverIs, Outline}
 use Rattle.outline.specs.Outline.{item, nothing}
@@ -90,7 +90,7 @@ kind_only trees rest kind kind2 name name2 one other =
     let walks : Some other.last ≡ Some one.last =
     sym other.walked.walks ∙ ap (λ (f : List Sign). walk step any_item (classes_of f)) fronts ∙ one.walked.walks in
     let last : other.last ≡ one.last = cc in
-    other.is ∙ ap (λ (p : Place). kind_of p.item) last ∙ sym one.is
+    other.is ∙ ap (λ (p : WalkState). kind_of p.item) last ∙ sym one.is
 
 -- ---- an outline of all trees gives outlines of the trees that are left
 
@@ -135,8 +135,9 @@ requires-item old new inside kind name header nothing found is =
 requires-item old new inside kind name header (item kind2 name2 header2 within after) found
     (items, rest, begins, is_within, is_after) =
     let only = split_only any_item old found.part new found.read begins.part rest begins.read in
-    let told2 : Tells old new kind2 name2 = subst (λ ts. Tells old ts kind2 name2) only.1 begins.told in
-    let kinds : kind2 ≡ kind = kind_only old new kind kind2 name name2 found.told told2 in
+    let kind_and_name2 : Tells old new kind2 name2 =
+    subst (λ ts. Tells old ts kind2 name2) only.1 begins.kind_and_name in
+    let kinds : kind2 ≡ kind = kind_only old new kind kind2 name name2 found.kind_and_name kind_and_name2 in
     let holds : AreInside (body_of kind found.part) items =
     subst (λ k. AreInside (body_of k found.part) items) kinds
     (subst (λ ts. AreInside (body_of kind2 ts) items) only.0 begins.inside) in
@@ -200,13 +201,15 @@ item_stops of trees old levels less h split some never whole is =
 first-closed : (old new part : List TokenTree) (outer : List (List TokenTree)) (kind : ItemKind) (name : Option Name)
     → Reads IsAnyItem old part new → Tells old new kind name → NeverIs kind part
     → (os : List Outline) × AreOutlines (old ∷ outer) os → ⊥
-first-closed old new part outer kind name reads told never ([], are) = are
-first-closed old new part outer kind name reads told never (nothing ∷ os, are) = not_before old part new reads are.0
-first-closed old new part outer kind name reads told never
+first-closed old new part outer kind name reads kind_and_name never ([], are) = are
+first-closed old new part outer kind name reads kind_and_name never (nothing ∷ os, are) =
+    not_before old part new reads are.0
+first-closed old new part outer kind name reads kind_and_name never
     (item kind2 name2 header within after ∷ os, ((items, rest, begins, is, also), more)) =
     let only = split_only any_item old part new reads begins.part rest begins.read in
-    let told2 : Tells old new kind2 name2 = subst (λ ts. Tells old ts kind2 name2) only.1 begins.told in
-    let kinds : kind2 ≡ kind = kind_only old new kind kind2 name name2 told told2 in
+    let kind_and_name2 : Tells old new kind2 name2 =
+    subst (λ ts. Tells old ts kind2 name2) only.1 begins.kind_and_name in
+    let kinds : kind2 ≡ kind = kind_only old new kind kind2 name name2 kind_and_name kind_and_name2 in
     never begins.attributes header items
     (subst (λ ts. Reads AreAttributes ts begins.attributes header) only.0 begins.front)
     (subst (λ k. AreInside (body_of k part) items) kinds
@@ -217,8 +220,8 @@ pub closed_stops : {T : Type 0} (of : T → List TokenTree) (trees : List TokenT
     → Requires trees (stack of levels) → levels ≡ less ++ old ∷ []
     → Reads IsAnyItem (of old) part new → Tells (of old) new kind name → NeverIs kind part
     → (whole : Outline) → IsTreesOutline trees whole → ⊥
-closed_stops of trees old levels less part new kind name h split reads told never whole is =
-    first-closed (of old) new part (stack of less) kind name reads told never
+closed_stops of trees old levels less part new kind name h split reads kind_and_name never whole is =
+    first-closed (of old) new part (stack of less) kind name reads kind_and_name never
     (subst (λ ls. (os : List Outline) × AreOutlines ls os) (stack_last of levels less old split) (h whole is))
 
 -- ---- whether trees are left

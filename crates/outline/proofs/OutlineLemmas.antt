@@ -16,7 +16,7 @@ use Rattle.declarations.specs.declared.any_item.ItemKind.{ItemKind}
 use Rattle.declarations.specs.declared.file.Items.{Items}
 use Rattle.outline.specs.Outline.{BeginsWithItem, Entry, IsOutline, IsTreesOutline, Opens, Outline}
 use Rattle.outline.specs.Outline.{entries_of, entries_onto, entry_of}
-use Rattle.outline.specs.Outline.{is_listed, item, last_of, listed, nothing, seen}
+use Rattle.outline.specs.Outline.{is_listed, item, last_of, lists, nothing, entry_of_value}
 use Rattle.outline.specs.declared.entries.Entry.{Entry as Given}
 
 -- the outlines are those of the trees that are left, the innermost first
@@ -99,19 +99,19 @@ same_name : (name : Option Name) (given : Option (Bor Name))
 same_name name None is = is
 same_name name (Some ident) is = is
 
-pub told_copied : (trees rest : List TokenTree) (it : AnyItem) → TellsOf trees rest it
+pub kind_and_name_copied : (trees rest : List TokenTree) (it : AnyItem) → TellsOf trees rest it
     → Tells trees rest it.kind (option_copied it.name)
-told_copied trees rest it told =
-    subst (λ name. Tells trees rest it.kind name) (same_name told.0 it.name told.2) told.1
+kind_and_name_copied trees rest it kind_and_name =
+    subst (λ name. Tells trees rest it.kind name) (same_name kind_and_name.0 it.name kind_and_name.2) kind_and_name.1
 
 pub begins_with : (trees rest : List TokenTree) (depth : ℕ) (it : AnyItem) (entry : Given) (inside : Items)
     → Reads IsAnyItem trees it.trees.now rest → TellsOf trees rest it → Opens depth it entry inside
     → BeginsWithItem trees it.kind (option_copied it.name) entry.header.now inside.left.now rest
-begins_with trees rest depth it entry inside reads told opens = record {
+begins_with trees rest depth it entry inside reads kind_and_name opens = record {
   part = it.trees.now;
   attributes = opens.attributes;
   read = reads;
-  told = told_copied trees rest it told;
+  kind_and_name = kind_and_name_copied trees rest it kind_and_name;
   front = opens.front;
   inside = opens.holds;
 }
@@ -125,7 +125,7 @@ as_many (items ∷ outer) (o ∷ os) are = ap suc (as_many outer os are.1)
 -- the declarations so far, and then this one if it is listed
 abbrev pub IsPut : List Entry → List Entry → ℕ → ItemKind → Option Name → List TokenTree → Type 0
 IsPut found more depth kind name header =
-    more ≡ found ++ listed (is_listed kind name) (entry_of depth kind name header)
+    more ≡ found ++ lists (is_listed kind name) (entry_of depth kind name header)
 
 completes-item : (trees : List TokenTree) (found more : List Entry) (old new inside : List TokenTree)
     (outer : List (List TokenTree)) (kind : ItemKind) (name : Option Name) (header : List TokenTree)
@@ -136,8 +136,8 @@ completes-item trees found more old new inside outer kind name header h begins p
 completes-item trees found more old new inside outer kind name header h begins put (o ∷ after ∷ os) are =
     let all = h (item kind name header o after ∷ os) ((inside, new, begins, are.0, are.1.0), are.1.1) in
     let later : List Entry = entries_onto (suc (length os)) o (entries_onto (length os) after (rests os)) in
-    let here : more ≡ found ++ listed (is_listed kind name) (entry_of (length os) kind name header) =
-    put ∙ ap (λ n. found ++ listed (is_listed kind name) (entry_of n kind name header)) (as_many outer os are.1.1) in (
+    let here : more ≡ found ++ lists (is_listed kind name) (entry_of (length os) kind name header) =
+    put ∙ ap (λ n. found ++ lists (is_listed kind name) (entry_of n kind name header)) (as_many outer os are.1.1) in (
       all.0,
       all.1,
       ap (λ xs. xs ++ later) here ∙ append_assoc found _ later ∙ all.2,
@@ -173,11 +173,14 @@ completes_alone of trees found more old new levels less once kind name header h 
 -- the entry of an item is appended if it is listed
 pub is_put : (found more : List Given) (entry : Given) (depth size : ℕ) (it : AnyItem) (inside : Items)
     → Opens depth it entry inside → depth ≡ size
-    → map seen more ≡ map seen found ++ listed (is_listed entry.kind (option_copied entry.name)) (seen entry)
-    → IsPut (map seen found) (map seen more) size it.kind (option_copied it.name) entry.header.now
+    → map entry_of_value more ≡ map entry_of_value found
+    ++ lists (is_listed entry.kind (option_copied entry.name)) (entry_of_value entry)
+    → IsPut (map entry_of_value found) (map entry_of_value more) size it.kind (option_copied it.name) entry.header.now
 is_put found more entry depth size it inside opens deep put =
-    subst (λ n. IsPut (map seen found) (map seen more) n it.kind (option_copied it.name) entry.header.now) deep
-    (subst (λ (e : Entry). map seen more ≡ map seen found ++ listed (is_listed e.kind e.name) e) opens.is put)
+    subst (λ n. IsPut (map entry_of_value found) (map entry_of_value more) n it.kind (option_copied it.name)
+    entry.header.now) deep
+    (subst (λ (e : Entry). map entry_of_value more ≡ map entry_of_value found ++ lists (is_listed e.kind e.name) e)
+    opens.is put)
 
 -- ---- the last tree but one
 

@@ -9,7 +9,7 @@ use Rattle.std.specs.Str.{chars}
 use Rattle.pm_span.specs.CharOffset.{between, line_column}
 use Rattle.pm_span.specs.Extent.{Extent, nowhere}
 use Rattle.pm_span.specs.Files.{Holds, IsFile, new_map, positions, with_file}
-use Rattle.pm_span.specs.Lookup.{AreInOneFile, HasText, StartsAt, joined}
+use Rattle.pm_span.specs.Lookup.{AreInOneFile, HasText, StartsAt, covering_span}
 use Rattle.pm_span.specs.declared.location.LineColumn.{LineColumn}
 use Rattle.messages.specs.Parsed.{first, line_column_of}
 use Rattle.outline.specs.Answer.{is_in, place_in, through}
@@ -119,22 +119,22 @@ through_if text from to both is =
 -- both spans are in the text, or in no file
 one_file : (text : List ℕ) (from to : Extent) → AreInOneFile (with_file new_map text) from to
     → ((is_in text from ≡ true) × (is_in text to ≡ true))
-    ⊎ (((is_in text from && is_in text to) ≡ false) × (joined from to ≡ nowhere))
+    ⊎ (((is_in text from && is_in text to) ≡ false) × (covering_span from to ≡ nowhere))
 one_file text from to one = by_file (one_of_two text one.text one.lo one.file)
   where
     by_lo : (a b c d : ℕ) → c ≡ 0 → d ≡ 0
         → ((is_in text (record { lo = a; hi = c }) ≡ true) × (is_in text (record { lo = b; hi = d }) ≡ true))
         ⊎ (((is_in text (record { lo = a; hi = c }) && is_in text (record { lo = b; hi = d })) ≡ false)
-        × (joined (record { lo = a; hi = c }) (record { lo = b; hi = d }) ≡ nowhere))
+        × (covering_span (record { lo = a; hi = c }) (record { lo = b; hi = d }) ≡ nowhere))
     by_lo zero b c d none also =
         let least : min 0 b ≡ 0 = min-eq_left (omega arith) in inr (
           refl,
-          ap₂ (λ (x y : ℕ). joined (record { lo = 0; hi = x }) (record { lo = b; hi = y })) none also
+          ap₂ (λ (x y : ℕ). covering_span (record { lo = 0; hi = x }) (record { lo = b; hi = y })) none also
               ∙ ap (λ (n : ℕ). record { lo = n; hi = 0 }) least,
         )
     by_lo (suc a) zero c d none also = inr (
       and-false (is_in text (record { lo = suc a; hi = c })),
-      ap₂ (λ (x y : ℕ). joined (record { lo = suc a; hi = x }) (record { lo = 0; hi = y })) none also
+      ap₂ (λ (x y : ℕ). covering_span (record { lo = suc a; hi = x }) (record { lo = 0; hi = y })) none also
           ∙ ap (λ (n : ℕ). record { lo = n; hi = 0 }) (min-zero (suc a)),
     )
     by_lo (suc a) (suc b) c d none also = inl (
@@ -144,7 +144,7 @@ one_file text from to one = by_file (one_of_two text one.text one.lo one.file)
 
     by_file : ((one.text ≡ text) × (one.lo ≡ 1)) ⊎ ((one.text ≡ []) × (one.lo ≡ 0))
         → ((is_in text from ≡ true) × (is_in text to ≡ true))
-        ⊎ (((is_in text from && is_in text to) ≡ false) × (joined from to ≡ nowhere))
+        ⊎ (((is_in text from && is_in text to) ≡ false) × (covering_span from to ≡ nowhere))
     by_file (inl (same, first_one)) =
         let size : length one.text ≡ length text = ap length same in inl (
           bounds_in text from (omega (arith, one.first_from, first_one))
@@ -190,11 +190,11 @@ through_apart text from to never =
 
 -- the two spans join to a span in no file
 pub through_nowhere : (text : List ℕ) (from to span : Extent) → AreInOneFile (with_file new_map text) from to
-    → span ≡ joined from to → span ≡ nowhere → chars [] ≡ through text from to
+    → span ≡ covering_span from to → span ≡ nowhere → chars [] ≡ through text from to
 through_nowhere text from to span one joins none = by_file (one_file text from to one)
   where
     by_file : (((is_in text from ≡ true) × (is_in text to ≡ true))
-        ⊎ (((is_in text from && is_in text to) ≡ false) × (joined from to ≡ nowhere)))
+        ⊎ (((is_in text from && is_in text to) ≡ false) × (covering_span from to ≡ nowhere)))
         → chars [] ≡ through text from to
     by_file (inl (is, also)) =
         let least : 1 ≤ min from.lo to.lo = le-min (in_bounds text from is).0 (in_bounds text to also).0 in
@@ -204,17 +204,17 @@ through_nowhere text from to span one joins none = by_file (one_file text from t
 
 -- the two spans join to a span in the text
 pub through_some : (text source : List ℕ) (from to span : Extent) → AreInOneFile (with_file new_map text) from to
-    → span ≡ joined from to → span ≢ nowhere → HasText (with_file new_map text) span (chars source)
+    → span ≡ covering_span from to → span ≢ nowhere → HasText (with_file new_map text) span (chars source)
     → chars source ≡ through text from to
 through_some text source from to span one joins some has = by_file (one_file text from to one)
   where
     by_file : (((is_in text from ≡ true) × (is_in text to ≡ true))
-        ⊎ (((is_in text from && is_in text to) ≡ false) × (joined from to ≡ nowhere)))
+        ⊎ (((is_in text from && is_in text to) ≡ false) × (covering_span from to ≡ nowhere)))
         → chars source ≡ through text from to
     by_file (inl (is, also)) =
         let one_bounds = in_bounds text from is in
         let other_bounds = in_bounds text to also in
-        let has_joined : HasText (with_file new_map text) (joined from to) (chars source) =
+        let has_joined : HasText (with_file new_map text) (covering_span from to) (chars source) =
         subst (λ (e : Extent). HasText (with_file new_map text) e (chars source)) joins has in
         has_joined text 1 (is_text text) (le-min one_bounds.0 other_bounds.0) (max-le one_bounds.1 other_bounds.1)
         ∙ sym (through_if text from to true (ap₂ (λ (a b : Bool). a && b) is also))

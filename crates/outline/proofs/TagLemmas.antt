@@ -11,28 +11,28 @@ use Rattle.std.specs.Cmp.Lexicographic.{slice_cmp}
 use Rattle.std.specs.List.Sorted.{IsSorted}
 use Rattle.std.specs.Ordering.{is_lt, nat_cmp}
 use Rattle.std.specs.String.{string_cmp}
-use Rattle.outline.specs.Tags.{ended}
+use Rattle.outline.specs.Tags.{lines_text}
 
 -- the lines from one on are written as this line and then the next lines
 pub ended_one : (lines : List (String Global)) (k : ℕ) (line : String Global) (old between new : Option (List ℕ))
     → k < length lines → line ≡ get_or lines k line
     → Appends old between (string_bytes line ++ codes "\n")
-    → Appends between new (ended (map string_bytes (drop (k + 1) lines)))
-    → Appends old new (ended (map string_bytes (drop k lines)))
+    → Appends between new (lines_text (map string_bytes (drop (k + 1) lines)))
+    → Appends old new (lines_text (map string_bytes (drop k lines)))
 ended_one lines k line old between new within is first rest =
     let next : suc k ≡ k + 1 = omega arith in
     let split : drop k lines ≡ line ∷ drop (k + 1) lines =
     drop-cons lines k line within ∙ (ap (λ x. x ∷ drop (suc k) lines) (sym is)
     ∙ ap (λ n. line ∷ drop n lines) next) in
-    subst (λ l. Appends old new (ended (map string_bytes l))) (sym split)
+    subst (λ l. Appends old new (lines_text (map string_bytes l))) (sym split)
     (subst (Appends old new) (append_assoc (string_bytes line) (codes "\n")
-    (ended (map string_bytes (drop (k + 1) lines)))) (Appends-trans _ _ _ _ _ first rest))
+    (lines_text (map string_bytes (drop (k + 1) lines)))) (Appends-trans _ _ _ _ _ first rest))
 
 -- no line is left
 pub ended_none : (lines : List (String Global)) (k : ℕ) (known : Option (List ℕ)) → length lines ≤ k
-    → Appends known known (ended (map string_bytes (drop k lines)))
+    → Appends known known (lines_text (map string_bytes (drop k lines)))
 ended_none lines k known past =
-    subst (λ l. Appends known known (ended (map string_bytes l))) (sym (drop_of_length-le lines past))
+    subst (λ l. Appends known known (lines_text (map string_bytes l))) (sym (drop_of_length-le lines past))
     (Appends-nil known)
 
 -- lines in the order of strings are in the order of their bytes

@@ -40,8 +40,8 @@ name_in text (Some name) header = spelling name
 name_in text None header = one_line false (through text (first_of header) (last_of header))
 
 -- a declaration as it is shown
-abbrev pub shown : List ℕ → Entry → Line
-shown text entry = record {
+abbrev pub shown_line : List ℕ → Entry → Line
+shown_line text entry = record {
   depth = entry.depth;
   kind = entry.kind;
   named = is_some entry.name;
@@ -53,7 +53,7 @@ shown text entry = record {
 abbrev pub lines_of : Form → List ℕ → List ℕ → List Entry → List (List ℕ)
 lines_of form path text [] = []
 lines_of form path text (entry ∷ entries) =
-    option_to_list (line_of form path (shown text entry)) ++ lines_of form path text entries
+    option_to_list (line_of form path (shown_line text entry)) ++ lines_of form path text entries
 
 -- ---- all declarations of a text
 

@@ -2,7 +2,7 @@
 use Rattle.std.specs.Prelude.{ℕ, ◌≡◌, ◌⊎◌, List, [], ◌∷◌, ◌++◌, Option, map, max, string_bytes}
 use Rattle.std.specs.Io.KnownBytes.{Appends}
 use Rattle.outline.specs.Answer.{Lists}
-use Rattle.outline.specs.Tags.{WritesTags, ended}
+use Rattle.outline.specs.Tags.{WritesTags, lines_text}
 use Rattle.outline.specs.declared.files.Listed.{Listed}
 use Rattle.outline.specs.declared.options.Form.{Form}
 use Rattle.outline.specs.declared.options.Form.TheVariants.{Lines, Json, Ctags}
@@ -41,6 +41,6 @@ worst (outcome ∷ outcomes) = max outcome.status (worst outcomes)
 
 -- the lines are written to the output: each with its end, or as a `tags` file
 abbrev pub Writes : Form → List (List ℕ) → Option (List ℕ) → Option (List ℕ) → Type 0
-Writes Lines lines old new = Appends old new (ended lines)
-Writes Json lines old new = Appends old new (ended lines)
+Writes Lines lines old new = Appends old new (lines_text lines)
+Writes Json lines old new = Appends old new (lines_text lines)
 Writes Ctags lines old new = WritesTags lines old new

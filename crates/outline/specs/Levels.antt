@@ -15,9 +15,9 @@ use Rattle.declarations.specs.Reading.{Reads}
 use Rattle.declarations.specs.declared.any_item.ItemKind.{ItemKind}
 use Rattle.outline.specs.Answer.{lines_of}
 use Rattle.outline.specs.Hollow.{trees_in}
-use Rattle.outline.specs.Outline.{NeverIs, entry_of, is_listed, listed}
+use Rattle.outline.specs.Outline.{NeverIs, entry_of, is_listed, lists}
 use Rattle.outline.specs.declared.level.Level.{Level}
-use Rattle.outline.specs.declared.levels.Step.{Step}
+use Rattle.outline.specs.declared.levels.ReadItem.{ReadItem}
 use Rattle.outline.specs.declared.options.Form.{Form}
 
 -- the trees that a cursor has left
@@ -33,7 +33,7 @@ abbrev pub BeginsWith : Cursor → Grouped → Type 0
 BeginsWith cursor group = (rest : List TokenTree) × (trees_left cursor ≡ Group group ∷ rest)
 
 -- the step takes the item at the start of the trees, which is in `depth` declarations, and has the line of this item
-pub record Takes (files : Files) (form : Form) (path : List ℕ) (depth : ℕ) (trees : List TokenTree) (step : Step)
+pub record Takes (files : Files) (form : Form) (path : List ℕ) (depth : ℕ) (trees : List TokenTree) (step : ReadItem)
     : Type 0 where
   pub part : List TokenTree
   pub rest : List TokenTree
@@ -42,13 +42,13 @@ pub record Takes (files : Files) (form : Form) (path : List ℕ) (depth : ℕ) (
   pub attributes : List TokenTree
   pub header : List TokenTree
   pub read : Reads IsAnyItem trees part rest
-  pub told : Tells trees rest kind name
+  pub kind_and_name : Tells trees rest kind name
   pub front : Reads AreAttributes part attributes header
   pub counted : step.count ≡ length part
   pub some : 0 < step.count
   pub body : step.has_body ≡ is_some (body_of kind part)
   pub line : (text : List ℕ) → files ≡ with_file new_map text → option_to_list (option_map string_bytes step.line)
-      ≡ lines_of form path text (listed (is_listed kind name) (entry_of depth kind name header))
+      ≡ lines_of form path text (lists (is_listed kind name) (entry_of depth kind name header))
 
 -- the trees begin with an item that has no outline
 pub record IsClosed (trees : List TokenTree) : Type 0 where
@@ -57,7 +57,7 @@ pub record IsClosed (trees : List TokenTree) : Type 0 where
   pub kind : ItemKind
   pub name : Option Name
   pub read : Reads IsAnyItem trees part rest
-  pub told : Tells trees rest kind name
+  pub kind_and_name : Tells trees rest kind name
   pub never : NeverIs kind part
 
 -- the trees begin with no item, or with one that has no outline

@@ -4,7 +4,7 @@ use Rattle.std.specs.Prelude.{codes, decimal, encode_utf8, min, nat_le, if◌the
 use Rattle.proc_macro2.specs.declared.LineColumn.{LineColumn}
 use Rattle.declarations.specs.declared.any_item.ItemKind.{ItemKind}
 use Rattle.declarations.specs.declared.any_item.ItemKind.TheVariants as kinds
-use Rattle.messages.specs.Json.{escaped}
+use Rattle.messages.specs.Json.{json_escape}
 use Rattle.outline.specs.declared.lines.Shown.{Shown}
 use Rattle.outline.specs.declared.options.Form.{Form}
 use Rattle.outline.specs.declared.options.Form.TheVariants.{Lines, Json, Ctags}
@@ -19,8 +19,8 @@ pub record Line : Type 0 where
   pub start : LineColumn
 
 -- the program's record of a shown declaration, as a `Line`
-abbrev pub seen : Shown → Line
-seen x = record {
+abbrev pub line_of_value : Shown → Line
+line_of_value x = record {
   depth = x.depth;
   kind = x.kind;
   named = x.named;
@@ -70,9 +70,9 @@ plain path x =
 -- the declaration as a JSON object
 abbrev pub json : List ℕ → Line → List ℕ
 json path x =
-    codes "{\"file\":\"" ++ (escaped path ++ (codes "\",\"line\":" ++ (decimal x.start.line ++ (codes ",\"column\":"
+    codes "{\"file\":\"" ++ (json_escape path ++ (codes "\",\"line\":" ++ (decimal x.start.line ++ (codes ",\"column\":"
     ++ (decimal (x.start.column + 1) ++ (codes ",\"kind\":\"" ++ (word_of x.kind ++ (codes "\",\"name\":\""
-    ++ (escaped x.name ++ (codes "\",\"depth\":" ++ (decimal x.depth ++ codes "}")))))))))))
+    ++ (json_escape x.name ++ (codes "\",\"depth\":" ++ (decimal x.depth ++ codes "}")))))))))))
 
 -- the line of a declaration in a `tags` file
 abbrev pub tag : List ℕ → Line → List ℕ

@@ -8,8 +8,8 @@ use Rattle.messages.specs.declared.errors.Failure.TheVariants.{Usage}
 use Rattle.outline.specs.declared.options.Form.{Form}
 use Rattle.outline.specs.declared.options.Form.TheVariants.{Lines, Json, Ctags}
 use Rattle.outline.specs.declared.options.Options.{Options}
-use Rattle.outline.specs.declared.options.Word.{Word}
-use Rattle.outline.specs.declared.options.Word.TheVariants as words
+use Rattle.outline.specs.declared.options.ArgumentKind.{ArgumentKind}
+use Rattle.outline.specs.declared.options.ArgumentKind.TheVariants as words
 
 -- ---- one argument
 
@@ -17,10 +17,10 @@ abbrev pub is_same : List ℕ → List ℕ → Bool
 is_same a b = pointwise nat_eq a b
 
 -- the meaning of an argument that is no known option: it is a path, unless it begins with `-` (45) and is longer
-abbrev pub other_word : List ℕ → Word
+abbrev pub other_word : List ℕ → ArgumentKind
 other_word word = if (slice_index word 0 == 45) && not (length word == 1) then words.Unknown else words.Path
 
-abbrev pub word_of : List ℕ → Word
+abbrev pub word_of : List ℕ → ArgumentKind
 word_of word =
     if is_same word (codes "--json") then words.Json
     else (if is_same word (codes "--ctags") then words.Ctags else other_word word)
@@ -37,7 +37,7 @@ abbrev pub no_wish : Wishes
 no_wish = record { form = Lines; paths = [] }
 
 -- what is said after one more argument with this meaning
-abbrev pub with_word : Word → List ℕ → Wishes → Wishes
+abbrev pub with_word : ArgumentKind → List ℕ → Wishes → Wishes
 with_word words.Json word w = record { form = Json; paths = w.paths }
 with_word words.Ctags word w = record { form = Ctags; paths = w.paths }
 with_word words.Unknown word w = w
@@ -52,7 +52,7 @@ abbrev pub or_input : Wishes → Wishes
 or_input w = record { form = w.form; paths = or_dash w.paths }
 
 -- nothing if the argument is unknown, and otherwise what the next arguments say
-abbrev pub unless_unknown : Word → Option Wishes → Option Wishes
+abbrev pub unless_unknown : ArgumentKind → Option Wishes → Option Wishes
 unless_unknown words.Unknown next = None
 unless_unknown _ next = next
 

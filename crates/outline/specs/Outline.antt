@@ -44,7 +44,7 @@ pub record BeginsWithItem (trees : List TokenTree) (kind : ItemKind) (name : Opt
   pub part : List TokenTree
   pub attributes : List TokenTree
   pub read : Reads IsAnyItem trees part rest
-  pub told : Tells trees rest kind name
+  pub kind_and_name : Tells trees rest kind name
   pub front : Reads AreAttributes part attributes header
   pub inside : AreInside (body_of kind part) items
 
@@ -84,22 +84,22 @@ entry_of depth kind name header = record {
   header = header;
 }
 
-abbrev pub listed : Bool → Entry → List Entry
-listed is entry = if is then entry ∷ [] else []
+abbrev pub lists : Bool → Entry → List Entry
+lists is entry = if is then entry ∷ [] else []
 
 -- the declarations of an outline, each before those in it, and then `more`. `depth` is the number that they are in
 abbrev pub entries_onto : ℕ → Outline → List Entry → List Entry
 entries_onto depth nothing more = more
 entries_onto depth (item kind name header inside after) more =
-    listed (is_listed kind name) (entry_of depth kind name header)
+    lists (is_listed kind name) (entry_of depth kind name header)
     ++ entries_onto (suc depth) inside (entries_onto depth after more)
 
 abbrev pub entries_of : Outline → List Entry
 entries_of outline = entries_onto 0 outline []
 
 -- the program's record of a declaration, as an `Entry`
-abbrev pub seen : Given → Entry
-seen entry = record {
+abbrev pub entry_of_value : Given → Entry
+entry_of_value entry = record {
   depth = entry.depth;
   kind = entry.kind;
   name = option_copied entry.name;
@@ -110,7 +110,7 @@ seen entry = record {
 pub record Opens (depth : ℕ) (item : AnyItem) (entry : Given) (inside : Items) : Type 0 where
   pub attributes : List TokenTree
   pub front : Reads AreAttributes item.trees.now attributes entry.header.now
-  pub is : seen entry ≡ entry_of depth item.kind (option_copied item.name) entry.header.now
+  pub is : entry_of_value entry ≡ entry_of depth item.kind (option_copied item.name) entry.header.now
   pub holds : AreInside (body_of item.kind item.trees.now) inside.left.now
 
 -- an item of this kind with these trees has no outline: its attributes cannot be read, or the trees in its braces are

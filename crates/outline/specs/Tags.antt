@@ -6,13 +6,13 @@ use Rattle.std.specs.List.Sorted.{IsPermutation, IsSorted}
 use Rattle.std.specs.Ordering.{nat_cmp}
 
 -- the lines, each with its end
-abbrev pub ended : List (List ℕ) → List ℕ
-ended [] = []
-ended (line ∷ lines) = line ++ (codes "\n" ++ ended lines)
+abbrev pub lines_text : List (List ℕ) → List ℕ
+lines_text [] = []
+lines_text (line ∷ lines) = line ++ (codes "\n" ++ lines_text lines)
 
 -- the text of a `tags` file with these lines
 abbrev pub tags : List (List ℕ) → List ℕ
-tags lines = codes "!_TAG_FILE_SORTED\t1\t//\n" ++ ended lines
+tags lines = codes "!_TAG_FILE_SORTED\t1\t//\n" ++ lines_text lines
 
 -- a `tags` file with these lines, in the order of their bytes, is written between `old` and `new`
 pub record WritesTags (lines : List (List ℕ)) (old new : Option (List ℕ)) : Type 0 where

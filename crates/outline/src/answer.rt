@@ -5,9 +5,9 @@ ghost use Rattle.std.specs.Str.{chars};
 ghost use Rattle.pm_span.specs.Files.{new_map, with_file};
 ghost use Rattle.pm_token.specs.Spelling.{spelling};
 ghost use Rattle.messages.specs.Parsed.{MayFail};
-ghost use Rattle.outline.specs.Answer.{IsUnlisted, Lists, lines_of, place_in, shown, through};
-ghost use Rattle.outline.specs.Line.{line_of, seen as seen_line};
-ghost use Rattle.outline.specs.Outline.{first_of, last_of, seen};
+ghost use Rattle.outline.specs.Answer.{IsUnlisted, Lists, lines_of, place_in, shown_line, through};
+ghost use Rattle.outline.specs.Line.{line_of, line_of_value as seen_line};
+ghost use Rattle.outline.specs.Outline.{first_of, last_of, entry_of_value};
 
 use crate::entries::{Entry, Stop, entries, first_of, last_of};
 use crate::levels::lines_in;
@@ -50,12 +50,12 @@ pub fn lines_of(
     let map = map_of(alloc, text)?;
     let buffer = match TokenBuffer::new(alloc, text) {
         Ok(buffer) => buffer,
-        Err(BufferError::Parse(error)) => return Err(Failure::unparsed(error, &map)),
+        Err(BufferError::Parse(error)) => return Err(Failure::parse_failure(error, &map)),
         Err(BufferError::TooLong) => return lines_by_trees(alloc, form, path, text),
     };
     match lines_in(alloc, form, path, &map, buffer.begin())? {
         Ok(lines) => Ok(Ok(lines)),
-        Err(stop) => Ok(Err(stop.unlisted(&map))),
+        Err(stop) => Ok(Err(stop.at_position(&map))),
     }
 }
 
@@ -87,11 +87,11 @@ fn lines_by_trees(
     let mut map = SourceMap::new(alloc);
     let stream = match TokenStream::from_str(text, &mut map) {
         Ok(stream) => stream,
-        Err(error) => return Err(Failure::unparsed(error, &map)),
+        Err(error) => return Err(Failure::parse_failure(error, &map)),
     };
     match entries(alloc, stream.trees())? {
         Ok(entries) => Ok(Ok(all_lines(alloc, form, path, &map, entries.as_slice())?)),
-        Err(stop) => Ok(Err(stop.unlisted(&map))),
+        Err(stop) => Ok(Err(stop.at_position(&map))),
     }
 }
 
@@ -104,7 +104,7 @@ fn all_lines(
     entries: &[Entry<'_>],
 ) -> Result<Vec<String>, AllocError>
     ensures { (text : List ℕ) → map.now ≡ with_file new_map text → IfOk result (λ lines.
-        mapped string_bytes lines.items ≡ lines_of form path.now text (mapped seen entries.now)) }
+        mapped string_bytes lines.items ≡ lines_of form path.now text (mapped entry_of_value entries.now)) }
 {
     let mut lines = Vec::new(alloc);
     for entry in entries {
@@ -124,24 +124,24 @@ pub fn entry_line(
     entry: &Entry<'_>,
 ) -> Result<Option<String>, AllocError>
     ensures { (text : List ℕ) → map.now ≡ with_file new_map text → IfOk result (λ line.
-        option_map string_bytes line ≡ line_of form path.now (shown text (seen entry.now))) }
+        option_map string_bytes line ≡ line_of form path.now (shown_line text (entry_of_value entry.now))) }
 {
     let start = start_of(first_of(entry.header), map);
     match entry.name {
         Some(name) => {
-            let name = spelled(alloc, name)?;
-            line_of(alloc, form, path, entry.shown(name.as_str(), start))
+            let name = spelling_of(alloc, name)?;
+            line_of(alloc, form, path, entry.shown_line(name.as_str(), start))
         }
         None => {
             let header = one_line(alloc, header_of(entry, map))?;
-            line_of(alloc, form, path, entry.shown(header.as_str(), start))
+            line_of(alloc, form, path, entry.shown_line(header.as_str(), start))
         }
     }
 }
 
 impl<'a> Entry<'a> {
     /// The entry as it is shown, with this name or header and this start.
-    fn shown<'b>(&self, name: &'b str, start: LineColumn) -> Shown<'b>
+    fn shown_line<'b>(&self, name: &'b str, start: LineColumn) -> Shown<'b>
         ensures { seen_line result ≡ record {
           depth = self.now.depth;
           kind = self.now.kind;
@@ -161,7 +161,7 @@ impl<'a> Entry<'a> {
 }
 
 /// The name as it is written, with `r#` if it is raw.
-fn spelled(alloc: Global, name: &Ident) -> Result<String, AllocError>
+fn spelling_of(alloc: Global, name: &Ident) -> Result<String, AllocError>
     ensures { IfOk result (λ out. string_bytes out ≡ spelling name.now) }
 {
     let mut out = String::new(alloc);
@@ -206,7 +206,7 @@ fn start_of(span: Span, map: &SourceMap) -> LineColumn
 
 impl Stop {
     /// The error with its line and column.
-    fn unlisted(self, map: &SourceMap) -> Unlisted {
+    fn at_position(self, map: &SourceMap) -> Unlisted {
         let fault = self.fault;
         let start = self.place(map);
         Unlisted { start, fault }

@@ -5,7 +5,7 @@ ghost use Rattle.declarations.specs.Forms.{AreAttributes, AreInnerAttributes};
 ghost use Rattle.declarations.specs.Reading.{Reads};
 ghost use Rattle.declarations.specs.File.{body_of};
 ghost use Rattle.outline.specs.Outline.{AreInside, IsTreesOutline, NeverOpens, Opens, Outline, entries_of, entry_of};
-ghost use Rattle.outline.specs.Outline.{first_of, is_listed, last_of, listed, seen};
+ghost use Rattle.outline.specs.Outline.{first_of, is_listed, last_of, lists, entry_of_value};
 
 use declarations::{AnyItem, Fault, ItemKind, Items, split_attributes, split_inner_attributes};
 use pm_span::Span;
@@ -44,7 +44,7 @@ pub fn entries<'a>(
     trees: &'a [TokenTree],
 ) -> Result<Result<Vec<Entry<'a>>, Stop>, AllocError>
     ensures ok { IfOk result (λ found. IfOk found (λ entries. (outline : Outline) × IsTreesOutline trees.now outline
-        × (map seen entries.items ≡ entries_of outline))) }
+        × (map entry_of_value entries.items ≡ entries_of outline))) }
     ensures none { IfOk result (λ found. IfErr found (λ stop. (outline : Outline) → IsTreesOutline trees.now outline
         → ⊥)) }
 {
@@ -85,8 +85,8 @@ pub fn entries<'a>(
 
 /// Appends the entry if it is listed.
 fn push_listed<'a>(entries: &mut Vec<Entry<'a>>, entry: Entry<'a>) -> Result<(), AllocError>
-    ensures { OnOk result (map seen entries.new.items ≡ map seen entries.old.items
-        ++ listed (is_listed entry.entry.kind (option_copied entry.entry.name)) (seen entry.entry)) }
+    ensures { OnOk result (map entry_of_value entries.new.items ≡ map entry_of_value entries.old.items
+        ++ lists (is_listed entry.entry.kind (option_copied entry.entry.name)) (entry_of_value entry.entry)) }
 {
     if is_listed(&entry) {
         entries.push(entry)?;
@@ -148,7 +148,7 @@ fn items_in<'a>(item: &AnyItem<'a>) -> Result<Items<'a>, Stop>
 pub fn entry_of<'a>(depth: usize, item: &AnyItem<'a>) -> Result<Entry<'a>, Stop>
     ensures ok { IfOk result (λ entry. (attributes : List Tree)
         × Reads AreAttributes item.now.trees.now attributes entry.header.now
-        × (seen entry ≡ entry_of depth item.now.kind (option_copied item.now.name) entry.header.now)) }
+        × (entry_of_value entry ≡ entry_of depth item.now.kind (option_copied item.now.name) entry.header.now)) }
     ensures none { IfErr result (λ stop. (attributes : List Tree) → (header : List Tree)
         → Reads AreAttributes item.now.trees.now attributes header → ⊥) }
 {

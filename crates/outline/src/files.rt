@@ -3,7 +3,7 @@ ghost use Rattle.std.specs.Prelude.{◌≡◌, ℕ, IfOk, List, map, string_byte
 ghost use Rattle.std.specs.Io.KnownBytes.{Appends};
 ghost use Rattle.outline.specs.Answer.{Lists};
 ghost use Rattle.outline.specs.Files.{AreOf, IsOf, Outcome, Writes, all_lines, outcome_of, worst};
-ghost use Rattle.outline.specs.Tags.{WritesTags, ended};
+ghost use Rattle.outline.specs.Tags.{WritesTags, lines_text};
 
 use crate::answer::{Unlisted, lines_of};
 use crate::options::{Form, Options};
@@ -52,7 +52,7 @@ fn list_each<W: Write, E: Write>(
 ) -> Result<u8, Failure>
     ensures { IfOk result (λ status. (outcomes : List Outcome)
         × AreOf form (map string_bytes paths.now) outcomes
-        × Appends (W.contents writer.old) (W.contents writer.new) (ended (all_lines outcomes))
+        × Appends (W.contents writer.old) (W.contents writer.new) (lines_text (all_lines outcomes))
         × (status ≡ worst outcomes)) }
 {
     let mut worst = 0;

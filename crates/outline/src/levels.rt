@@ -9,7 +9,8 @@ ghost use Rattle.declarations.specs.Forms.{AreInnerAttributes};
 ghost use Rattle.declarations.specs.Reading.{Reads};
 ghost use Rattle.outline.specs.Answer.{lines_of};
 ghost use Rattle.outline.specs.Levels.{BeginsWith, IsStopped, Takes, level_left, trees_left};
-ghost use Rattle.outline.specs.Outline.{AreTrees, IsTreesOutline, Outline, entries_of, is_listed, listed, seen};
+ghost use Rattle.outline.specs.Outline.{AreTrees, IsTreesOutline, Outline, entries_of, is_listed, lists};
+ghost use Rattle.outline.specs.Outline.{entry_of_value};
 
 use crate::answer::entry_line;
 use crate::entries::{Entry, Stop, entry_of, is_listed};
@@ -22,7 +23,7 @@ use token_buffer::Cursor;
 
 /// An item that has been read.
 #[derive(Drop)]
-struct Step {
+struct ReadItem {
     /// The line of the item, if it is listed.
     line: Option<String>,
     /// The number of its trees.
@@ -65,14 +66,14 @@ pub fn lines_in(
             Ok(step) => step,
             Err(stop) => return Ok(Err(stop)),
         };
-        let Step {
+        let ReadItem {
             line,
             count,
             has_body,
         } = step;
         push_line(&mut lines, line)?;
         let last = past(level.rest, count - 1);
-        levels.push(passed(level, count, last))?;
+        levels.push(advance(level, count, last))?;
         if !has_body {
             continue 'walk;
         }
@@ -140,7 +141,7 @@ fn past(cursor: Cursor<'_>, count: usize) -> Cursor<'_>
 }
 
 /// The level after so many more of its trees. `last` is the cursor at the last of these trees.
-fn passed<'a>(level: Level<'a>, count: usize, last: Cursor<'a>) -> Level<'a>
+fn advance<'a>(level: Level<'a>, count: usize, last: Cursor<'a>) -> Level<'a>
     requires within { level.at + count ≤ length level.trees.items }
     requires some { 0 < count }
     requires last { trees_left last ≡ drop (count - 1) (level_left level) }
@@ -162,7 +163,7 @@ fn step_of(
     map: &SourceMap,
     depth: usize,
     level: &Level<'_>,
-) -> Result<Result<Step, Stop>, AllocError>
+) -> Result<Result<ReadItem, Stop>, AllocError>
     requires { level_left level.now ≡ [] → ⊥ }
     ensures ok { IfOk result (λ found. IfOk found (Takes map.now form path.now depth (level_left level.now))) }
     ensures none { IfOk result (λ found. IfErr found (λ stop. IsStopped (level_left level.now))) }
@@ -177,7 +178,7 @@ fn step_of(
         Err(stop) => return Ok(Err(stop)),
     };
     let line = listed_line(alloc, form, path, map, &entry)?;
-    Ok(Ok(Step {
+    Ok(Ok(ReadItem {
         line,
         count: item.trees.len(),
         has_body: item.body().is_some(),
@@ -194,7 +195,7 @@ fn listed_line(
 ) -> Result<Option<String>, AllocError>
     ensures { (text : List ℕ) → map.now ≡ with_file new_map text → IfOk result (λ line.
         option_to_list (option_map string_bytes line) ≡ lines_of form path.now text
-        (listed (is_listed entry.now.kind (option_copied entry.now.name)) (seen entry.now))) }
+        (lists (is_listed entry.now.kind (option_copied entry.now.name)) (entry_of_value entry.now))) }
 {
     if is_listed(entry) {
         entry_line(alloc, form, path, map, entry)

@@ -1,11 +1,11 @@
 //! The line of a declaration.
 ghost use Rattle.std.specs.Prelude.{◌≡◌, ◌++◌, IfOk, OnOk, option_map, string_bytes};
-ghost use Rattle.outline.specs.Line.{indent, json, line_of, plain, seen, tag, title};
+ghost use Rattle.outline.specs.Line.{indent, json, line_of, plain, line_of_value, tag, title};
 
 use crate::names::word_of;
 use crate::options::Form;
 use declarations::ItemKind;
-use messages::escaped;
+use messages::json_escape;
 use proc_macro2::LineColumn;
 use std::alloc::{AllocError, Global};
 
@@ -31,7 +31,7 @@ pub fn line_of(
     path: &str,
     shown: Shown<'_>,
 ) -> Result<Option<String>, AllocError>
-    ensures { IfOk result (λ line. option_map string_bytes line ≡ line_of form path.now (seen shown.entry)) }
+    ensures { IfOk result (λ line. option_map string_bytes line ≡ line_of form path.now (line_of_value shown.entry)) }
 {
     match form {
         Form::Lines => Ok(Some(plain(alloc, path, shown)?)),
@@ -43,7 +43,7 @@ pub fn line_of(
 
 /// The line `FILE:L:C: fn name`. Line and column count from 1.
 fn plain(alloc: Global, path: &str, shown: Shown<'_>) -> Result<String, AllocError>
-    ensures { IfOk result (λ out. string_bytes out ≡ plain path.now (seen shown.entry)) }
+    ensures { IfOk result (λ out. string_bytes out ≡ plain path.now (line_of_value shown.entry)) }
 {
     let mut out = String::new(alloc);
     let line = shown.start.line;
@@ -57,15 +57,15 @@ fn plain(alloc: Global, path: &str, shown: Shown<'_>) -> Result<String, AllocErr
 
 /// The declaration as a JSON object.
 fn json(alloc: Global, path: &str, shown: Shown<'_>) -> Result<String, AllocError>
-    ensures { IfOk result (λ out. string_bytes out ≡ json path.now (seen shown.entry)) }
+    ensures { IfOk result (λ out. string_bytes out ≡ json path.now (line_of_value shown.entry)) }
 {
     let mut out = String::new(alloc);
     let line = shown.start.line;
     // The type is wide enough that the sum cannot overflow.
     let column = shown.start.column as u128 + 1;
-    let file = escaped(alloc, path)?;
+    let file = json_escape(alloc, path)?;
     let word = word_of(shown.kind);
-    let name = escaped(alloc, shown.name)?;
+    let name = json_escape(alloc, shown.name)?;
     let depth = shown.depth;
     write!(
         out,
@@ -77,7 +77,7 @@ fn json(alloc: Global, path: &str, shown: Shown<'_>) -> Result<String, AllocErro
 
 /// The line of a declaration in a `tags` file.
 fn tag(alloc: Global, path: &str, shown: Shown<'_>) -> Result<String, AllocError>
-    ensures { IfOk result (λ out. string_bytes out ≡ tag path.now (seen shown.entry)) }
+    ensures { IfOk result (λ out. string_bytes out ≡ tag path.now (line_of_value shown.entry)) }
 {
     let mut out = String::new(alloc);
     let name = shown.name;
@@ -99,7 +99,7 @@ fn push_indent(out: &mut String, depth: usize) -> Result<(), AllocError>
 
 /// Appends the word for the kind and the name, or the header if there is no name.
 fn push_title(out: &mut String, shown: Shown<'_>) -> Result<(), AllocError>
-    ensures { OnOk result (string_bytes out.new ≡ string_bytes out.old ++ title (seen shown.entry)) }
+    ensures { OnOk result (string_bytes out.new ≡ string_bytes out.old ++ title (line_of_value shown.entry)) }
 {
     let name = shown.name;
     if !shown.named {

@@ -31,7 +31,7 @@ pub struct Options {
 
 /// The meaning of an argument.
 #[derive(Clone, Copy, Debug, PartialEq, Eq)]
-enum Word {
+enum ArgumentKind {
     Json,
     Ctags,
     Unknown,
@@ -51,7 +51,7 @@ pub fn options_of(alloc: Global, words: &[String]) -> Result<Options, Failure>
     let mut options = Options::new(alloc);
     for word in words {
         match word_of(word.as_str()) {
-            Word::Unknown => return Err(Failure::Usage(USAGE)),
+            ArgumentKind::Unknown => return Err(Failure::Usage(USAGE)),
             known => options.take(alloc, known, word.as_str())?,
         }
     }
@@ -60,24 +60,24 @@ pub fn options_of(alloc: Global, words: &[String]) -> Result<Options, Failure>
 }
 
 /// The meaning of an argument.
-fn word_of(word: &str) -> Word
+fn word_of(word: &str) -> ArgumentKind
     ensures { result ≡ word_of word.now }
 {
     match word {
-        "--json" => Word::Json,
-        "--ctags" => Word::Ctags,
+        "--json" => ArgumentKind::Json,
+        "--ctags" => ArgumentKind::Ctags,
         _ => other_word(word),
     }
 }
 
 /// The meaning of an argument that is no known option.
-fn other_word(word: &str) -> Word
+fn other_word(word: &str) -> ArgumentKind
     ensures { result ≡ other_word word.now }
 {
     match word.as_bytes() {
-        [b'-'] => Word::Path,
-        [b'-', ..] => Word::Unknown,
-        _ => Word::Path,
+        [b'-'] => ArgumentKind::Path,
+        [b'-', ..] => ArgumentKind::Unknown,
+        _ => ArgumentKind::Path,
     }
 }
 
@@ -93,14 +93,14 @@ impl Options {
     }
 
     /// Takes one argument into account.
-    fn take(&mut self, alloc: Global, known: Word, word: &str) -> Result<(), AllocError>
+    fn take(&mut self, alloc: Global, known: ArgumentKind, word: &str) -> Result<(), AllocError>
         ensures { OnOk result (wishes_of self.new ≡ with_word known word.now (wishes_of self.old)) }
     {
         match known {
-            Word::Json => self.form = Form::Json,
-            Word::Ctags => self.form = Form::Ctags,
-            Word::Path => self.push_path(alloc, word)?,
-            Word::Unknown => {}
+            ArgumentKind::Json => self.form = Form::Json,
+            ArgumentKind::Ctags => self.form = Form::Ctags,
+            ArgumentKind::Path => self.push_path(alloc, word)?,
+            ArgumentKind::Unknown => {}
         }
         Ok(())
     }
@@ -117,7 +117,7 @@ impl Options {
 
     /// Appends a path.
     fn push_path(&mut self, alloc: Global, path: &str) -> Result<(), AllocError>
-        ensures { OnOk result (wishes_of self.new ≡ with_word Word.Path path.now (wishes_of self.old)) }
+        ensures { OnOk result (wishes_of self.new ≡ with_word ArgumentKind.Path path.now (wishes_of self.old)) }
     {
         self.paths.push(String::from_str(alloc, path)?)?;
         Ok(())

@@ -1,7 +1,7 @@
 //! Writes lines and `tags` files.
 ghost use Rattle.std.specs.Prelude.{OnOk, map, string_bytes};
 ghost use Rattle.std.specs.Io.KnownBytes.{Appends};
-ghost use Rattle.outline.specs.Tags.{WritesTags, ended};
+ghost use Rattle.outline.specs.Tags.{WritesTags, lines_text};
 
 use std::io;
 use std::io::Write;
@@ -9,7 +9,7 @@ use std::io::Write;
 /// Writes the lines, each with a line end.
 pub fn print_all<W: Write>(lines: &[String], writer: &mut W) -> io::Result<()>
     ensures { OnOk result (Appends (W.contents writer.old) (W.contents writer.new)
-        (ended (map string_bytes lines.now))) }
+        (lines_text (map string_bytes lines.now))) }
 {
     for line in lines {
         writeln!(writer, "{line}")?;

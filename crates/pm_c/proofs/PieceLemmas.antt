@@ -18,7 +18,7 @@ all_from at next to more rest step are = (
   chars to.rest.now,
   step.whole,
   step.stands,
-  subst (λ first. AreAllPieces first (chars to.rest.now) more rest) step.behind are,
+  subst (λ first. AreAllPieces first (chars to.rest.now) more rest) step.front_after are,
 )
 
 -- one more record is appended

@@ -7,7 +7,7 @@ use Rattle.explain.specs.declared.reason.Reason.{Reason}
 use Rattle.explain.specs.declared.reason.Reason.TheVariants as reasons
 use Rattle.proc_macro2.specs.Files.{Fits, new_map, next_lo}
 use Rattle.pm_c.specs.Calls.{ExplainAnswer}
-use Rattle.pm_c.specs.Reasons.{reason_number, told_of}
+use Rattle.pm_c.specs.Reasons.{reason_number, explanation_record}
 use Rattle.pm_c.specs.declared.records.PmExplanation.{PmExplanation}
 
 -- no reason has the number 0, which means that there is no reason
@@ -32,17 +32,17 @@ positive reasons.StrayCloser e = omega (arith, e)
 positive reasons.MismatchedCloser e = omega (arith, e)
 positive reasons.UnclosedOpener e = omega (arith, e)
 
-pub told_answer : (bytes text : List ℕ) (x : Explained) (answer : PmExplanation) → text ≡ bytes → IsUtf8 bytes
+pub explains_answer : (bytes text : List ℕ) (x : Explained) (answer : PmExplanation) → text ≡ bytes → IsUtf8 bytes
     → IsExplained (next_lo new_map) (chars text) x → ((Fits new_map (length (chars text)) → ⊥) → ⊥)
-    → answer ≡ told_of x → ExplainAnswer bytes answer
-told_answer bytes text x answer same utf8 holds fits told =
-    subst (ExplainAnswer bytes) (sym told) (record {
+    → answer ≡ explanation_record x → ExplainAnswer bytes answer
+explains_answer bytes text x answer same utf8 holds fits explanation =
+    subst (ExplainAnswer bytes) (sym explanation) (record {
       codes = inl refl;
       parses = λ done zero. absurd (positive x.reason zero);
-      told = λ done some. record {
+      explanation = λ done some. record {
         explained = x;
         holds = subst (λ source. IsExplained (next_lo new_map) (chars source) x) same holds;
-        told = refl;
+        explanation = refl;
       };
       not_utf8 = (λ e. absurd (omega (arith, e)), λ no. absurd (no utf8));
       map_full = (

@@ -15,7 +15,7 @@ use Rattle.proc_macro2.specs.Forest.{Forest}
 use Rattle.proc_macro2.specs.IdentFault.{ident_fault}
 use Rattle.proc_macro2.specs.InOrder.{in_order}
 use Rattle.proc_macro2.specs.LiteralText.{IsWholeLiteral}
-use Rattle.proc_macro2.specs.Lookup.{AreInOneFile, HasBytes, HasName, IsTextOf, StartsAt, joined}
+use Rattle.proc_macro2.specs.Lookup.{AreInOneFile, HasBytes, HasName, IsTextOf, StartsAt, covering_span}
 use Rattle.proc_macro2.specs.Parsing.{FaultAt, ParsesTo}
 use Rattle.proc_macro2.specs.Printed.{printed}
 use Rattle.proc_macro2.specs.PrintsText.{PrintsText}
@@ -28,7 +28,7 @@ use Rattle.proc_macro2.specs.declared.ParseError.TheVariants.{Lex, MapFull, Memo
 use Rattle.pm_c.specs.Faults.{fault_number}
 use Rattle.pm_c.specs.Listing.{IsTooLong, kept_text, records_from}
 use Rattle.pm_c.specs.Pieces.{ListsPieces}
-use Rattle.pm_c.specs.Reasons.{told_of}
+use Rattle.pm_c.specs.Reasons.{explanation_record}
 use Rattle.pm_c.specs.declared.codes.TheConstants.{DONE, FAULT, MAP_FULL, NO_MEMORY, NOT_UTF8, NO_STREAM, NO_ROOM}
 use Rattle.pm_c.specs.declared.codes.TheConstants.{TOO_LONG, NO_LITERAL, NOT_UNESCAPED, OTHER_KIND, NO_CHARACTER}
 use Rattle.pm_c.specs.declared.codes.TheConstants.{NAME_EMPTY, NAME_NUMBER, NAME_INVALID, NAME_RESERVED}
@@ -226,13 +226,13 @@ pub record CopyAnswer {T : Type 0} (lent old new : List T) (code : ℕ) : Type 0
 pub record TellsReason (bytes : List ℕ) (answer : PmExplanation) : Type 0 where
   pub explained : Explained
   pub holds : IsExplained (next_lo new_map) (chars bytes) explained
-  pub told : answer ≡ told_of explained
+  pub explanation : answer ≡ explanation_record explained
 
 -- the result of `pm_explain`
 pub record ExplainAnswer (bytes : List ℕ) (answer : PmExplanation) : Type 0 where
   pub codes : IsAmong (DONE ∷ MAP_FULL ∷ NO_MEMORY ∷ NOT_UTF8 ∷ []) answer.code
   pub parses : answer.code ≡ DONE → answer.reason ≡ 0 → Parses (next_lo new_map) (chars bytes)
-  pub told : answer.code ≡ DONE → answer.reason ≢ 0 → TellsReason bytes answer
+  pub explanation : answer.code ≡ DONE → answer.reason ≢ 0 → TellsReason bytes answer
   pub not_utf8 : (answer.code ≡ NOT_UTF8) ↔ (IsUtf8 bytes → ⊥)
   pub map_full : (answer.code ≡ MAP_FULL) ↔ Overflows new_map bytes
 
@@ -404,7 +404,7 @@ AreJoined map lo hi other_lo other_hi =
 pub record JoinAnswer (map : Files) (lo hi other_lo other_hi : ℕ) (answer : PmRange) : Type 0 where
   pub codes : IsAmong (DONE ∷ NOT_HELD ∷ NOT_JOINED ∷ []) answer.code
   pub one_file : answer.code ≡ DONE → AreJoined map lo hi other_lo other_hi
-  pub done : answer.code ≡ DONE → span answer.start answer.end ≡ joined (span lo hi) (span other_lo other_hi)
+  pub done : answer.code ≡ DONE → span answer.start answer.end ≡ covering_span (span lo hi) (span other_lo other_hi)
   pub not_held : (answer.code ≡ NOT_HELD) ↔ (IsHeld map lo hi → ⊥)
   pub not_joined : (answer.code ≡ NOT_JOINED)
       ↔ (IsHeld map lo hi × (AreJoined map lo hi other_lo other_hi → ⊥))

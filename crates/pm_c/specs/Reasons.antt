@@ -46,8 +46,8 @@ opener_end None = 0
 opener_end (Some opener) = opener.at.end
 
 -- the record for C of an explanation
-abbrev pub told_of : Explained → PmExplanation
-told_of x = record {
+abbrev pub explanation_record : Explained → PmExplanation
+explanation_record x = record {
   code = DONE;
   reason = reason_number x.reason;
   detail = detail_number x.reason;

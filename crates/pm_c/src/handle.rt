@@ -84,7 +84,7 @@ impl SessionBox {
 pub struct PmSession {
     pub inside: SessionBox,
     pub live: bool,
-    ghost told: { inside.live ≡ live },
+    ghost same_live: { inside.live ≡ live },
 }
 
 impl PmSession {

@@ -114,7 +114,7 @@ pub extern "C" fn pm_parse(session: PmSession, back: &mut PmSession, text: &[u8]
     on_session!(
         session,
         back,
-        PmAnswer::refused(NOT_LIVE),
+        PmAnswer::with_error(NOT_LIVE),
         |inside| inside.parse(text)
     )
 }
@@ -137,7 +137,7 @@ pub extern "C" fn pm_print(session: PmSession, back: &mut PmSession, stream: u32
     on_session!(
         session,
         back,
-        PmAnswer::refused(NOT_LIVE),
+        PmAnswer::with_error(NOT_LIVE),
         |inside| inside.print(stream)
     )
 }
@@ -152,7 +152,7 @@ pub extern "C" fn pm_reprint(session: PmSession, back: &mut PmSession, text: &[u
     on_session!(
         session,
         back,
-        PmAnswer::refused(NOT_LIVE),
+        PmAnswer::with_error(NOT_LIVE),
         |inside| inside.reprint(text)
     )
 }
@@ -167,7 +167,7 @@ pub extern "C" fn pm_list(session: PmSession, back: &mut PmSession, stream: u32)
     on_session!(
         session,
         back,
-        PmAnswer::refused(NOT_LIVE),
+        PmAnswer::with_error(NOT_LIVE),
         |inside| inside.list(stream)
     )
 }
@@ -182,7 +182,7 @@ pub extern "C" fn pm_pieces(session: PmSession, back: &mut PmSession, text: &[u8
     on_session!(
         session,
         back,
-        PmAnswer::refused(NOT_LIVE),
+        PmAnswer::with_error(NOT_LIVE),
         |inside| inside.pieces(text)
     )
 }
@@ -276,7 +276,7 @@ pub extern "C" fn pm_read_literal(session: PmSession, back: &mut PmSession, text
     on_session!(
         session,
         back,
-        PmAnswer::refused(NOT_LIVE),
+        PmAnswer::with_error(NOT_LIVE),
         |inside| inside.read_literal(text)
     )
 }
@@ -290,7 +290,7 @@ pub extern "C" fn pm_string(session: PmSession, back: &mut PmSession, text: &[u8
     on_session!(
         session,
         back,
-        PmAnswer::refused(NOT_LIVE),
+        PmAnswer::with_error(NOT_LIVE),
         |inside| inside.string(text)
     )
 }
@@ -304,7 +304,7 @@ pub extern "C" fn pm_character(session: PmSession, back: &mut PmSession, charact
     on_session!(
         session,
         back,
-        PmAnswer::refused(NOT_LIVE),
+        PmAnswer::with_error(NOT_LIVE),
         |inside| inside.character(character)
     )
 }
@@ -319,7 +319,7 @@ pub extern "C" fn pm_byte_character(session: PmSession, back: &mut PmSession, by
     on_session!(
         session,
         back,
-        PmAnswer::refused(NOT_LIVE),
+        PmAnswer::with_error(NOT_LIVE),
         |inside| inside.byte_character(byte)
     )
 }
@@ -338,7 +338,7 @@ pub extern "C" fn pm_byte_string(
     on_session!(
         session,
         back,
-        PmAnswer::refused(NOT_LIVE),
+        PmAnswer::with_error(NOT_LIVE),
         |inside| inside.byte_string(contents)
     )
 }
@@ -353,7 +353,7 @@ pub extern "C" fn pm_c_string(session: PmSession, back: &mut PmSession, contents
     on_session!(
         session,
         back,
-        PmAnswer::refused(NOT_LIVE),
+        PmAnswer::with_error(NOT_LIVE),
         |inside| inside.c_string(contents)
     )
 }
@@ -370,7 +370,7 @@ pub extern "C" fn pm_str_value(session: PmSession, back: &mut PmSession, text: &
     on_session!(
         session,
         back,
-        PmAnswer::refused(NOT_LIVE),
+        PmAnswer::with_error(NOT_LIVE),
         |inside| inside.str_value(text)
     )
 }
@@ -391,7 +391,7 @@ pub extern "C" fn pm_byte_str_value(
     on_session!(
         session,
         back,
-        PmAnswer::refused(NOT_LIVE),
+        PmAnswer::with_error(NOT_LIVE),
         |inside| inside.byte_str_value(text)
     )
 }
@@ -409,7 +409,7 @@ pub extern "C" fn pm_cstr_value(session: PmSession, back: &mut PmSession, text: 
     on_session!(
         session,
         back,
-        PmAnswer::refused(NOT_LIVE),
+        PmAnswer::with_error(NOT_LIVE),
         |inside| inside.cstr_value(text)
     )
 }
@@ -428,7 +428,7 @@ pub extern "C" fn pm_line_column_of(
     on_session!(
         session,
         back,
-        PmLineColumn::refused(NOT_LIVE),
+        PmLineColumn::with_error(NOT_LIVE),
         |inside| inside.line_column(position)
     )
 }
@@ -448,7 +448,7 @@ pub extern "C" fn pm_byte_range(
     on_session!(
         session,
         back,
-        PmRange::refused(NOT_LIVE),
+        PmRange::with_error(NOT_LIVE),
         |inside| inside.byte_range(lo, hi)
     )
 }
@@ -467,7 +467,7 @@ pub extern "C" fn pm_source_text(
     on_session!(
         session,
         back,
-        PmAnswer::refused(NOT_LIVE),
+        PmAnswer::with_error(NOT_LIVE),
         |inside| inside.source_text(lo, hi)
     )
 }
@@ -486,7 +486,7 @@ pub extern "C" fn pm_file_name(
     on_session!(
         session,
         back,
-        PmAnswer::refused(NOT_LIVE),
+        PmAnswer::with_error(NOT_LIVE),
         |inside| inside.file_name(lo, hi)
     )
 }
@@ -508,7 +508,7 @@ pub extern "C" fn pm_join(
     on_session!(
         session,
         back,
-        PmRange::refused(NOT_LIVE),
+        PmRange::with_error(NOT_LIVE),
         |inside| inside.join(lo, hi, other_lo, other_hi)
     )
 }

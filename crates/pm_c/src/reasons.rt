@@ -1,7 +1,7 @@
 //! Why a text doesn't parse.
 ghost use Rattle.std.specs.Prelude.{◌≡◌};
 ghost use Rattle.pm_c.specs.Calls.{ExplainAnswer};
-ghost use Rattle.pm_c.specs.Reasons.{detail_number, reason_number, told_of};
+ghost use Rattle.pm_c.specs.Reasons.{detail_number, reason_number, explanation_record};
 
 use crate::codes::{DONE, MAP_FULL, NO_MEMORY, NOT_UTF8};
 use crate::faults::fault_number;
@@ -19,15 +19,15 @@ pub(crate) fn explain_text(alloc: Global, source: &[u8]) -> PmExplanation
     };
     match explain(alloc, text) {
         Ok(None) => PmExplanation::without_reason(DONE),
-        Ok(Some(explained)) => told_of(&explained),
+        Ok(Some(explained)) => explanation_record(&explained),
         Err(ExplainError::MapFull) => PmExplanation::without_reason(MAP_FULL),
         Err(ExplainError::Memory(_)) => PmExplanation::without_reason(NO_MEMORY),
     }
 }
 
 /// Returns the record for C of an explanation.
-fn told_of(explained: &Explained) -> PmExplanation
-    ensures { result ≡ told_of explained.now }
+fn explanation_record(explained: &Explained) -> PmExplanation
+    ensures { result ≡ explanation_record explained.now }
 {
     let (opener_start, opener_end) = match &explained.innermost {
         Some(opener) => (opener.at.start, opener.at.end),

@@ -19,7 +19,7 @@ pub struct PmAnswer {
 
 impl PmAnswer {
     /// Returns the result of a call that failed with this code.
-    pub(crate) fn refused(code: u32) -> PmAnswer
+    pub(crate) fn with_error(code: u32) -> PmAnswer
         ensures { result.code ≡ code }
     {
         PmAnswer {
@@ -30,7 +30,7 @@ impl PmAnswer {
     }
 
     /// Returns the result of a call that succeeded.
-    pub(crate) fn done(number: u32, bytes: usize) -> PmAnswer
+    pub(crate) fn success(number: u32, bytes: usize) -> PmAnswer
         ensures { result ≡ record { code = DONE; number = number; bytes = bytes } }
     {
         PmAnswer {
@@ -123,7 +123,7 @@ pub struct PmRange {
 
 impl PmRange {
     /// Returns the result of a call that failed with this code.
-    pub(crate) fn refused(code: u32) -> PmRange
+    pub(crate) fn with_error(code: u32) -> PmRange
         ensures { result.code ≡ code }
     {
         PmRange {
@@ -134,7 +134,7 @@ impl PmRange {
     }
 
     /// Returns the result of a call that succeeded.
-    pub(crate) fn done(start: usize, end: usize) -> PmRange
+    pub(crate) fn success(start: usize, end: usize) -> PmRange
         ensures { result ≡ record { code = DONE; start = start; end = end } }
     {
         PmRange {
@@ -147,7 +147,7 @@ impl PmRange {
 
 impl PmLineColumn {
     /// Returns the result of a call that failed with this code.
-    pub(crate) fn refused(code: u32) -> PmLineColumn
+    pub(crate) fn with_error(code: u32) -> PmLineColumn
         ensures { result.code ≡ code }
     {
         PmLineColumn {

@@ -91,7 +91,7 @@ impl Session {
         ensures read { OnOk result (self.new ≡ record self.old { map = with_file self.old.map (chars source.now) }) }
     {
         let Ok(text) = str::from_utf8(source) else {
-            return Err(PmAnswer::refused(NOT_UTF8));
+            return Err(PmAnswer::with_error(NOT_UTF8));
         };
         match TokenStream::from_str(text, &mut self.map) {
             Ok(stream) => Ok(stream),
@@ -110,13 +110,13 @@ impl Session {
         match self.streams.insert(stream) {
             Ok(key) => {
                 if key <= 0xFFFF_FFFF {
-                    PmAnswer::done(key as u32, 0)
+                    PmAnswer::success(key as u32, 0)
                 } else {
                     self.streams.try_remove(key);
-                    PmAnswer::refused(TOO_LONG)
+                    PmAnswer::with_error(TOO_LONG)
                 }
             }
-            Err(_) => PmAnswer::refused(NO_MEMORY),
+            Err(_) => PmAnswer::with_error(NO_MEMORY),
         }
     }
 
@@ -135,11 +135,11 @@ impl Session {
         ensures { PrintAnswer self.old number self.new result }
     {
         let Some(stream) = self.streams.get(number as usize) else {
-            return PmAnswer::refused(NO_STREAM);
+            return PmAnswer::with_error(NO_STREAM);
         };
         match print(stream, &mut self.text) {
-            Ok(()) => PmAnswer::done(number, self.text.len()),
-            Err(_) => PmAnswer::refused(NO_MEMORY),
+            Ok(()) => PmAnswer::success(number, self.text.len()),
+            Err(_) => PmAnswer::with_error(NO_MEMORY),
         }
     }
 
@@ -148,12 +148,12 @@ impl Session {
         ensures { ReprintAnswer self.old source.now self.new result }
     {
         let Ok(text) = str::from_utf8(source) else {
-            return PmAnswer::refused(NOT_UTF8);
+            return PmAnswer::with_error(NOT_UTF8);
         };
         match reprint(self.alloc, text) {
             Ok(printed) => {
                 self.text = printed;
-                PmAnswer::done(0, self.text.len())
+                PmAnswer::success(0, self.text.len())
             }
             Err(error) => refusal(error),
         }
@@ -164,11 +164,11 @@ impl Session {
         ensures { ListAnswer self.old number self.new result }
     {
         let Some(stream) = self.streams.get(number as usize) else {
-            return PmAnswer::refused(NO_STREAM);
+            return PmAnswer::with_error(NO_STREAM);
         };
         match list(stream, &mut self.trees, &mut self.text) {
-            Ok(count) => PmAnswer::done(count, self.text.len()),
-            Err(error) => PmAnswer::refused(error.code()),
+            Ok(count) => PmAnswer::success(count, self.text.len()),
+            Err(error) => PmAnswer::with_error(error.code()),
         }
     }
 
@@ -178,14 +178,14 @@ impl Session {
         ensures { PiecesAnswer self.old source.now self.new result }
     {
         let Ok(text) = str::from_utf8(source) else {
-            return PmAnswer::refused(NOT_UTF8);
+            return PmAnswer::with_error(NOT_UTF8);
         };
         if source.len() > 0xFFFF_FFFF {
-            return PmAnswer::refused(TOO_LONG);
+            return PmAnswer::with_error(TOO_LONG);
         }
         match list_pieces(text, &mut self.pieces) {
-            Ok(covered) => PmAnswer::done(self.pieces.len() as u32, covered),
-            Err(_) => PmAnswer::refused(NO_MEMORY),
+            Ok(covered) => PmAnswer::success(self.pieces.len() as u32, covered),
+            Err(_) => PmAnswer::with_error(NO_MEMORY),
         }
     }
 }
@@ -212,7 +212,7 @@ fn refusal(error: ParseError) -> PmAnswer
                 bytes: 0,
             }
         }
-        ParseError::MapFull => PmAnswer::refused(MAP_FULL),
-        ParseError::Memory(_) => PmAnswer::refused(NO_MEMORY),
+        ParseError::MapFull => PmAnswer::with_error(MAP_FULL),
+        ParseError::Memory(_) => PmAnswer::with_error(NO_MEMORY),
     }
 }

@@ -18,8 +18,8 @@ pub record IsPassed (bytes : List ℕ) (n : ℕ) : Type 0 where
   pub size : length (chars (take n bytes)) + length (chars (drop n bytes)) ≡ length (chars bytes)
   pub rest : drop (n - length (chars (take n bytes))) (chars (drop n bytes)) ≡ drop n (chars bytes)
 
-pub passed : (bytes : List ℕ) (n : ℕ) → IsUtf8 bytes → IsCharBoundary bytes n → IsPassed bytes n
-passed bytes n utf8 at =
+pub passes_bytes : (bytes : List ℕ) (n : ℕ) → IsUtf8 bytes → IsCharBoundary bytes n → IsPassed bytes n
+passes_bytes bytes n utf8 at =
     let front = chars (take n bytes) in
     let back = chars (drop n bytes) in
     let cut : IsUtf8 (take n bytes) = IsUtf8-take bytes n utf8 at in

@@ -3,7 +3,7 @@ use Rattle.std.proofs.Common.{◌≡◌, ℕ, ◌+◌, ◌≤◌, List, [], ◌�
 use Rattle.std.proofs.lemmas.List.Sums.{sum_by-cons}
 use Rattle.pm_span.specs.Extent.{Extent, nowhere}
 use Rattle.pm_span.specs.Files.{Files, positions, IsFile, Holds, with_file, Extends}
-use Rattle.pm_span.specs.Lookup.{AreInOneFile, joined}
+use Rattle.pm_span.specs.Lookup.{AreInOneFile, covering_span}
 
 pub positions-cons : (text : List ℕ) (texts : List (List ℕ))
     → positions (text ∷ texts) ≡ length text + 1 + positions texts
@@ -57,7 +57,7 @@ holds_within span position held from to = record {
 }
 
 -- two spans are in one file exactly if the map holds their join
-pub held_joined : {map : Files} (first second : Extent) → Holds map (joined first second)
+pub held_joined : {map : Files} (first second : Extent) → Holds map (covering_span first second)
     → AreInOneFile map first second
 held_joined first second held = record {
   text = held.text;
@@ -70,7 +70,7 @@ held_joined first second held = record {
 }
 
 pub joined_held : {map : Files} (first second : Extent) → AreInOneFile map first second
-    → Holds map (joined first second)
+    → Holds map (covering_span first second)
 joined_held first second both = record {
   text = both.text;
   lo = both.lo;

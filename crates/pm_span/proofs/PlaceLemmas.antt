@@ -10,29 +10,32 @@ use Rattle.std.proofs.lemmas.List.Sorted.{IsPartitionedBy-leb}
 use Rattle.pm_span.specs.FileInfo.{MappedText}
 use Rattle.pm_span.specs.Files.{Files}
 use Rattle.pm_span.specs.Consecutive.{file_0, place_of, places_of, AreBegun, AreConsecutive, IsFileOf}
-use Rattle.pm_span.specs.declared.source_map.Place.{Place}
+use Rattle.pm_span.specs.declared.source_map.FileRange.{FileRange}
 use Rattle.pm_span.proofs.ConsecutiveLemmas.{texts_of, rising, file_found}
 
 -- the list has a last element, after the rest
-record IsCut (places rest : List Place) (last : Place) : Type 0 where
+record IsCut (places rest : List FileRange) (last : FileRange) : Type 0 where
   whole : places ≡ rest ++ (last ∷ [])
   size : length rest + 1 ≡ length places
 
-cut_of : (places rest : List Place) (last : Place) → IsLastAndRest places last rest → IsCut places rest last
+cut_of : (places rest : List FileRange) (last : FileRange) → IsLastAndRest places last rest → IsCut places rest last
 cut_of places rest last cut = record { whole = cut.0; size = cut.1 }
 
-last_is : {places rest : List Place} {last : Place} → IsCut places rest last → (k : ℕ) (d : Place) → length rest ≡ k
+last_is : {places rest : List FileRange} {last : FileRange} → IsCut places rest last → (k : ℕ) (d : FileRange)
+    → length rest ≡ k
     → get_or places k d ≡ last
 last_is {places} {rest} {last} cut k d is = ap (λ ps. get_or ps k d) cut.whole ∙ get_or_push rest last d k is
 
-rest_is : {places rest : List Place} {last : Place} → IsCut places rest last → (k : ℕ) (d : Place) → k < length rest
+rest_is : {places rest : List FileRange} {last : FileRange} → IsCut places rest last → (k : ℕ) (d : FileRange)
+    → k < length rest
     → get_or places k d ≡ get_or rest k d
 rest_is {places} {rest} {last} cut k d less =
     ap (λ ps. get_or ps k d) cut.whole ∙ get_or_append_left rest (last ∷ []) d k less
 
 -- if the last file begins at or before the position, all files do
 pub all_begun :
-    {places : List Place} {position n : ℕ} (rest : List Place) (last : Place) → IsLastAndRest places last rest
+    {places : List FileRange} {position n : ℕ} (rest : List FileRange) (last : FileRange)
+    → IsLastAndRest places last rest
     → IsNonDecreasingBy (λ place. place.lo) places → last.lo ≤ position → n ≡ length places
     → AreBegun places position n
 all_begun {places} {position} {n} rest last parts up begins is =
@@ -50,7 +53,8 @@ all_begun {places} {position} {n} rest last parts up begins is =
 
 -- if the last file begins after the position, the search in the others gives the answer
 pub some_begun :
-    {places : List Place} {n : ℕ} (rest : List Place) (last : Place) (position : ℕ) → IsLastAndRest places last rest
+    {places : List FileRange} {n : ℕ} (rest : List FileRange) (last : FileRange) (position : ℕ)
+    → IsLastAndRest places last rest
     → IsNonDecreasingBy (λ place. place.lo) places → position < last.lo → n ≤ length rest
     → (IsPartitionedBy (λ place. leb place.lo position) rest
     → IsPartitionPoint (λ place. leb place.lo position ≡ true) (λ place. leb place.lo position ≡ false) rest n)
@@ -84,7 +88,7 @@ some_begun {places} {n} rest last position parts up past bound search_rest =
 
 -- the starts of the files ascend
 pub places_rising :
-    (files : List MappedText) {places slice : List Place} → slice ≡ places → places ≡ places_of files
+    (files : List MappedText) {places slice : List FileRange} → slice ≡ places → places ≡ places_of files
     → AreConsecutive 1 files → IsNonDecreasingBy (λ place. place.lo) slice
 places_rising files {places} {slice} whole taken consecutive =
     subst (IsNonDecreasingBy (λ place. place.lo)) (sym (whole ∙ taken)) (λ i j d le less.
@@ -98,7 +102,7 @@ places_rising files {places} {slice} whole taken consecutive =
 
 -- the search finds the only file that can have the position
 pub found_at :
-    {m : Files} {places slice : List Place} {n : ℕ} (files : List MappedText) (limit position : ℕ)
+    {m : Files} {places slice : List FileRange} {n : ℕ} (files : List MappedText) (limit position : ℕ)
     → record { texts = texts_of files; limit = limit } ≡ m → slice ≡ places → places ≡ places_of files
     → AreConsecutive 1 files → AreBegun slice position n
     → IsFileOf m position n (get_or (file_0 ∷ files) n file_0) × (n ≤ length files)
@@ -123,7 +127,8 @@ found_at {m} {places} {slice} {n} files limit position view whole taken consecut
 
 -- the positions before the index n are those of the file before it
 pub place_at :
-    {places : List Place} {place : Place} (files : List MappedText) (n : ℕ) → places ≡ places_of files → (n ≡ 0 → ⊥)
+    {places : List FileRange} {place : FileRange} (files : List MappedText) (n : ℕ) → places ≡ places_of files
+    → (n ≡ 0 → ⊥)
     → n ≤ length files → place ≡ get_or places (n - 1) place → place ≡ place_of (get_or (file_0 ∷ files) n file_0)
 place_at files zero taken some bound is = absurd (some refl)
 place_at {places} {place} files (suc m) taken some bound is =

@@ -75,17 +75,17 @@ same_each f g same (b ∷ bytes) small =
     (eqb-true (f b) (g b) (agree_below_at (λ b. nat_eq (f b) (g b)) (λ b. true) 256 b same (small 0)))
 
 -- the word of n bytes that all have this value
-abbrev repeated : ℕ → ℕ → ℕ
-repeated k zero = 0
-repeated k (suc n) = repeated k n * 256 + k
+abbrev uniform_word : ℕ → ℕ → ℕ
+uniform_word k zero = 0
+uniform_word k (suc n) = uniform_word k n * 256 + k
 
-each_is : (k : ℕ) (bytes : List ℕ) → word_of (λ b. k) bytes ≡ repeated k (length bytes)
+each_is : (k : ℕ) (bytes : List ℕ) → word_of (λ b. k) bytes ≡ uniform_word k (length bytes)
 each_is k [] = refl
 each_is k (b ∷ bytes) = ap (λ x. x * 256 + k) (each_is k bytes)
 
 -- each bit of a word is inverted
 not_each : (f : ℕ → ℕ) → fits f ≡ true → (bytes : List ℕ) → AreBytes bytes
-    → word_of f bytes + word_of (λ b. 255 - f b) bytes ≡ repeated 255 (length bytes)
+    → word_of f bytes + word_of (λ b. 255 - f b) bytes ≡ uniform_word 255 (length bytes)
 not_each f h [] small = refl
 not_each f h (b ∷ bytes) small =
     let low = is_byte f h b (small 0) in
@@ -106,11 +106,11 @@ read (a ∷ b ∷ c ∷ d ∷ e ∷ f ∷ g ∷ h ∷ x ∷ bytes) l = absurd (o
 -- ---- plain bytes
 
 -- the byte after `^` and `&`: 0 for a line feed, and for 128 + 10
-abbrev turned : ℕ → ℕ
-turned b = bit_and (bit_xor b 10) 127
+abbrev line_feed_mask : ℕ → ℕ
+line_feed_mask b = bit_and (bit_xor b 10) 127
 
 abbrev stop : ℕ → ℕ
-stop b = bit_and (bit_or (255 - (turned b + 127)) b) 128
+stop b = bit_and (bit_or (255 - (line_feed_mask b + 127)) b) 128
 
 -- the highest bit, if the byte isn't plain
 abbrev plain_stop : ℕ → ℕ
@@ -130,33 +130,33 @@ stops_are = refl
 -- lemmas on a word of 8 bytes
 module _ (bytes : List ℕ) (l : length bytes ≡ 8) (are : AreBytes bytes) (word : ℕ)
     (is : word ≡ from_le_bytes w64 bytes) where
-  constant : (k n : ℕ) → n ≡ repeated k 8 → n ≡ word_of (λ b. k) bytes
-  constant k n e = e ∙ sym (each_is k bytes ∙ ap (repeated k) l)
+  constant : (k n : ℕ) → n ≡ uniform_word k 8 → n ≡ word_of (λ b. k) bytes
+  constant k n e = e ∙ sym (each_is k bytes ∙ ap (uniform_word k) l)
 
   word_is : word ≡ word_of (λ b. b) bytes
   word_is = is ∙ read bytes l
 
-  turned_is : turned_word word ≡ word_of turned bytes
+  turned_is : turned_word word ≡ word_of line_feed_mask bytes
   turned_is =
       ap₂ bit_and
       (ap₂ bit_xor word_is (constant 10 _ refl) ∙ xor_each (λ b. b) (λ b. 10) refl refl bytes are)
       (constant 127 _ refl)
       ∙ and_each (λ b. bit_xor b 10) (λ b. 127) refl refl bytes are
 
-  sum_is : turned_word word + 0x7F7F_7F7F_7F7F_7F7F ≡ word_of (λ b. turned b + 127) bytes
-  sum_is = ap₂ (λ x y. x + y) turned_is (constant 127 _ refl) ∙ add_each turned (λ b. 127) bytes
+  sum_is : turned_word word + 0x7F7F_7F7F_7F7F_7F7F ≡ word_of (λ b. line_feed_mask b + 127) bytes
+  sum_is = ap₂ (λ x y. x + y) turned_is (constant 127 _ refl) ∙ add_each line_feed_mask (λ b. 127) bytes
 
-  off_is : 2 ^ 64 - 1 - (turned_word word + 0x7F7F_7F7F_7F7F_7F7F) ≡ word_of (λ b. 255 - (turned b + 127)) bytes
+  off_is : 2 ^ 64 - 1 - (turned_word word + 0x7F7F_7F7F_7F7F_7F7F) ≡ word_of (λ b. 255 - (line_feed_mask b + 127)) bytes
   off_is =
-      let full : 2 ^ 64 - 1 ≡ repeated 255 (length bytes) = sym (ap (repeated 255) l) in
-      omega (arith, sum_is, full, not_each (λ b. turned b + 127) refl bytes are)
+      let full : 2 ^ 64 - 1 ≡ uniform_word 255 (length bytes) = sym (ap (uniform_word 255) l) in
+      omega (arith, sum_is, full, not_each (λ b. line_feed_mask b + 127) refl bytes are)
 
   stops_is : stop_word word ≡ word_of plain_stop bytes
   stops_is =
       ap₂ bit_and
-      (ap₂ bit_or off_is word_is ∙ or_each (λ b. 255 - (turned b + 127)) (λ b. b) refl refl bytes are)
+      (ap₂ bit_or off_is word_is ∙ or_each (λ b. 255 - (line_feed_mask b + 127)) (λ b. b) refl refl bytes are)
       (constant 128 _ refl)
-      ∙ and_each (λ b. bit_or (255 - (turned b + 127)) b) (λ b. 128) refl refl bytes are
+      ∙ and_each (λ b. bit_or (255 - (line_feed_mask b + 127)) b) (λ b. 128) refl refl bytes are
       ∙ same_each stop plain_stop stops_are bytes are
 
 -- ---- the lowest bit of a word that is set

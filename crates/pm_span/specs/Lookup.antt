@@ -52,5 +52,5 @@ pub record AreInOneFile (map : Files) (first second : Extent) : Type 0 where
   pub second_to : second.hi ≤ lo + length text
 
 -- `join`: the smallest span that covers both
-abbrev pub joined : Extent → Extent → Extent
-joined first second = record { lo = min first.lo second.lo; hi = max first.hi second.hi }
+abbrev pub covering_span : Extent → Extent → Extent
+covering_span first second = record { lo = min first.lo second.lo; hi = max first.hi second.hi }

@@ -4,7 +4,8 @@ ghost use Rattle.std.specs.Str.{chars};
 ghost use Rattle.std.specs.String.{string_bytes};
 ghost use Rattle.pm_span.specs.Extent.{nowhere};
 ghost use Rattle.pm_span.specs.Files.{Holds};
-ghost use Rattle.pm_span.specs.Lookup.{StartsAt, EndsAt, HasBytes, HasText, HasName, IsTextOf, AreInOneFile, joined};
+ghost use Rattle.pm_span.specs.Lookup.{StartsAt, EndsAt, HasBytes, HasText, HasName, IsTextOf, AreInOneFile};
+ghost use Rattle.pm_span.specs.Lookup.{covering_span};
 
 use crate::location::LineColumn;
 use crate::source_map::SourceMap;
@@ -111,7 +112,7 @@ impl Span {
     /// with 9..12.
     pub fn join(self, other: Span, map: &SourceMap) -> Option<Span>
         requires { Holds map.now self }
-        ensures found { SomeIff result (AreInOneFile map.now self other) (joined self other) }
+        ensures found { SomeIff result (AreInOneFile map.now self other) (covering_span self other) }
         ensures held { IfSome result (λ span. Holds map.now span) }
     {
         let (lo, hi) = self.bounds();

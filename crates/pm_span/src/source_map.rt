@@ -28,14 +28,14 @@ pub struct SourceMap {
     /// The files from 1 on.
     files: Vec<FileInfo>,
     /// The positions that each file takes.
-    places: Vec<Place>,
+    places: Vec<FileRange>,
     /// The largest position that may be used.
     limit: u32,
 }
 
 /// The positions that a file takes.
 #[derive(Clone, Copy)]
-struct Place {
+struct FileRange {
     /// The position before its first character.
     lo: u32,
     /// The position after its last character.
@@ -58,7 +58,7 @@ impl Model for SourceMap {
 }
 
 /// Returns how many of the files at these ascending positions begin at or before `position`.
-fn count_begun(places: &[Place], position: u32) -> usize
+fn count_begun(places: &[FileRange], position: u32) -> usize
     requires { IsNonDecreasingBy (λ place. place.lo) places.now }
     ensures { AreBegun places.now position result }
 {
@@ -207,7 +207,7 @@ impl SourceMap {
     {
         let lo = self.last_hi() + 1;
         let file = FileInfo::new(self.alloc, text, lo)?;
-        self.places.push(Place { lo, hi: file.hi() })?;
+        self.places.push(FileRange { lo, hi: file.hi() })?;
         match self.files.push(file) {
             Ok(()) => Ok(()),
             Err(_) => {

@@ -11,8 +11,8 @@ use Rattle.pm_token.specs.Leaf.{Mark, Text}
 use Rattle.pm_token.specs.LiteralText.{IsLiteralText}
 use Rattle.pm_token.specs.Negative.{has_minus, minus_of, number_of}
 use Rattle.pm_token.proofs.WholeLemmas.{number_built, plain_built}
-use Rattle.pm_stream.specs.Building.{GivesAll, GivesAnItem, PutsIn, gathered, split}
-use Rattle.pm_stream.specs.Forest.{Forest, nil, leaf, group, joined, IsBuilt}
+use Rattle.pm_stream.specs.Building.{GivesAll, GivesAnItem, PutsIn, trees_of_all, split}
+use Rattle.pm_stream.specs.Forest.{Forest, nil, leaf, group, chain, IsBuilt}
 use Rattle.pm_stream.specs.Trees.{alone, before, forest}
 use Rattle.pm_stream.specs.declared.stream.TokenTree.{TokenTree}
 use Rattle.pm_stream.specs.declared.stream.TokenTree.TheVariants.{Punct, Literal}
@@ -20,33 +20,33 @@ use Rattle.pm_stream.proofs.TreeLemmas.{IsBuilt-joined, joined-before}
 
 -- ---- forests one after another
 
-pub joined_nil : (f : Forest) → joined f nil ≡ f
+pub joined_nil : (f : Forest) → chain f nil ≡ f
 joined_nil nil = refl
 joined_nil (leaf t lo hi f) = ap (leaf t lo hi) (joined_nil f)
 joined_nil (group d lo hi f g) = ap (group d lo hi f) (joined_nil g)
 
-pub joined_assoc : (f g h : Forest) → joined (joined f g) h ≡ joined f (joined g h)
+pub joined_assoc : (f g h : Forest) → chain (chain f g) h ≡ chain f (chain g h)
 joined_assoc nil g h = refl
 joined_assoc (leaf t lo hi f) g h = ap (leaf t lo hi) (joined_assoc f g h)
 joined_assoc (group d lo hi f k) g h = ap (group d lo hi f) (joined_assoc k g h)
 
 -- the trees of one more item
 gathered_push : {A : Type 0} (trees : A → Forest) (items : List A) (item : A)
-    → gathered trees (items ++ item ∷ []) ≡ joined (gathered trees items) (trees item)
+    → trees_of_all trees (items ++ item ∷ []) ≡ chain (trees_of_all trees items) (trees item)
 gathered_push trees [] item = joined_nil (trees item)
 gathered_push trees (first ∷ items) item =
-    ap (joined (trees first)) (gathered_push trees items item)
-    ∙ sym (joined_assoc (trees first) (gathered trees items) (trees item))
+    ap (chain (trees first)) (gathered_push trees items item)
+    ∙ sym (joined_assoc (trees first) (trees_of_all trees items) (trees item))
 
 pub puts_more : {A : Type 0} (trees : A → Forest) (old now new : Forest) (items : List A) (item : A)
-    → PutsIn trees old items now → new ≡ joined now (trees item) → PutsIn trees old (items ++ item ∷ []) new
+    → PutsIn trees old items now → new ≡ chain now (trees item) → PutsIn trees old (items ++ item ∷ []) new
 puts_more trees old now new items item so_far more =
-    more ∙ ap (λ f. joined f (trees item)) so_far ∙ joined_assoc old (gathered trees items) (trees item)
-    ∙ ap (joined old) (sym (gathered_push trees items item))
+    more ∙ ap (λ f. chain f (trees item)) so_far ∙ joined_assoc old (trees_of_all trees items) (trees item)
+    ∙ ap (chain old) (sym (gathered_push trees items item))
 
 -- ---- trees that are pushed onto a list
 
-pub forest_append : (old more : List TokenTree) → forest (old ++ more) ≡ joined (forest old) (forest more)
+pub forest_append : (old more : List TokenTree) → forest (old ++ more) ≡ chain (forest old) (forest more)
 forest_append [] more = refl
 forest_append (t ∷ old) more = ap (before t) (forest_append old more) ∙ sym (joined-before t (forest old) (forest more))
 
@@ -79,7 +79,7 @@ split_negative l rest m minus parts some =
 -- the mark and the rest of a literal are pushed one after the other
 pub pushed_two : (old first new : List TokenTree) (m : Mark) (rest : Text)
     → first ≡ old ++ Punct m ∷ [] → new ≡ first ++ Literal rest ∷ []
-    → forest new ≡ joined (forest old) (before (Punct m) (alone (Literal rest)))
+    → forest new ≡ chain (forest old) (before (Punct m) (alone (Literal rest)))
 pushed_two old first new m rest one two =
     ap forest (two ∙ (ap (λ ts. ts ++ Literal rest ∷ []) one ∙ append_assoc old (Punct m ∷ []) (Literal rest ∷ [])))
     ∙ forest_append old (Punct m ∷ Literal rest ∷ [])
@@ -94,7 +94,7 @@ clones_same old new (inr copied) = same_from_all_zip _ old.items new.items copie
 -- ---- streams that are built
 
 pub built_after : {E : Type 0} (r : Result (Unit {0}) E) (old new more : Forest)
-    → OnOk r (new ≡ joined old more) → OnErr r (new ≡ old) → IsBuilt old → IsBuilt more → IsBuilt new
+    → OnOk r (new ≡ chain old more) → OnErr r (new ≡ old) → IsBuilt old → IsBuilt more → IsBuilt new
 built_after (Ok u) old new more ok err p q = subst IsBuilt (sym ok) (IsBuilt-joined old more p q)
 built_after (Err e) old new more ok err p q = subst IsBuilt (sym err) p
 
@@ -130,6 +130,6 @@ pub gives_all : {U T A : Type 0} (becomes : U → T → Type 0) (steps : T → O
     (iterable : U) (empty new : Forest)
     → empty ≡ nil → (it : T) × (items : List A) × becomes iterable it × PutsIn trees empty items new
     × Drains steps it items
-    → GivesAll becomes steps iterable (λ items. new ≡ gathered trees items)
+    → GivesAll becomes steps iterable (λ items. new ≡ trees_of_all trees items)
 gives_all becomes steps trees iterable empty new none ran =
-    (ran.0, ran.1, ran.2, ran.4, ran.3 ∙ ap (λ f. joined f (gathered trees ran.1)) none)
+    (ran.0, ran.1, ran.2, ran.4, ran.3 ∙ ap (λ f. chain f (trees_of_all trees ran.1)) none)

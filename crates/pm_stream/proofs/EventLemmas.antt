@@ -7,7 +7,7 @@ use Rattle.pm_token.specs.declared.delimiters.Delimiter.{Delimiter}
 use Rattle.pm_token.specs.declared.delimiters.Delimiter.TheVariants.{Parenthesis, Brace, Bracket, None}
 use Rattle.pm_stream.specs.Events.{Event, One, Opens, Closes, Balanced, CanGoOn}
 use Rattle.pm_stream.specs.Events as events
-use Rattle.pm_stream.specs.Forest.{Forest, nil, leaf, group, flat_onto, flattening, joined}
+use Rattle.pm_stream.specs.Forest.{Forest, nil, leaf, group, flat_onto, flattening, chain}
 use Rattle.pm_stream.proofs.TreeLemmas.{flat_onto-append, flat_onto-joined}
 use Rattle.pm_stream.specs.OpenGroups.{Opened, unclosed_onto, FitsInnermost}
 
@@ -36,7 +36,7 @@ unclosed-append (x ∷ groups) trees es fs =
     ∙ unclosed-append groups x.outer (Opens x.delimiter x.lo ∷ flat_onto trees es) fs
 
 pub unclosed-joined : (groups : List Opened) (trees more : Forest) (es : List Event)
-    → unclosed_onto groups (joined trees more) es ≡ unclosed_onto groups trees (flat_onto more es)
+    → unclosed_onto groups (chain trees more) es ≡ unclosed_onto groups trees (flat_onto more es)
 unclosed-joined [] trees more es = flat_onto-joined trees more es
 unclosed-joined (x ∷ groups) trees more es =
     ap (λ xs. unclosed_onto groups x.outer (Opens x.delimiter x.lo ∷ xs)) (flat_onto-joined trees more es)

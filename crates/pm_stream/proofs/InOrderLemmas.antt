@@ -6,7 +6,7 @@ use Rattle.std.proofs.lemmas.List.Elements.{All-from_recursion, recursion_from_A
 use Rattle.pm_token.specs.Leaf.{is_joint}
 use Rattle.pm_token.specs.declared.marks.Spacing.{Spacing}
 use Rattle.pm_token.specs.declared.marks.Spacing.TheVariants.{Alone, Joint}
-use Rattle.pm_stream.specs.Forest.{Forest, nil, leaf, group, joined}
+use Rattle.pm_stream.specs.Forest.{Forest, nil, leaf, group, chain}
 use Rattle.pm_stream.specs.Trees.{before, forest, alone, inside}
 use Rattle.pm_stream.specs.InOrder.{spacing_of, token_tree, in_order_onto, in_order}
 use Rattle.pm_stream.specs.declared.stream.TokenTree.{TokenTree}
@@ -44,7 +44,7 @@ in_order-append (group d lo hi f g) ts more =
 
 -- the trees of two streams, one after the other
 pub in_order-joined : (f g : Forest) (more : List TokenTree)
-    → in_order_onto (joined f g) more ≡ in_order_onto f (in_order_onto g more)
+    → in_order_onto (chain f g) more ≡ in_order_onto f (in_order_onto g more)
 in_order-joined nil g more = refl
 in_order-joined (leaf token lo hi f) g more = ap (λ xs. token_tree token lo hi ∷ xs) (in_order-joined f g more)
 in_order-joined (group d lo hi f k) g more =

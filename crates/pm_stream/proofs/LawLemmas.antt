@@ -5,14 +5,14 @@ use Rattle.std.proofs.Common.{Ok, Err, IfOk, IfErr}
 use Rattle.std.proofs.Common.{None as Nothing}
 use Rattle.lexical.specs.Piece.{Kind, Piece, FrontMark, Gap, Doc, Open, Close, Leaf, IsPiece, HasNoPiece}
 use Rattle.lexical.specs.Cover.{onto, width, StandBefore, IsCover}
-use Rattle.lexical.specs.PieceFinder.{Found, found}
+use Rattle.lexical.specs.PieceFinder.{Found, find_piece}
 use Rattle.lexical.proofs.PieceLemmas.{one_piece, piece_from_found, none_from_found}
 use Rattle.lexical.proofs.PieceFacts.{piece_not_empty, piece_shortens}
 use Rattle.pm_token.specs.declared.delimiters.Delimiter.{Delimiter}
 use Rattle.pm_token.specs.declared.delimiters.Delimiter.TheVariants.{Parenthesis, Brace, Bracket, None}
 use Rattle.pm_stream.specs.Delimited.{delimiter_of}
 use Rattle.pm_stream.specs.Events.{Event, Closes, events_onto, expansion, Balanced, CanGoOn}
-use Rattle.pm_stream.specs.Forest.{Forest, nil, leaf, group, flattening, joined}
+use Rattle.pm_stream.specs.Forest.{Forest, nil, leaf, group, flattening, chain}
 use Rattle.pm_token.specs.Outcome.{IfLex}
 use Rattle.pm_token.specs.declared.errors.ParseError.{ParseError}
 use Rattle.pm_token.specs.declared.errors.ParseError.TheVariants.{Lex, MapFull, Memory}
@@ -36,7 +36,7 @@ pub record Front (first : Bool) (text : List ℕ) : Type 0 where
   pub stands : IsPiece first kind piece rest
 
 -- a text begins with a piece, or with none
-front_or_none : (first : Bool) (text : List ℕ) (o : Found) → found first text ≡ o
+front_or_none : (first : Bool) (text : List ℕ) (o : Found) → find_piece first text ≡ o
     → Front first text ⊎ HasNoPiece first text
 front_or_none first text Nothing e = inr (none_from_found first text e)
 front_or_none first text (Some x) e =
@@ -76,18 +76,18 @@ goes_later first u us vs v r s same h = record {
 }
 
 -- of two partial covers, one goes on from the other
-compared : (first : Bool) (us vs : List Piece) (r s : List ℕ) → StandBefore first us r
+compare_covers : (first : Bool) (us vs : List Piece) (r s : List ℕ) → StandBefore first us r
     → StandBefore first vs s → onto us r ≡ onto vs s
     → GoesOn first us vs r s ⊎ (GoesOn first vs us s r ⊎ ((us ≡ vs) × (r ≡ s)))
-compared first [] [] r s g h e = inr (inr (refl, e))
-compared first [] (v ∷ vs) r s g h e =
+compare_covers first [] [] r s g h e = inr (inr (refl, e))
+compare_covers first [] (v ∷ vs) r s g h e =
     inl (record { next = v; later = vs; split = refl; whole = e; stands = h.0 })
-compared first (u ∷ us) [] r s g h e =
+compare_covers first (u ∷ us) [] r s g h e =
     inr (inl (record { next = u; later = us; split = refl; whole = sym e; stands = g.0 }))
-compared first (u ∷ us) (v ∷ vs) r s g h e =
+compare_covers first (u ∷ us) (v ∷ vs) r s g h e =
     let same = one_piece first u.0 v.0 u.1 v.1 (onto us r) (onto vs s) g.0 h.0 e in
     let head : u ≡ v = ap₂ (λ k p. (k, p)) same.0 same.1 in
-    elim (compared false us vs r s g.1 h.1 same.2) [
+    elim (compare_covers false us vs r s g.1 h.1 same.2) [
       | inl more ↦ inl (goes_later first u us vs v r s head more)
       | inr other ↦ elim other [
         | inl more ↦ inr (inl (goes_later first v vs us u s r (sym head) more))
@@ -103,7 +103,7 @@ goes_not_from_end first us vs r s h e =
     cc
 
 pub one_cover : (source : List ℕ) (us vs : List Piece) → IsCover us source → IsCover vs source → us ≡ vs
-one_cover source us vs g h = elim (compared true us vs [] [] g.stand h.stand (sym g.whole ∙ h.whole)) [
+one_cover source us vs g h = elim (compare_covers true us vs [] [] g.stand h.stand (sym g.whole ∙ h.whole)) [
   | inl more ↦ absurd (goes_not_from_end true us vs [] [] more refl)
   | inr other ↦ elim other [
     | inl more ↦ absurd (goes_not_from_end true vs us [] [] more refl)
@@ -154,7 +154,7 @@ passes_none base source position h vs s more goes =
 stops_not : (base : ℕ) (source : List ℕ) (position : ℕ) → StopsAt base source position → (vs : List Piece)
     → IsCover vs source → CanGoOn (expansion base vs) → ⊥
 stops_not base source position h vs c goes =
-    elim (compared true h.pieces vs h.rest [] h.covers.stand c.stand (sym h.covers.whole ∙ c.whole)) [
+    elim (compare_covers true h.pieces vs h.rest [] h.covers.stand c.stand (sym h.covers.whole ∙ c.whole)) [
       | inl more ↦ passes_none base source position h vs [] more goes
       | inr other ↦ elim other [
         | inl more ↦ goes_not_from_end true vs h.pieces [] h.rest more refl
@@ -164,7 +164,7 @@ stops_not base source position h vs c goes =
 
 pub one_fault : (base : ℕ) (source : List ℕ) (j k : ℕ) → FaultAt base source j → FaultAt base source k → j ≡ k
 one_fault base source j k (inl g) (inl h) =
-    elim (compared true g.pieces h.pieces g.rest h.rest g.covers.stand h.covers.stand
+    elim (compare_covers true g.pieces h.pieces g.rest h.rest g.covers.stand h.covers.stand
     (sym g.covers.whole ∙ h.covers.whole)) [
       | inl more ↦ absurd (passes_none base source j g h.pieces h.rest more h.goes_on)
       | inr other ↦ elim other [
@@ -209,37 +209,37 @@ same_or_not Bracket Bracket = inl refl
 same_or_not None None = inl refl
 same_or_not _ _ = inr (λ e. cc)
 
-closed : (p : List ℕ) (at c : ℕ) (x : Opened) (groups : List Opened) (trees : Forest)
+ends_group : (p : List ℕ) (at c : ℕ) (x : Opened) (groups : List Opened) (trees : Forest)
     → (x.delimiter ≡ delimiter_of c) ⊎ (x.delimiter ≢ delimiter_of c)
     → Moved (Close c) p at (x ∷ groups) trees
-closed p at c x groups trees (inl same) = inl (
+ends_group p at c x groups trees (inl same) = inl (
   groups,
-  joined x.outer (group x.delimiter x.lo (at + length p) trees nil),
+  chain x.outer (group x.delimiter x.lo (at + length p) trees nil),
   unclosed-joined groups x.outer (group x.delimiter x.lo (at + length p) trees nil) []
       ∙ ap (λ d. unclosed_onto (x ∷ groups) trees (Closes d (at + length p) ∷ [])) same,
 )
-closed p at c x groups trees (inr apart) = inr (c, refl, apart)
+ends_group p at c x groups trees (inr apart) = inr (c, refl, apart)
 
-moved : (k : Kind) (p : List ℕ) (at : ℕ) (groups : List Opened) (trees : Forest) → Moved k p at groups trees
-moved FrontMark p at groups trees = inl (groups, trees, refl)
-moved Gap p at groups trees = inl (groups, trees, refl)
-moved (Doc inner text) p at groups trees =
+moves_on : (k : Kind) (p : List ℕ) (at : ℕ) (groups : List Opened) (trees : Forest) → Moved k p at groups trees
+moves_on FrontMark p at groups trees = inl (groups, trees, refl)
+moves_on Gap p at groups trees = inl (groups, trees, refl)
+moves_on (Doc inner text) p at groups trees =
     let doc = doc_trees at (at + length p) inner text in
     inl (
       groups,
-      joined trees doc,
+      chain trees doc,
       unclosed-joined groups trees doc []
           ∙ ap (unclosed_onto groups trees) (doc_trees-events at (at + length p) inner text []),
     )
-moved (Open c) p at groups trees =
+moves_on (Open c) p at groups trees =
     inl (record { outer = trees; delimiter = delimiter_of c; lo = at } ∷ groups, nil, refl)
-moved (Close c) p at [] trees = inr (c, refl, λ fits. fits)
-moved (Close c) p at (x ∷ groups) trees =
-    closed p at c x groups trees (same_or_not x.delimiter (delimiter_of c))
-moved (Leaf token) p at groups trees =
+moves_on (Close c) p at [] trees = inr (c, refl, λ fits. fits)
+moves_on (Close c) p at (x ∷ groups) trees =
+    ends_group p at c x groups trees (same_or_not x.delimiter (delimiter_of c))
+moves_on (Leaf token) p at groups trees =
     inl (
       groups,
-      joined trees (leaf token at (at + length p) nil),
+      chain trees (leaf token at (at + length p) nil),
       unclosed-joined groups trees (leaf token at (at + length p) nil) [],
     )
 
@@ -256,11 +256,11 @@ empty_or_not (x ∷ xs) = inr (λ e. cc)
 goes : (n base : ℕ) (source rest : List ℕ) (at : ℕ) (first : Bool) (groups : List Opened) (trees : Forest)
     → length rest < n → Reads base source rest at first groups trees → HasOutcome base source
 goes zero base source rest at first groups trees l h = absurd (omega arith)
-goes (suc n) base source rest at first groups trees l h = elim (front_or_none first rest (found first rest) refl) [
+goes (suc n) base source rest at first groups trees l h = elim (front_or_none first rest (find_piece first rest) refl) [
   | inl x ↦
       let shorter : length x.rest < n =
       omega (arith, ap length x.whole, piece_shortens first x.kind x.piece x.rest x.stands) in
-      elim (moved x.kind x.piece at groups trees) [
+      elim (moves_on x.kind x.piece at groups trees) [
         | inl new ↦ goes n base source x.rest (at + length x.piece) false new.0 new.1 shorter
             (reads_more base source rest x.piece x.rest at (at + length x.piece) first groups new.0 trees new.1 x.kind h
             x.whole x.stands refl new.2)

@@ -14,14 +14,14 @@ use Rattle.pm_stream.specs.Trees.{alone, forest}
 use Rattle.pm_stream.specs.declared.stream.TokenTree.{TokenTree}
 use Rattle.pm_stream.specs.declared.stream.TokenTree.TheVariants.{Group}
 use Rattle.pm_stream.proofs.EventLemmas.{unclosed-append}
-use Rattle.pm_stream.specs.Nesting.{innermost, opened, IsNested}
+use Rattle.pm_stream.specs.Nesting.{innermost, groups_open, IsNested}
 use Rattle.pm_stream.specs.ParserState.{Adds, Parses}
 use Rattle.pm_stream.specs.Taken.{HasClosed, HasTaken, IsLexed, IsTakenTo, Taken, past, position}
 use Rattle.pm_stream.specs.declared.parse.Frame.{Frame}
 use Rattle.pm_stream.specs.declared.parse.Parser.{Parser}
 use Rattle.pm_stream.specs.declared.reading.Lexed.{Lexed}
 use Rattle.pm_stream.proofs.OpenGroupLemmas.{unclosed_in, unclosed-push, unclosed-close, with_closed}
-use Rattle.pm_stream.proofs.OpenGroupLemmas.{closed, nested_more}
+use Rattle.pm_stream.proofs.OpenGroupLemmas.{closed_group, nested_more}
 use Rattle.pm_stream.proofs.OpenGroupLemmas.{built_close, built_later, built_push, IsBuiltIn}
 
 abbrev with_events : Taken Frame → List Event → Taken Frame
@@ -44,7 +44,7 @@ adds_tree old new tree more is = λ taken h.
           (omega (arith, ap length more, length-append trees (tree ∷ []))) h.nested;
       events = ap (λ ts. unclosed_in frames ts []) more
           ∙ (unclosed-push frames trees tree [] h.nested
-          ∙ (unclosed-append (opened frames trees) (forest (innermost frames trees)) [] (flat_onto (alone tree) [])
+          ∙ (unclosed-append (groups_open frames trees) (forest (innermost frames trees)) [] (flat_onto (alone tree) [])
           ∙ ap (λ es. es ++ flat_onto (alone tree) []) h.events));
       built = subst (IsBuiltIn (position taken) frames) (sym more)
           (built_push (position taken) frames trees tree h.nested h.built is);
@@ -63,7 +63,7 @@ adds_past old new es step taken front h =
     record {
       nested = now.nested;
       events = now.events;
-      built = built_later (opened taken.opened new.trees.items) (forest (innermost taken.opened new.trees.items))
+      built = built_later (groups_open taken.opened new.trees.items) (forest (innermost taken.opened new.trees.items))
           (position taken) (taken.base + length (taken.passed ++ front))
           (omega (arith, length-append taken.passed front)) now.built;
     }
@@ -110,9 +110,9 @@ parses_open parser lexed d n is to =
     record {
       nested = (omega (arith, is), subst (IsNested frames) (sym is) h.nested);
       events =
-          ap₂ (λ ts us. unclosed_onto (opened frames ts) (forest (innermost frames ts))
+          ap₂ (λ ts us. unclosed_onto (groups_open frames ts) (forest (innermost frames ts))
           (Opens d lexed.at ∷ flat_onto (forest us) [])) all none
-          ∙ (unclosed-append (opened frames trees) (forest (innermost frames trees)) [] (Opens d lexed.at ∷ [])
+          ∙ (unclosed-append (groups_open frames trees) (forest (innermost frames trees)) [] (Opens d lexed.at ∷ [])
           ∙ ap (λ es. es ++ (Opens d lexed.at ∷ [])) h.events);
       built = (
         subst (λ us. IsBuilt (forest us)) (sym none) tt,
@@ -154,12 +154,12 @@ parses_close old new frame lexed d span is grown = λ can.
           (omega (
             arith,
             ap length more,
-            length-append before (closed d frame trees hi ∷ []),
+            length-append before (closed_group d frame trees hi ∷ []),
             length-take-le frame.before trees nested.0,
           )) nested.1;
       events = ap (λ ts. unclosed_in outer ts []) more
           ∙ (unclosed-close outer frame trees d hi [] nested can.fits
-          ∙ (unclosed-append (opened (frame ∷ outer) trees) (forest (innermost (frame ∷ outer) trees)) []
+          ∙ (unclosed-append (groups_open (frame ∷ outer) trees) (forest (innermost (frame ∷ outer) trees)) []
           (Closes d hi ∷ [])
           ∙ ap (λ es. es ++ (Closes d hi ∷ [])) events));
       built = subst (IsBuiltIn after outer) (sym more)

@@ -33,11 +33,11 @@ use Rattle.pm_token.specs.declared.delimiters.Delimiter.{Delimiter}
 use Rattle.pm_token.specs.declared.delimiters.Delimiter.TheVariants.{None}
 use Rattle.pm_stream.specs.Delimited.{opening, closing}
 use Rattle.pm_stream.specs.Events.{Opens, Closes, events_onto}
-use Rattle.pm_stream.specs.Forest.{Forest, nil, group, flat_onto, flattening, joined}
+use Rattle.pm_stream.specs.Forest.{Forest, nil, group, flat_onto, flattening, chain}
 use Rattle.pm_stream.specs.InOrder.{in_order}
 use Rattle.pm_stream.specs.Parsing.{ParsesTo}
 use Rattle.pm_stream.specs.OpenGroups.{Opened, unclosed_onto}
-use Rattle.pm_stream.specs.Places.{ArePlaced, listed, moved_past, next_place, place_of, placed}
+use Rattle.pm_stream.specs.Places.{ArePlaced, tree_places, moved_past, next_place, place_of, tree_place}
 use Rattle.pm_stream.specs.PlacerState.{Places, doc_places, listed_open, open_groups, opener, origin}
 use Rattle.pm_stream.specs.Reading.{ReadsAll}
 use Rattle.pm_stream.specs.Taken.{HasTaken, IsLexed, IsTakenTo, Taken, nothing, past, position}
@@ -184,18 +184,19 @@ closing_line _ front e = ap is_one_line e
 
 -- ---- lists of trees
 
-listed-joined : (place : ℕ → Place) (f g : Forest) → listed place (joined f g) ≡ listed place f ++ listed place g
+listed-joined : (place : ℕ → Place) (f g : Forest)
+    → tree_places place (chain f g) ≡ tree_places place f ++ tree_places place g
 listed-joined place f g =
-    ap (map (placed place)) (in_order-joined f g [] ∙ in_order-append f [] (in_order g))
-    ∙ map-append (placed place) (in_order f) (in_order g)
+    ap (map (tree_place place)) (in_order-joined f g [] ∙ in_order-append f [] (in_order g))
+    ∙ map-append (tree_place place) (in_order f) (in_order g)
 
 listed_open-joined : (place : ℕ → Place) (groups : List Opened) (trees more : Forest)
-    → listed_open place groups (joined trees more) ≡ listed_open place groups trees ++ listed place more
+    → listed_open place groups (chain trees more) ≡ listed_open place groups trees ++ tree_places place more
 listed_open-joined place [] trees more = listed-joined place trees more
 listed_open-joined place (x ∷ groups) trees more =
     ap (λ xs. listed_open place groups x.outer ++ (opener place x.lo ∷ xs)) (listed-joined place trees more)
-    ∙ sym (append_assoc (listed_open place groups x.outer) (opener place x.lo ∷ listed place trees)
-    (listed place more))
+    ∙ sym (append_assoc (listed_open place groups x.outer) (opener place x.lo ∷ tree_places place trees)
+    (tree_places place more))
 
 -- line and column grow by at most the number of characters
 pub moved_past-within : (place : Place) (text : List ℕ)
@@ -249,7 +250,7 @@ within_of place items x outer opened (y ∷ groups) trees was around lists =
       arith,
       ap (λ f. f.index) head,
       ap length lists,
-      length-append before (opener place y.lo ∷ listed place trees),
+      length-append before (opener place y.lo ∷ tree_places place trees),
     )
 
 pub placed_within : {placer : Placer} {taken : Taken OpenGroup} (x : OpenGroup) (outer : List OpenGroup)
@@ -260,16 +261,16 @@ placed_within {placer} {taken} x outer was h =
 
 -- where the trees of a piece of this kind begin and end
 abbrev kind_places : PieceKind → Place → Place → List PlacedTree
-kind_places (pieces.Doc inner said) start end = doc_places inner start end
+kind_places (pieces.Doc inner doc_body) start end = doc_places inner start end
 kind_places pieces.Literal start end = record { start = start; end = end; kind = kinds.Literal } ∷ []
 kind_places (pieces.Mark joint mark) start end = record { start = start; end = end; kind = kinds.Punct } ∷ []
 kind_places (pieces.Name raw name) start end = record { start = start; end = end; kind = kinds.Ident } ∷ []
 kind_places _ start end = []
 
 kind_listed : (kind : PieceKind) (place : ℕ → Place) (lo hi : ℕ) (text : List ℕ)
-    → kind_places kind (place lo) (place hi) ≡ listed place (token_trees kind lo hi text)
-kind_listed (pieces.Doc true said) place lo hi text = refl
-kind_listed (pieces.Doc false said) place lo hi text = refl
+    → kind_places kind (place lo) (place hi) ≡ tree_places place (token_trees kind lo hi text)
+kind_listed (pieces.Doc true doc_body) place lo hi text = refl
+kind_listed (pieces.Doc false doc_body) place lo hi text = refl
 kind_listed _ place lo hi text = refl
 
 now_here : (old new origin : Place) (passed front : List ℕ) → new ≡ moved_past old front
@@ -327,7 +328,7 @@ module _ {old : Placer} {lexed : Lexed} (to : IsTakenTo Places old lexed) where
         record {
           begins = h.begins;
           groups = h.groups;
-          trees = joined h.trees f;
+          trees = chain h.trees f;
           same = unclosed-joined h.groups h.trees f []
               ∙ (unclosed-append h.groups h.trees [] (flattening f)
               ∙ ap₂ (λ xs ys. xs ++ ys) h.same (token_events kind lexed.at front is));
@@ -377,7 +378,7 @@ module _ {old : Placer} {lexed : Lexed} (to : IsTakenTo Places old lexed) where
         record {
           begins = h.begins;
           groups = groups;
-          trees = joined y.outer (group d y.lo after trees nil);
+          trees = chain y.outer (group d y.lo after trees nil);
           same = unclosed-joined groups y.outer (group d y.lo after trees nil) []
               ∙ (ap (λ b. unclosed_onto groups y.outer (Opens b y.lo ∷ flat_onto trees (Closes d after ∷ [])))
               (sym agree)
@@ -387,7 +388,7 @@ module _ {old : Placer} {lexed : Lexed} (to : IsTakenTo Places old lexed) where
           around = back;
           lists = grown ∙ (ap₂ (λ n t. set old.trees.items n t) (ap (λ o. o.index) head) made
               ∙ (ap (λ xs. set xs (length first) tree) lists
-              ∙ (set-append_seam first (opener place y.lo) (listed place trees) tree
+              ∙ (set-append_seam first (opener place y.lo) (tree_places place trees) tree
               ∙ sym (listed_open-joined place groups y.outer (group d y.lo after trees nil)))));
         }
 

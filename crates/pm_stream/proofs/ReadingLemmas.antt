@@ -27,7 +27,7 @@ use Rattle.pm_token.specs.declared.errors.ParseError.TheVariants.{Lex, MapFull, 
 use Rattle.pm_stream.specs.Delimited.{delimiter_of, opening, closing}
 use Rattle.pm_stream.specs.Events.{Event, Opens, Closes, events_onto}
 use Rattle.pm_stream.specs.Fault.{IsFault, IsFaultFor, IsOpenFault, IsStray}
-use Rattle.pm_stream.specs.Forest.{Forest, nil, leaf, group, flat_onto, flattening, joined}
+use Rattle.pm_stream.specs.Forest.{Forest, nil, leaf, group, flat_onto, flattening, chain}
 use Rattle.pm_stream.specs.OpenGroups.{FitsInnermost, Opened, unclosed_onto}
 use Rattle.pm_stream.specs.Parsing.{FaultAt}
 use Rattle.pm_stream.specs.Reading.{CanRead, HasRead, Reads, ReadsAll, ReadsMore, ReadsTo, Reading, openers_of}
@@ -83,9 +83,9 @@ on_ok (Ok x) f h = f h
 on_ok (Err error) f h = tt
 
 -- the last item of a list was removed
-pub popped : {T : Type 0} (old new : List T) (got : Option T) (P : T → Type 0) (last : T) → got ≡ Some last
+pub pop_last : {T : Type 0} (old new : List T) (got : Option T) (P : T → Type 0) (last : T) → got ≡ Some last
     → old ≡ new ++ option_to_list got → P last → IfSome got (λ x. (reverse old ≡ x ∷ reverse new) × P x)
-popped old new got P last is items h =
+pop_last old new got P last is items h =
     subst (λ x. IfSome x (λ y. (reverse old ≡ y ∷ reverse new) × P y)) (sym is)
     (ap reverse (items ∙ ap (λ x. new ++ option_to_list x) is) ∙ reverse-append new (last ∷ []), h)
 
@@ -130,7 +130,7 @@ IsToken _ = Unit {0}
 
 -- the trees of such a piece
 abbrev pub token_trees : PieceKind → ℕ → ℕ → List ℕ → Forest
-token_trees (kinds.Doc inner said) lo hi text = doc_trees lo hi inner (chars said.now)
+token_trees (kinds.Doc inner doc_body) lo hi text = doc_trees lo hi inner (chars doc_body.now)
 token_trees kinds.Literal lo hi text = leaf (tokens.Literal text) lo hi nil
 token_trees (kinds.Mark joint mark) lo hi text = leaf (tokens.Mark mark joint) lo hi nil
 token_trees (kinds.Name raw name) lo hi text = leaf (tokens.Name raw (chars name.now)) lo hi nil
@@ -138,7 +138,8 @@ token_trees _ lo hi text = nil
 
 pub token_events : (kind : PieceKind) (at : ℕ) (text : List ℕ) → IsToken kind
     → flattening (token_trees kind at (at + length text) text) ≡ events_onto at (kind_of kind text) text []
-token_events (kinds.Doc inner said) at text is = doc_trees-events at (at + length text) inner (chars said.now) []
+token_events (kinds.Doc inner doc_body) at text is =
+    doc_trees-events at (at + length text) inner (chars doc_body.now) []
 token_events (kinds.Opener c) at text is = absurd is
 token_events (kinds.Closer c) at text is = absurd is
 token_events _ at text is = refl
@@ -171,8 +172,8 @@ open_at base source at first (x ∷ groups) trees error reads h =
 
 -- ---- one more step
 
-abbrev taken : {T : Type 0} → ℕ → List ℕ → List ℕ → List T → List Event → Taken T
-taken base source passed opened events =
+abbrev taken_with : {T : Type 0} → ℕ → List ℕ → List ℕ → List T → List Event → Taken T
+taken_with base source passed opened events =
     record { base = base; source = source; passed = passed; opened = opened; events = events }
 
 module _ {S T : Type 0} {opens : T → Waiting} {took : S → Taken T → Type 0} {old : S} {stack : List T} (lexed : Lexed)
@@ -221,7 +222,8 @@ module _ {S T : Type 0} {opens : T → Waiting} {took : S → Taken T → Type 0
         reads = record {
           around = ap (map opens) (sym now) ∙ around;
           takes = subst (took new)
-              (ap₂ (taken can.to.before.base can.to.before.source (can.to.before.passed ++ can.to.is.found.front)) now
+              (ap₂ (taken_with can.to.before.base can.to.before.source (can.to.before.passed ++ can.to.is.found.front))
+              now
               (ap (λ fs. fs ++ es) can.events ∙ (sym (unclosed-append can.groups can.trees [] es) ∙ sym grows))) h;
         };
         grows = grows;
@@ -235,7 +237,7 @@ module _ {S T : Type 0} {opens : T → Waiting} {took : S → Taken T → Type 0
       let front = can.to.is.found.front in
       let trees = token_trees is lexed.at (lexed.at + length front) front in
       subst (HasReadOf lexed can new stack') (ap (events_of lexed can) (sym e))
-      (reads_step lexed can new stack' can.to.before.opened can.groups (joined can.trees trees) (events_of lexed can is)
+      (reads_step lexed can new stack' can.to.before.opened can.groups (chain can.trees trees) (events_of lexed can is)
       (can.opened ∙ ap reverse (sym same)) (ap (map opens) can.opened ∙ can.around) (step can.to)
       (unclosed-joined can.groups can.trees trees []
       ∙ ap (unclosed_onto can.groups can.trees) (token_events is lexed.at front token)))
@@ -266,7 +268,7 @@ module _ {S T : Type 0} {opens : T → Waiting} {took : S → Taken T → Type 0
           let rest : map opens (reverse stack') ≡ openers_of groups = cc in
           let agree : y.delimiter ≡ d = ap (λ w. w.0) (sym head) ∙ fits in
           let hi = lexed.at + 1 in
-          reads_step lexed can new stack' (reverse stack') groups (joined y.outer (group d y.lo hi can.trees nil))
+          reads_step lexed can new stack' (reverse stack') groups (chain y.outer (group d y.lo hi can.trees nil))
           (Closes d hi ∷ []) refl rest (step (can_close lexed c d is x stack' can e was fits))
           (unclosed-joined groups y.outer (group d y.lo hi can.trees nil) []
           ∙ (ap (λ b. unclosed_onto groups y.outer (Opens b y.lo ∷ flat_onto can.trees (Closes d hi ∷ []))) (sym agree)
@@ -292,7 +294,7 @@ reads_start {opens = opens} {took = took} base source sink stack none h first e 
   position = omega arith;
   takes = record {
     around = ap (λ s. map opens (reverse s)) none;
-    takes = subst (λ s. took sink (taken base source [] s [])) (sym (ap reverse none)) h;
+    takes = subst (λ s. took sink (taken_with base source [] s [])) (sym (ap reverse none)) h;
   };
   reads = subst (λ b. Reads base source source base b [] nil) (sym e) (reads_none base source);
 }
@@ -322,7 +324,7 @@ module _ {S T : Type 0} {opens : T → Waiting} {took : S → Taken T → Type 0
   can_read = record {
     to = record {
       is = record { first = first; found = found; utf8 = utf8; room = fits };
-      before = taken base source h.passed (reverse stack) (unclosed_onto h.groups h.trees []);
+      before = taken_with base source h.passed (reverse stack) (unclosed_onto h.groups h.trees []);
       takes = h.takes.takes;
       at = h.position;
       source = h.whole;
@@ -343,22 +345,23 @@ module _ {S T : Type 0} {opens : T → Waiting} {took : S → Taken T → Type 0
     passed_is = h.whole ∙ (ap (λ m. h.passed ++ m) (found.whole ∙ ap (λ t. found.front ++ t) (sym tail_is))
         ∙ sym (append_assoc h.passed found.front (chars bytes)))
 
-    abbrev behind : List ℕ
-    behind = (h.passed ++ found.front) ++ white.front
+    abbrev text_before : List ℕ
+    text_before = (h.passed ++ found.front) ++ white.front
 
-    behind_is : source ≡ behind ++ rest
-    behind_is = passed_is ∙ (ap (λ t. (h.passed ++ found.front) ++ t) white.whole
+    text_before_is : source ≡ text_before ++ rest
+    text_before_is = passed_is ∙ (ap (λ t. (h.passed ++ found.front) ++ t) white.whole
         ∙ sym (append_assoc (h.passed ++ found.front) white.front rest))
 
     -- the rest isn't the whole text
     pub not_whole : (text left : List ℕ) → IsUtf8 text → IsUtf8 left → source ≡ chars text → rest ≡ chars left
         → (length left == length text) ≡ false
     not_whole text left t l all is =
-        let whole : chars text ≡ behind ++ chars left = sym all ∙ (behind_is ∙ ap (λ r. behind ++ r) is) in
-        let size = front_len text left behind t l whole in
-        let some = length-le-encodes behind in
+        let whole : chars text ≡ text_before ++ chars left =
+        sym all ∙ (text_before_is ∙ ap (λ r. text_before ++ r) is) in
+        let size = front_len text left text_before t l whole in
+        let some = length-le-encodes text_before in
         let less = (shorter utf8 found cut white).1 in
-        let sizes = length-append behind (chars left) in
+        let sizes = length-append text_before (chars left) in
         let before = length-append h.passed (chars lexed.text.now) in
         false_from_ne_true (length left == length text) (λ same. let e = eqb-true (length left) (length text) same in
         absurd (omega (
@@ -388,7 +391,7 @@ module _ {S T : Type 0} {opens : T → Waiting} {took : S → Taken T → Type 0
       can_pass = record {
         rest = rest;
         white = white;
-        before = taken base source (h.passed ++ found.front) (reverse stack')
+        before = taken_with base source (h.passed ++ found.front) (reverse stack')
             (unclosed_onto more.groups_now more.trees_now []);
         takes = more.reads.takes;
         source = passed_is;
@@ -408,8 +411,8 @@ module _ {S T : Type 0} {opens : T → Waiting} {took : S → Taken T → Type 0
           record {
             groups = more.groups_now;
             trees = more.trees_now;
-            passed = behind;
-            whole = behind_is;
+            passed = text_before;
+            whole = text_before_is;
             position = omega (
               arith,
               h.position,
@@ -420,7 +423,7 @@ module _ {S T : Type 0} {opens : T → Waiting} {took : S → Taken T → Type 0
             );
             takes = record {
               around = more.reads.around;
-              takes = subst (λ es. took new (taken base source behind (reverse stack') es))
+              takes = subst (λ es. took new (taken_with base source text_before (reverse stack') es))
                   (append-nil (unclosed_onto more.groups_now more.trees_now [])) (passes can_pass);
             };
             reads = subst (λ b. Reads base source rest at b more.groups_now more.trees_now) (sym later)
@@ -444,8 +447,8 @@ module _ {S T : Type 0} {opens : T → Waiting} {took : S → Taken T → Type 0
   all_of passed [] trees none done whole h reads = record {
     stream = trees;
     parses = reads_all base source rest at first trees reads done;
-    takes = subst (λ s. took sink (taken base source source s (flattening trees))) (ap reverse none)
-        (subst (λ p. took sink (taken base source p (reverse stack) (flattening trees)))
+    takes = subst (λ s. took sink (taken_with base source source s (flattening trees))) (ap reverse none)
+        (subst (λ p. took sink (taken_with base source p (reverse stack) (flattening trees)))
         (sym (whole ∙ (ap (λ r. passed ++ r) done ∙ append-nil passed))) h.takes);
   }
   all_of passed (x ∷ groups) trees none done whole h reads =

@@ -17,9 +17,9 @@ abbrev pub left_spaced : List Step → Bool
 left_spaced [] = true
 left_spaced (step ∷ steps) = step_fits step && left_spaced steps
 
-grouped : (a b c : Bool) → ((a && b) && c) ≡ (a && (b && c))
-grouped true b c = refl
-grouped false b c = refl
+and_assoc : (a b c : Bool) → ((a && b) && c) ≡ (a && (b && c))
+and_assoc true b c = refl
+and_assoc false b c = refl
 
 token_fits : (token : Token) (lo hi : ℕ) (rest : Forest)
     → tree_fits (token_tree token lo hi) rest ≡ fits token (next_token rest)
@@ -34,14 +34,14 @@ left_spaced-onto nil more = refl
 left_spaced-onto (leaf token lo hi rest) more =
     rw (token_fits token lo hi rest)
     (ap (λ b. fits token (next_token rest) && b) (left_spaced-onto rest more)
-    ∙ sym (grouped (fits token (next_token rest)) (well_spaced rest) (left_spaced more)))
+    ∙ sym (and_assoc (fits token (next_token rest)) (well_spaced rest) (left_spaced more)))
 left_spaced-onto (group d lo hi inside rest) more =
     let whole : Grouped = record { delimiter = d; stream = inside; span = record { lo = lo; hi = hi } } in
     ap (λ b. is_shown d && b)
     (left_spaced-onto inside (Leave whole rest ∷ steps_onto rest more)
     ∙ (ap (λ b. well_spaced inside && b) (left_spaced-onto rest more)
-    ∙ sym (grouped (well_spaced inside) (well_spaced rest) (left_spaced more))))
-    ∙ sym (grouped (is_shown d) (well_spaced inside && well_spaced rest) (left_spaced more))
+    ∙ sym (and_assoc (well_spaced inside) (well_spaced rest) (left_spaced more))))
+    ∙ sym (and_assoc (is_shown d) (well_spaced inside && well_spaced rest) (left_spaced more))
 
 and_true : (b : Bool) → (b && true) ≡ b
 and_true true = refl

@@ -86,9 +86,9 @@ token_inside (Punct p) other = refl
 token_inside (Literal l) other = refl
 
 -- a step that the traversal returned is the first of those that were left
-pub taken : (next : Option Given) (step : Given) (old new : List Step) → next ≡ Some step
+pub takes_first : (next : Option Given) (step : Given) (old new : List Step) → next ≡ Some step
     → MatchOption next ((old ≡ []) × (new ≡ [])) (λ s. old ≡ step_of s ∷ new) → old ≡ step_of step ∷ new
-taken next step old new is h = rw is at h
+takes_first next step old new is h = rw is at h
 
 -- ---- the tree that comes next
 

@@ -1,7 +1,7 @@
 -- Groups that are taken from the end of a list of trees.
 use Rattle.std.proofs.Common.{◌≡◌, ◌+◌, ◌≤◌, arith, List, ◌++◌, Option, Some, None, sym, ap, subst, ◌∙◌}
 use Rattle.std.specs.Option.{option_to_list}
-use Rattle.pm_stream.specs.Forest.{Forest, joined, IsBuilt, nil}
+use Rattle.pm_stream.specs.Forest.{Forest, chain, IsBuilt, nil}
 use Rattle.pm_stream.specs.Size.{count}
 use Rattle.pm_stream.specs.Trees.{alone, before, forest, TakesGroup}
 use Rattle.pm_stream.specs.declared.stream.Group.{Group as Grouped}
@@ -16,18 +16,18 @@ takes_nothing f = (nil, sym (joined_nil f))
 
 -- the old trees are those that are left, then the tree that was taken, and then those taken before
 taken_before : (old : Forest) (now new : List TokenTree) (r : Option TokenTree) (t : TokenTree) (rest : Forest)
-    → old ≡ joined (forest now) rest → now ≡ new ++ option_to_list r → r ≡ Some t
-    → old ≡ joined (forest new) (joined (alone t) rest)
+    → old ≡ chain (forest now) rest → now ≡ new ++ option_to_list r → r ≡ Some t
+    → old ≡ chain (forest new) (chain (alone t) rest)
 taken_before old now new r t rest so_far popped some =
     so_far
-    ∙ ap (λ f. joined f rest) (ap forest (popped ∙ ap (λ o. new ++ option_to_list o) some) ∙ forest-push new t)
+    ∙ ap (λ f. chain f rest) (ap forest (popped ∙ ap (λ o. new ++ option_to_list o) some) ∙ forest-push new t)
     ∙ joined_assoc (forest new) (alone t) rest
 
 -- a tree was taken
 pub takes_tree : (old : Forest) (now new : List TokenTree) (r : Option TokenTree) (t : TokenTree)
     → TakesGroup old None (forest now) → now ≡ new ++ option_to_list r → r ≡ Some t → TakesGroup old None (forest new)
 takes_tree old now new r t so_far popped some =
-    (joined (alone t) so_far.0, taken_before old now new r t so_far.0 so_far.1 popped some)
+    (chain (alone t) so_far.0, taken_before old now new r t so_far.0 so_far.1 popped some)
 
 -- a group was taken
 pub takes_group : (old : Forest) (now new : List TokenTree) (r : Option TokenTree) (t : TokenTree) (g : Grouped)

@@ -2,7 +2,7 @@
 use Rattle.std.specs.Prelude.{◌≡◌, List, [], ◌∷◌, Option, Some, if◌then◌else◌}
 use Rattle.std.specs.Iterator.{Drains, Yields}
 use Rattle.pm_token.specs.Negative.{has_minus, minus_of, number_of}
-use Rattle.pm_stream.specs.Forest.{Forest, nil, joined}
+use Rattle.pm_stream.specs.Forest.{Forest, nil, chain}
 use Rattle.pm_stream.specs.Trees.{alone, before}
 use Rattle.pm_stream.specs.declared.stream.TokenTree.{TokenTree}
 use Rattle.pm_stream.specs.declared.stream.TokenTree.TheVariants.{Group, Ident, Punct, Literal}
@@ -16,13 +16,13 @@ split (Literal l) =
     if has_minus l.text then before (Punct (minus_of l)) (alone (Literal (number_of l))) else alone (Literal l)
 
 -- the trees of each item, one item after another
-abbrev pub gathered : {A : Type 0} → (A → Forest) → List A → Forest
-gathered trees [] = nil
-gathered trees (item ∷ items) = joined (trees item) (gathered trees items)
+abbrev pub trees_of_all : {A : Type 0} → (A → Forest) → List A → Forest
+trees_of_all trees [] = nil
+trees_of_all trees (item ∷ items) = chain (trees item) (trees_of_all trees items)
 
 -- the new stream has the old trees, and then the trees of each item
 abbrev pub PutsIn : {A : Type 0} → (A → Forest) → Forest → List A → Forest → Type 0
-PutsIn trees old items new = new ≡ joined old (gathered trees items)
+PutsIn trees old items new = new ≡ chain old (trees_of_all trees items)
 
 -- the iterable gives at least one item
 abbrev pub GivesAnItem : {U T A : Type 0} → (U → T → Type 0) → (T → Option A → T → Type 0) → U → Type 0

@@ -25,10 +25,10 @@ abbrev pub flattening : Forest → List Event
 flattening forest = flat_onto forest []
 
 -- the trees of the first stream, and then those of the second
-abbrev pub joined : Forest → Forest → Forest
-joined nil more = more
-joined (leaf token lo hi rest) more = leaf token lo hi (joined rest more)
-joined (group d lo hi inside rest) more = group d lo hi inside (joined rest more)
+abbrev pub chain : Forest → Forest → Forest
+chain nil more = more
+chain (leaf token lo hi rest) more = leaf token lo hi (chain rest more)
+chain (group d lo hi inside rest) more = group d lo hi inside (chain rest more)
 
 -- `built`: each token is one of the grammar's, and no span ends before it begins. Every stream is built
 abbrev pub IsBuilt : Forest → Type 0

@@ -6,7 +6,7 @@ use Rattle.std.proofs.Common.{arith}
 use denote.Param.Weighed.{most}
 use Rattle.pm_stream.specs.Forest.{Forest}
 use Rattle.pm_stream.specs.Size.{count}
-use Rattle.pm_stream.specs.Trees.{before, forest, held}
+use Rattle.pm_stream.specs.Trees.{before, forest, shared_trees}
 use Rattle.pm_stream.specs.declared.stream.TokenTree.{TokenTree}
 use Rattle.pm_stream.specs.declared.stream.TokenTree.TheVariants.{Group, Ident, Punct, Literal}
 use Rattle.pm_stream.specs.declared.stream.TokenStream.TheDeep.{deep-TokenTree}
@@ -25,6 +25,6 @@ most_le-count (t ∷ ts) = omega (arith, deep_le-before t (forest ts), most_le-c
 
 -- what `size_decreases` requires: a stream counts at least as many trees as the trees in its list do
 pub deep_le-held : (o : Option (Rc (Vec TokenTree Global) Global))
-    → max (weighed-TokenStream-trees.weight TokenTree deep-TokenTree o) 0 ≤ count (held o)
+    → max (weighed-TokenStream-trees.weight TokenTree deep-TokenTree o) 0 ≤ count (shared_trees o)
 deep_le-held None = omega arith
 deep_le-held (Some r) = omega (arith, most_le-count r.value.items)

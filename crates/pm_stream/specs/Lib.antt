@@ -10,7 +10,7 @@ pub mod TreeSpan
 pub mod Printed
 pub mod PrintedEvents
 pub mod PrintedTree
-pub mod Rule
+pub mod PrinterRule
 pub mod Shown
 pub mod WellSpaced
 pub mod SpacedTree

@@ -11,11 +11,12 @@ innermost [] trees = trees
 innermost (frame ∷ frames) trees = drop frame.before trees
 
 -- the open groups, each with the trees before it
-abbrev pub opened : List Frame → List TokenTree → List Opened
-opened [] trees = []
-opened (frame ∷ frames) trees =
+abbrev pub groups_open : List Frame → List TokenTree → List Opened
+groups_open [] trees = []
+groups_open (frame ∷ frames) trees =
     let outer = take frame.before trees in
-    record { outer = forest (innermost frames outer); delimiter = frame.delimiter; lo = frame.lo } ∷ opened frames outer
+    record { outer = forest (innermost frames outer); delimiter = frame.delimiter; lo = frame.lo }
+    ∷ groups_open frames outer
 
 -- the trees of each frame begin at an index of at most `count`, and not before those of the frame around it
 abbrev pub IsNested : List Frame → ℕ → Type 0

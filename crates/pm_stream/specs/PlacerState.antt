@@ -2,7 +2,7 @@
 use Rattle.std.specs.Prelude.{ℕ, ◌≡◌, ◌≤◌, Bool, true, false, List, [], ◌∷◌, ◌++◌, length}
 use Rattle.pm_stream.specs.Forest.{Forest}
 use Rattle.pm_stream.specs.OpenGroups.{Opened, unclosed_onto}
-use Rattle.pm_stream.specs.Places.{listed, moved_past, place_of}
+use Rattle.pm_stream.specs.Places.{tree_places, moved_past, place_of}
 use Rattle.pm_stream.specs.Taken.{Taken}
 use Rattle.pm_stream.specs.declared.placing.Place.{Place}
 use Rattle.pm_stream.specs.declared.placing.PlacedTree.{PlacedTree}
@@ -16,9 +16,9 @@ opener place lo = record { start = place lo; end = place lo; kind = kinds.Group 
 
 -- the open groups, the innermost given first, each after the trees before it, and then the innermost group's trees
 abbrev pub listed_open : (ℕ → Place) → List Opened → Forest → List PlacedTree
-listed_open place [] trees = listed place trees
+listed_open place [] trees = tree_places place trees
 listed_open place (group ∷ groups) trees =
-    listed_open place groups group.outer ++ (opener place group.lo ∷ listed place trees)
+    listed_open place groups group.outer ++ (opener place group.lo ∷ tree_places place trees)
 
 -- what the placer keeps of each open group, the innermost first
 abbrev pub open_groups : (ℕ → Place) → List Opened → List OpenGroup

@@ -39,16 +39,16 @@ tree_kind (trees.Punct p) = kinds.Punct
 tree_kind (trees.Literal l) = kinds.Literal
 
 -- where a tree begins and ends, by line and column, and its kind
-abbrev pub placed : (ℕ → Place) → TokenTree → PlacedTree
-placed place tree =
+abbrev pub tree_place : (ℕ → Place) → TokenTree → PlacedTree
+tree_place place tree =
     record { start = place (extent_of tree).lo; end = place (extent_of tree).hi; kind = tree_kind tree }
 
 -- where the trees of a stream begin and end, in reading order
-abbrev pub listed : (ℕ → Place) → Forest → List PlacedTree
-listed place trees = map (placed place) (in_order trees)
+abbrev pub tree_places : (ℕ → Place) → Forest → List PlacedTree
+tree_places place trees = map (tree_place place) (in_order trees)
 
 -- the list says where each tree begins and ends, for the stream that the source parses to
 pub record ArePlaced (base : ℕ) (source : List ℕ) (trees : List PlacedTree) : Type 0 where
   pub stream : Forest
   pub parses : ParsesTo base source stream
-  pub places : trees ≡ listed (place_of base source) stream
+  pub places : trees ≡ tree_places (place_of base source) stream

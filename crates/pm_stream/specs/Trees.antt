@@ -4,7 +4,7 @@ use Rattle.std.specs.declared.alloc.Global.{Global}
 use Rattle.std.specs.declared.rc.Rc.{Rc}
 use Rattle.lexical.specs.Literal.{IsLiteralToken}
 use Rattle.pm_token.specs.Leaf.{name_token, mark_token, text_token}
-use Rattle.pm_stream.specs.Forest.{Forest, nil, leaf, group, joined}
+use Rattle.pm_stream.specs.Forest.{Forest, nil, leaf, group, chain}
 use Rattle.pm_stream.specs.declared.stream.Group.{Group as Grouped}
 use Rattle.pm_stream.specs.declared.stream.TokenTree.{TokenTree}
 use Rattle.pm_stream.specs.declared.stream.TokenTree.TheVariants.{Group, Ident, Punct, Literal}
@@ -40,11 +40,11 @@ inside (Punct p) = nil
 inside (Literal l) = nil
 
 -- the trees that a stream holds, which other streams may share. A stream without a list is empty
-abbrev pub held : Option (Rc (Vec TokenTree Global) Global) → Forest
-held None = nil
-held (Some shared) = forest shared.value.items
+abbrev pub shared_trees : Option (Rc (Vec TokenTree Global) Global) → Forest
+shared_trees None = nil
+shared_trees (Some shared) = forest shared.value.items
 
 -- the last group was removed, with the trees after it; or no group is returned, and only trees at the end were removed
 abbrev pub TakesGroup : Forest → Option Grouped → Forest → Type 0
-TakesGroup old None new = (rest : Forest) × old ≡ joined new rest
-TakesGroup old (Some g) new = (rest : Forest) × old ≡ joined new (before (Group g) rest)
+TakesGroup old None new = (rest : Forest) × old ≡ chain new rest
+TakesGroup old (Some g) new = (rest : Forest) × old ≡ chain new (before (Group g) rest)

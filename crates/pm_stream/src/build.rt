@@ -1,7 +1,7 @@
 //! Calls that build and change streams.
 ghost use Rattle.std.specs.Prelude.{◌≡◌, IfErr, IfOk, OnErr};
 ghost use Rattle.std.specs.Iterator.{ExtendsWithItems, IsFiniteIterable};
-ghost use Rattle.pm_stream.specs.Building.{GivesAll, GivesAnItem, PutsIn, RefusesAnItem, gathered, split};
+ghost use Rattle.pm_stream.specs.Building.{GivesAll, GivesAnItem, PutsIn, RefusesAnItem, trees_of_all, split};
 ghost use Rattle.pm_stream.specs.Forest.{Forest};
 
 mod collects;
@@ -34,7 +34,7 @@ impl TokenStream {
     ) -> Result<TokenStream, AllocError>
         requires { IsFiniteIterable I.into_iter_gives I.IntoIter.can_next I.IntoIter.remaining trees }
         ensures ok { IfOk result (λ stream. GivesAll I.into_iter_gives I.IntoIter.next_gives trees
-            (λ trees. stream ≡ gathered split trees)) }
+            (λ trees. stream ≡ trees_of_all split trees)) }
         ensures memory { IfErr result (λ _. GivesAnItem I.into_iter_gives I.IntoIter.next_gives trees) }
     {
         let mut stream = TokenStream::new(alloc);
@@ -52,7 +52,7 @@ impl TokenStream {
     ) -> Result<TokenStream, AllocError>
         requires { IsFiniteIterable I.into_iter_gives I.IntoIter.can_next I.IntoIter.remaining streams }
         ensures ok { IfOk result (λ stream. GivesAll I.into_iter_gives I.IntoIter.next_gives streams
-            (λ streams. stream ≡ gathered (λ stream. stream) streams)) }
+            (λ streams. stream ≡ trees_of_all (λ stream. stream) streams)) }
         ensures memory { IfErr result (λ _. GivesAnItem I.into_iter_gives I.IntoIter.next_gives streams) }
     {
         let mut stream = TokenStream::new(alloc);

@@ -2,7 +2,7 @@
 ghost use Rattle.std.specs.Prelude.{◌≡◌};
 ghost use Rattle.pm_stream.specs.Forest.{Forest};
 ghost use Rattle.pm_stream.specs.Printed.{printed};
-ghost use Rattle.pm_stream.specs.Rule.{ruled};
+ghost use Rattle.pm_stream.specs.PrinterRule.{text_by_rule};
 
 /// The printed text of a stream is its trees in order, with one space between two trees but none after a Joint mark.
 ///
@@ -10,5 +10,5 @@ ghost use Rattle.pm_stream.specs.Rule.{ruled};
 /// Braces are `{ }` around an empty stream, and otherwise `{ .. }` with one space on each side. A group without
 /// delimiters is printed as its stream.
 pub fn printed_by_the_rule()
-    ensures { (stream : Forest) → printed stream ≡ ruled stream }
+    ensures { (stream : Forest) → printed stream ≡ text_by_rule stream }
 {}

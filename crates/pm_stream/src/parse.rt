@@ -163,8 +163,8 @@ impl TokenSink for Parser {
     }
 
     #[inline(always)]
-    fn doc(&mut self, lexed: Lexed<'_>, inner: bool, said: &str) -> Result<(), AllocError> {
-        self.push_doc(inner, said, lexed.span())
+    fn doc(&mut self, lexed: Lexed<'_>, inner: bool, doc_body: &str) -> Result<(), AllocError> {
+        self.push_doc(inner, doc_body, lexed.span())
     }
 
     #[inline(always)]

@@ -1,7 +1,7 @@
 //! Calls for the crates that are built on this one, not for users.
 ghost use Rattle.std.specs.Prelude.{◌≡◌, IfOk, OnErr, OnOk};
 ghost use Rattle.pm_stream.specs.Building.{split};
-ghost use Rattle.pm_stream.specs.Forest.{IsBuilt, joined, nil};
+ghost use Rattle.pm_stream.specs.Forest.{IsBuilt, chain, nil};
 ghost use Rattle.pm_stream.specs.Trees.{forest};
 ghost use Rattle.pm_stream.specs.declared.stream.TokenTree.TheVariants.{Group as GroupTree, Ident as IdentTree};
 ghost use Rattle.pm_stream.specs.declared.stream.TokenTree.TheVariants.{Punct as PunctTree, Literal as LiteralTree};
@@ -55,7 +55,7 @@ pub fn set_stream(group: &mut Group, stream: TokenStream)
 /// Appends a group to a stream. If memory runs out, the stream does not change.
 #[inline(always)]
 pub fn put_group(stream: &mut TokenStream, group: Group) -> Result<(), AllocError>
-    ensures ok { OnOk result (stream.new ≡ joined stream.old (split (GroupTree group))) }
+    ensures ok { OnOk result (stream.new ≡ chain stream.old (split (GroupTree group))) }
     ensures err { OnErr result (stream.new ≡ stream.old) }
 {
     stream.put_group(group)
@@ -64,7 +64,7 @@ pub fn put_group(stream: &mut TokenStream, group: Group) -> Result<(), AllocErro
 /// Appends an identifier to a stream. If memory runs out, the stream does not change.
 #[inline(always)]
 pub fn put_ident(stream: &mut TokenStream, ident: Ident) -> Result<(), AllocError>
-    ensures ok { OnOk result (stream.new ≡ joined stream.old (split (IdentTree ident))) }
+    ensures ok { OnOk result (stream.new ≡ chain stream.old (split (IdentTree ident))) }
     ensures err { OnErr result (stream.new ≡ stream.old) }
 {
     stream.put_ident(ident)
@@ -73,7 +73,7 @@ pub fn put_ident(stream: &mut TokenStream, ident: Ident) -> Result<(), AllocErro
 /// Appends a mark to a stream. If memory runs out, the stream does not change.
 #[inline(always)]
 pub fn put_punct(stream: &mut TokenStream, punct: Punct) -> Result<(), AllocError>
-    ensures ok { OnOk result (stream.new ≡ joined stream.old (split (PunctTree punct))) }
+    ensures ok { OnOk result (stream.new ≡ chain stream.old (split (PunctTree punct))) }
     ensures err { OnErr result (stream.new ≡ stream.old) }
 {
     stream.put_punct(punct)
@@ -83,7 +83,7 @@ pub fn put_punct(stream: &mut TokenStream, punct: Punct) -> Result<(), AllocErro
 /// change.
 #[inline(always)]
 pub fn put_literal(stream: &mut TokenStream, literal: Literal) -> Result<(), AllocError>
-    ensures ok { OnOk result (stream.new ≡ joined stream.old (split (LiteralTree literal))) }
+    ensures ok { OnOk result (stream.new ≡ chain stream.old (split (LiteralTree literal))) }
     ensures err { OnErr result (stream.new ≡ stream.old) }
 {
     stream.put_literal(literal)

@@ -178,7 +178,7 @@ impl TokenSink for Placer {
     }
 
     #[inline(always)]
-    fn doc(&mut self, lexed: Lexed<'_>, inner: bool, _said: &str) -> Result<(), AllocError> {
+    fn doc(&mut self, lexed: Lexed<'_>, inner: bool, _doc_body: &str) -> Result<(), AllocError> {
         self.push_doc(inner, self.past(lexed))
     }
 

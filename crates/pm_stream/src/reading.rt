@@ -91,11 +91,11 @@ pub trait TokenSink {
         requires { CanTake took self.old lexed kinds.Literal }
         ensures { OnOk result (HasTaken took self.old self.new lexed.entry kinds.Literal) };
 
-    /// Takes a doc comment, instead of all the tokens that it expands to. `said` is its text without the comment's
+    /// Takes a doc comment, instead of all the tokens that it expands to. `doc_body` is its text without the comment's
     /// marks.
-    fn doc(&mut self, lexed: Lexed<'_>, inner: bool, said: &str) -> Result<(), AllocError>
-        requires { CanTake took self.old lexed (kinds.Doc inner said) }
-        ensures { OnOk result (HasTaken took self.old self.new lexed.entry (kinds.Doc inner said.entry)) };
+    fn doc(&mut self, lexed: Lexed<'_>, inner: bool, doc_body: &str) -> Result<(), AllocError>
+        requires { CanTake took self.old lexed (kinds.Doc inner doc_body) }
+        ensures { OnOk result (HasTaken took self.old self.new lexed.entry (kinds.Doc inner doc_body.entry)) };
 
     /// Takes a piece that is no token: the front mark, a comment that is no doc comment, or a white character. ASCII
     /// white characters right after a piece are passed to [`white`](TokenSink::white) instead.

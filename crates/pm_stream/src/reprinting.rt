@@ -54,18 +54,18 @@ fn reprint_at(alloc: Global, base: u32, text: &str) -> Result<String, ParseError
     ensures lex { IfErr result (IsFault base (chars text.now)) }
 {
     let mut printer = Printer {
-        draft: TextBuilder::with_room(alloc, text.len())?,
+        text_out: TextBuilder::with_room(alloc, text.len())?,
         gap: false,
     };
     read(alloc, base, text, &mut printer)?;
-    Ok(printer.draft.into_string())
+    Ok(printer.text_out.into_string())
 }
 
 /// A sink that prints the tokens.
 #[derive(Drop)]
 struct Printer {
     /// The printed text of what was read so far.
-    draft: TextBuilder,
+    text_out: TextBuilder,
     /// Whether a space goes before what is printed next.
     gap: bool,
 }
@@ -113,8 +113,8 @@ impl TokenSink for Printer {
     }
 
     #[inline(always)]
-    fn doc(&mut self, _lexed: Lexed<'_>, inner: bool, said: &str) -> Result<(), AllocError> {
-        self.push_doc(inner, said)
+    fn doc(&mut self, _lexed: Lexed<'_>, inner: bool, doc_body: &str) -> Result<(), AllocError> {
+        self.push_doc(inner, doc_body)
     }
 
     #[inline(always)]
@@ -142,7 +142,7 @@ impl TokenSink for Printer {
         delimiter: Delimiter,
         _group: OpenGroup,
     ) -> Result<(), AllocError> {
-        push_ending(&mut self.draft, delimiter)?;
+        push_ending(&mut self.text_out, delimiter)?;
         self.gap = true;
         Ok(())
     }
@@ -151,23 +151,23 @@ impl TokenSink for Printer {
 impl Printer {
     /// Prints the text, after a space if one goes before it.
     fn write(&mut self, text: &str) -> Result<(), AllocError>
-        ensures ok { OnOk result (self.new.draft ≡ self.old.draft ++ (space self.old.gap ++ chars text.now)) }
+        ensures ok { OnOk result (self.new.text_out ≡ self.old.text_out ++ (space self.old.gap ++ chars text.now)) }
     {
         if self.gap {
-            self.draft.push(' ')?;
+            self.text_out.push(' ')?;
         }
-        self.draft.push_text(text)
+        self.text_out.push_text(text)
     }
 
     /// Prints the character, after a space if one goes before it. This is faster than `write` with a text of one
     /// character.
     fn write_char(&mut self, c: char) -> Result<(), AllocError>
-        ensures ok { OnOk result (self.new.draft ≡ self.old.draft ++ (space self.old.gap ++ c ∷ [])) }
+        ensures ok { OnOk result (self.new.text_out ≡ self.old.text_out ++ (space self.old.gap ++ c ∷ [])) }
     {
         if self.gap {
-            self.draft.push(' ')?;
+            self.text_out.push(' ')?;
         }
-        self.draft.push(c)
+        self.text_out.push(c)
     }
 
     /// Prints a doc comment: the mark `#`, the mark `!` if it is inner, and the group of its text.
@@ -177,8 +177,8 @@ impl Printer {
             → PrintsEvents self.old self.new (doc_onto lo hi inner (chars text.now) [])) }
     {
         self.write(doc_front(inner))?;
-        self.draft.push_string(text)?;
-        self.draft.push(']')?;
+        self.text_out.push_string(text)?;
+        self.text_out.push(']')?;
         self.gap = true;
         Ok(())
     }
@@ -186,7 +186,7 @@ impl Printer {
     /// Prints the opener of a group, after a space if one goes before it.
     #[inline(always)]
     fn write_opening(&mut self, delimiter: Delimiter) -> Result<(), AllocError>
-        ensures ok { OnOk result (self.new.draft ≡ self.old.draft ++ (space self.old.gap ++ opening delimiter)) }
+        ensures ok { OnOk result (self.new.text_out ≡ self.old.text_out ++ (space self.old.gap ++ opening delimiter)) }
     {
         match delimiter {
             Delimiter::Parenthesis => self.write_char('('),
@@ -198,16 +198,16 @@ impl Printer {
 }
 
 /// Prints the closer of a group, with a space before `}`.
-fn push_ending(draft: &mut TextBuilder, delimiter: Delimiter) -> Result<(), AllocError>
-    ensures { OnOk result (draft.new ≡ draft.old ++ ending delimiter) }
+fn push_ending(text_out: &mut TextBuilder, delimiter: Delimiter) -> Result<(), AllocError>
+    ensures { OnOk result (text_out.new ≡ text_out.old ++ ending delimiter) }
 {
     match delimiter {
-        Delimiter::Parenthesis => draft.push(')'),
+        Delimiter::Parenthesis => text_out.push(')'),
         Delimiter::Brace => {
-            draft.push(' ')?;
-            draft.push('}')
+            text_out.push(' ')?;
+            text_out.push('}')
         }
-        Delimiter::Bracket => draft.push(']'),
+        Delimiter::Bracket => text_out.push(']'),
         Delimiter::None => Ok(()),
     }
 }

@@ -2,9 +2,9 @@
 ghost use Rattle.std.specs.Prelude.{◌≡◌, ◌≤◌, ◌+◌, All, IfOk, IfErr, IsOk, OnOk};
 ghost use Rattle.pm_span.specs.Extent.{nowhere};
 ghost use Rattle.pm_span.specs.Files.{Files};
-ghost use Rattle.pm_stream.specs.Forest.{Forest, nil, joined, IsBuilt};
+ghost use Rattle.pm_stream.specs.Forest.{Forest, nil, chain, IsBuilt};
 ghost use Rattle.pm_stream.specs.HeldSpans.{HoldsAll, HoldsEach};
-ghost use Rattle.pm_stream.specs.Trees.{forest, held, alone, inside, GoesInside, TakesGroup};
+ghost use Rattle.pm_stream.specs.Trees.{forest, shared_trees, alone, inside, GoesInside, TakesGroup};
 ghost use Rattle.pm_stream.specs.Size.{is_nil, count};
 ghost use Rattle.pm_stream.specs.TreeSpan.{extent_of, with_span};
 
@@ -38,17 +38,17 @@ impl Model for TokenStream {
 
     ghost use Rattle.pm_stream.specs.Forest.{IsBuilt};
     ghost use Rattle.pm_stream.specs.Size.{count};
-    ghost use Rattle.pm_stream.specs.Trees.{held};
+    ghost use Rattle.pm_stream.specs.Trees.{shared_trees};
 
-    ghost view = { λ a. held a.trees };
+    ghost view = { λ a. shared_trees a.trees };
 
-    ghost invariant = { λ a. IsBuilt (held a.trees) };
+    ghost invariant = { λ a. IsBuilt (shared_trees a.trees) };
 
     ghost size = { count };
 
     ghost use Rattle.pm_stream.specs.InnerSize.{deep_le-held};
 
-    ghost size_decreases = { λ a h. deep_le-held a.trees };
+    ghost size_decreases = { λ a h. deep_le-shared_trees a.trees };
 }
 
 /// A token, or a group of trees between delimiters.
@@ -161,7 +161,7 @@ fn pop_group(trees: &mut Vec<TokenTree>) -> Option<Group>
 /// Appends a tree to a list that has no other owner. Otherwise, or if memory runs out, returns the tree.
 fn put_last(shared: &mut Rc<Vec<TokenTree>>, tree: TokenTree) -> Result<(), TokenTree>
     ensures ok { OnOk result
-        (forest shared.new.value.items ≡ joined (forest shared.old.value.items) (alone tree)) }
+        (forest shared.new.value.items ≡ chain (forest shared.old.value.items) (alone tree)) }
     ensures err { IfErr result (λ back. (back ≡ tree)
         × (forest shared.new.value.items ≡ forest shared.old.value.items)) }
 {
@@ -212,7 +212,7 @@ impl TokenStream {
         ensures inside { All GoesInside result.now }
         ensures held { (map : Files) → HoldsAll map self.now → HoldsEach map result.now }
     {
-        listed(&self.trees)
+        listed_trees(&self.trees)
     }
 
     /// Removes and returns the last group, if the trees have no other owner. Drops the tokens after the group.
@@ -234,7 +234,7 @@ impl TokenStream {
         let Some(shared) = &mut self.trees else {
             return Err(outer);
         };
-        outer.built();
+        outer.prove_built();
         let way = Group {
             delimiter: Delimiter::None,
             stream: outer,
@@ -252,7 +252,7 @@ impl TokenStream {
     }
 
     /// States that every stream is `built`. It computes nothing: its contract hands the type's invariant to proofs.
-    fn built(&self)
+    fn prove_built(&self)
         ensures { IsBuilt self.now }
     {
         let _ = &self.trees;
@@ -260,8 +260,8 @@ impl TokenStream {
 }
 
 /// Returns the trees in the list, or none without a list.
-fn listed(trees: &Option<Rc<Vec<TokenTree>>>) -> &[TokenTree]
-    ensures { forest result.now ≡ held trees.now }
+fn listed_trees(trees: &Option<Rc<Vec<TokenTree>>>) -> &[TokenTree]
+    ensures { forest result.now ≡ shared_trees trees.now }
 {
     match trees {
         Some(trees) => trees.as_slice(),
@@ -353,7 +353,7 @@ impl Group {
         ensures value { result.now ≡ self.now.stream }
         ensures built { IsBuilt result.now }
     {
-        self.stream.built();
+        self.stream.prove_built();
         &self.stream
     }
 
@@ -375,7 +375,7 @@ impl Group {
         ensures built { IsBuilt (alone (GroupTree self.now)) }
     {
         // These calls compute nothing. Their contracts say that the stream is `built`, and that `lo` is at most `hi`.
-        self.stream.built();
+        self.stream.prove_built();
         bounds(self.span);
         self.span
     }

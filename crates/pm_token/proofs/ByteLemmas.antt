@@ -15,9 +15,9 @@ use Rattle.lexical.specs.Literal.{IsLiteralToken}
 use Rattle.lexical.specs.Literal as literals
 use Rattle.lexical.specs.Quoted.{ByteStr}
 use Rattle.lexical.proofs.QuotedLemmas.{EndsSuffix, stop_ends}
-use Rattle.pm_token.specs.Escaped.{hex_pair, written_byte, written, content, byte_text, byte_string_text}
+use Rattle.pm_token.specs.Escaped.{hex_pair, written_byte, char_text, content, byte_text, byte_string_text}
 use Rattle.pm_token.proofs.EscapedLemmas.{is_plain, Allows, written_stands, letter_of_all, string_plain, body_unit}
-use Rattle.pm_token.proofs.EscapedLemmas.{units_of, content_units, closed}
+use Rattle.pm_token.proofs.EscapedLemmas.{units_of, content_units, close_without_suffix}
 
 -- ---- hex digits
 
@@ -110,23 +110,23 @@ byte_string_stands bytes r are ends = record {
       each =
           each_unit bytes (34 ∷ r) are;
     };
-    second = closed (codes "\"") r ends;
+    second = close_without_suffix (codes "\"") r ends;
   };
 }
 
 pub byte_stands : (b : ℕ) (r : List ℕ) → b < 256 → EndsSuffix r → Byte (byte_text b) r
 byte_stands b r low ends = record {
   front = codes "b'";
-  back = written 39 written_byte b [] ++ codes "'";
+  back = char_text 39 written_byte b [] ++ codes "'";
   whole = refl;
   first = refl;
   second = record {
-    front = written 39 written_byte b [];
+    front = char_text 39 written_byte b [];
     back = codes "'";
     whole = refl;
     first = written_stands is_byte_char_plain ByteEscape written_byte 39 b [] (39 ∷ r)
         (allows_byte is_byte_char_plain 39 b low byte_char_plain) refl;
-    second = closed (codes "'") r ends;
+    second = close_without_suffix (codes "'") r ends;
   };
 }
 

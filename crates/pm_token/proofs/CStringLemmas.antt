@@ -21,10 +21,11 @@ use Rattle.lexical.specs.SingleQuoted.{SingleUnit}
 use Rattle.lexical.specs.Literal.{IsLiteralToken}
 use Rattle.lexical.specs.Literal as literals
 use Rattle.lexical.proofs.QuotedLemmas.{EndsSuffix, stop_ends}
-use Rattle.pm_token.specs.Escaped.{is_bare, hex_pair, written, written_char, content}
+use Rattle.pm_token.specs.Escaped.{is_bare, hex_pair, char_text, written_char, content}
 use Rattle.pm_token.specs.CString.{Part, Char, Byte, BeginsNone, AreParts, part_text, parts_text, has_no_zero}
 use Rattle.pm_token.specs.CString.{IsCStringText, WritesFront}
-use Rattle.pm_token.proofs.EscapedLemmas.{Allows, written_stands, unicode, string_plain, body_unit, closed}
+use Rattle.pm_token.proofs.EscapedLemmas.{Allows, written_stands, unicode, string_plain, body_unit}
+use Rattle.pm_token.proofs.EscapedLemmas.{close_without_suffix}
 use Rattle.pm_token.proofs.ByteLemmas.{AreBytes, pair_hex, pair_nonzero}
 
 -- ---- the literal
@@ -71,13 +72,13 @@ char_some c rest none = false_from_ne_true _ (λ e.
     (sym (encode_ascii 0 (omega arith)) ∙ ap encode_utf8 (sym (eqb-true c 0 e))) ∙ none in
     both_ways false refl (and_parts false (has_no_zero rest) zeros).0)
 
-pub no_zero_behind : (front rest : List ℕ) → has_no_zero (front ++ rest) ≡ true → has_no_zero rest ≡ true
-no_zero_behind [] rest none = none
-no_zero_behind (b ∷ front) rest none = no_zero_behind front rest (and_parts _ _ none).1
+pub no_zero_after : (front rest : List ℕ) → has_no_zero (front ++ rest) ≡ true → has_no_zero rest ≡ true
+no_zero_after [] rest none = none
+no_zero_after (b ∷ front) rest none = no_zero_after front rest (and_parts _ _ none).1
 
-bytes_behind : (front rest : List ℕ) → AreBytes (front ++ rest) → AreBytes rest
-bytes_behind [] rest are = are
-bytes_behind (b ∷ front) rest are = bytes_behind front rest are.1
+bytes_after : (front rest : List ℕ) → AreBytes (front ++ rest) → AreBytes rest
+bytes_after [] rest are = are
+bytes_after (b ∷ front) rest are = bytes_after front rest are.1
 
 -- what is written for each part
 abbrev texts_of : List Part → List (List ℕ)
@@ -92,20 +93,20 @@ each_part : (parts : List Part) (bytes r : List ℕ) → AreParts parts bytes �
     → Each CUnit (texts_of parts) r
 each_part [] bytes r are fit none = tt
 each_part (Char c ∷ parts) bytes r are fit none =
-    let behind = are.1 in
+    let rest_after = are.1 in
     let split = are.2 in
-    let zeros : has_no_zero (encode_utf8 c ++ behind) ≡ true = ap has_no_zero (sym split) ∙ none in (
-      char_unit c (concat (texts_of parts) ++ r) are.0 (char_some c behind zeros),
-      each_part parts behind r are.3 (bytes_behind (encode_utf8 c) behind (subst AreBytes split fit))
-          (no_zero_behind (encode_utf8 c) behind zeros),
+    let zeros : has_no_zero (encode_utf8 c ++ rest_after) ≡ true = ap has_no_zero (sym split) ∙ none in (
+      char_unit c (concat (texts_of parts) ++ r) are.0 (char_some c rest_after zeros),
+      each_part parts rest_after r are.3 (bytes_after (encode_utf8 c) rest_after (subst AreBytes split fit))
+          (no_zero_after (encode_utf8 c) rest_after zeros),
     )
 each_part (Byte b ∷ parts) bytes r are fit none =
-    let behind = are.1 in
+    let rest_after = are.1 in
     let split = are.2 in
     let zeros = and_parts _ _ (ap has_no_zero (sym split) ∙ none) in
     let bytes_fit = subst AreBytes split fit in (
       byte_unit b (concat (texts_of parts) ++ r) bytes_fit.0 (not-true _ zeros.0),
-      each_part parts behind r are.3 bytes_fit.1 zeros.1,
+      each_part parts rest_after r are.3 bytes_fit.1 zeros.1,
     )
 
 pub c_string_stands : (parts : List Part) (bytes r : List ℕ) → AreParts parts bytes → AreBytes bytes
@@ -126,7 +127,7 @@ c_string_stands parts bytes r are fit none ends = record {
       each =
           each_part parts bytes (34 ∷ r) are fit none;
     };
-    second = closed (codes "\"") r ends;
+    second = close_without_suffix (codes "\"") r ends;
   };
 }
 
@@ -152,7 +153,7 @@ later c =
     else written_char c
 
 -- what follows a character matters only if the character is zero
-some_written : (c : ℕ) (rest : List ℕ) → (c == 0) ≡ false → written 34 written_char c rest ≡ later c
+some_written : (c : ℕ) (rest : List ℕ) → (c == 0) ≡ false → char_text 34 written_char c rest ≡ later c
 some_written c rest some = ap (λ z. if z && first_passes is_octal_digit rest then codes "\\x00" else if z then codes
     "\\0" else later c) some
 
@@ -191,7 +192,7 @@ chars_some (c ∷ cs) rest none =
     let whole : has_no_zero (encode_utf8 c ++ (encode_utf8_all cs ++ rest)) ≡ true =
     ap has_no_zero (sym (append_assoc (encode_utf8 c) (encode_utf8_all cs) rest)) ∙ none in
     and_from _ _ (ap not (char_some c (encode_utf8_all cs ++ rest) whole))
-    (chars_some cs rest (no_zero_behind (encode_utf8 c) (encode_utf8_all cs ++ rest) whole))
+    (chars_some cs rest (no_zero_after (encode_utf8 c) (encode_utf8_all cs ++ rest) whole))
 
 -- ---- the end of the longest text
 
@@ -231,11 +232,11 @@ begins_none bytes valid tail utf8 whole long c rest scalar e =
 tail_of : (bytes valid more : List ℕ) → bytes ≡ valid ++ more
     → bytes ≡ valid ++ take (length bytes - length valid) (drop (length valid) bytes)
 tail_of bytes valid more whole =
-    let behind : drop (length valid) bytes ≡ more = ap (drop (length valid)) whole
+    let rest_after : drop (length valid) bytes ≡ more = ap (drop (length valid)) whole
     ∙ drop_at valid more (length valid) refl in
     let count : length more ≤ length bytes - length valid = omega (arith, ap length whole, length-append valid more) in
     whole ∙ ap (λ x. valid ++ x)
-    (sym (take_all (length bytes - length valid) more count) ∙ ap (take (length bytes - length valid)) (sym behind))
+    (sym (take_all (length bytes - length valid) more count) ∙ ap (take (length bytes - length valid)) (sym rest_after))
 
 -- the bytes after the text of a chunk
 pub chunk_whole : (bytes left valid text more : List ℕ) → left ≡ bytes → left ≡ valid ++ more → text ≡ valid

@@ -21,11 +21,11 @@ use Rattle.literal_escaper.specs.Text.{bytes}
 use Rattle.pm_token.specs.Content.{raw_content}
 use Rattle.pm_token.specs.CString.{Part, Char, Byte, AreParts, part_text, parts_text, has_no_zero, IsCStringText}
 use Rattle.pm_token.specs.Escaped.{is_bare, hex_pair}
-use Rattle.pm_token.specs.Value.{c_bytes, cstr_value, ended, unit_bytes, value_from}
+use Rattle.pm_token.specs.Value.{c_bytes, cstr_value, with_zero, unit_bytes, value_from}
 use Rattle.pm_token.specs.Value as values
 use Rattle.pm_token.proofs.ContentLemmas.{between_within}
 use Rattle.pm_token.proofs.CodeReadLemmas.{code_escapes_as}
-use Rattle.pm_token.proofs.CStringLemmas.{char_some, no_zero_behind}
+use Rattle.pm_token.proofs.CStringLemmas.{char_some, no_zero_after}
 use Rattle.pm_token.proofs.ReadLemmas.{Escapes, Give, WrittenAs, begins_written, give_front, give_none, given_value}
 use Rattle.pm_token.proofs.UnitLemmas.{byte_bytes}
 
@@ -126,14 +126,14 @@ record AreFit (bytes : List ℕ) : Type 0 where
   low : AllByRecursion (λ b. b < 256) bytes
   some : has_no_zero bytes ≡ true
 
-low_behind : (front rest : List ℕ) → AllByRecursion (λ b. b < 256) (front ++ rest) → AllByRecursion (λ b. b < 256) rest
-low_behind [] rest all = all
-low_behind (b ∷ front) rest all = low_behind front rest all.1
+low_after : (front rest : List ℕ) → AllByRecursion (λ b. b < 256) (front ++ rest) → AllByRecursion (λ b. b < 256) rest
+low_after [] rest all = all
+low_after (b ∷ front) rest all = low_after front rest all.1
 
-fit_behind : (bytes front rest : List ℕ) → bytes ≡ front ++ rest → AreFit bytes → AreFit rest
-fit_behind bytes front rest e fit = record {
-  low = low_behind front rest (subst (AllByRecursion (λ b. b < 256)) e fit.low);
-  some = no_zero_behind front rest (ap has_no_zero (sym e) ∙ fit.some);
+fit_after : (bytes front rest : List ℕ) → bytes ≡ front ++ rest → AreFit bytes → AreFit rest
+fit_after bytes front rest e fit = record {
+  low = low_after front rest (subst (AllByRecursion (λ b. b < 256)) e fit.low);
+  some = no_zero_after front rest (ap has_no_zero (sym e) ∙ fit.some);
 }
 
 parts_give : (end : ℕ) (parts : List Part) (bytes : List ℕ) → AreParts parts bytes → AreFit bytes
@@ -143,14 +143,14 @@ parts_give end (Char c ∷ parts) bytes are fit =
     let some = char_some c are.1 (ap has_no_zero (sym are.2) ∙ fit.some) in
     give_front c_kind end (part_text (Char c) ++ parts_text parts) (units.Char c) (parts_text parts) (units_of parts)
     (begins_written c_kind end c (part_text (Char c)) (units.Char c) (parts_text parts) (char_as c are.0 some))
-    (parts_give end parts are.1 are.3 (fit_behind bytes (encode_utf8 c) are.1 are.2 fit))
+    (parts_give end parts are.1 are.3 (fit_after bytes (encode_utf8 c) are.1 are.2 fit))
 parts_give end (Byte b ∷ parts) bytes are fit =
     let low = subst (AllByRecursion (λ d. d < 256)) are.2 fit.low in
     let some = not-true (b == 0)
     (and_parts (not (b == 0)) (has_no_zero are.1) (ap has_no_zero (sym are.2) ∙ fit.some)).0 in
     give_front c_kind end (part_text (Byte b) ++ parts_text parts) (byte_unit b) (parts_text parts) (units_of parts)
     (begins_written c_kind end b (part_text (Byte b)) (byte_unit b) (parts_text parts) (byte_as b low.0 some))
-    (parts_give end parts are.1 are.3 (fit_behind bytes (b ∷ []) are.1 are.2 fit))
+    (parts_give end parts are.1 are.3 (fit_after bytes (b ∷ []) are.1 are.2 fit))
 
 parts_bytes : (parts : List Part) (bytes : List ℕ) → AreParts parts bytes → flat_map unit_bytes (units_of parts) ≡ bytes
 parts_bytes [] bytes are = sym are
@@ -160,15 +160,15 @@ parts_bytes (Byte b ∷ parts) bytes are = ap₂ (λ x y. x ++ y) (byte_bytes b)
 -- ---- the law
 
 pub c_strings_come_back : (bytes text : List ℕ) → AllByRecursion (λ b. b < 256) bytes → has_no_zero bytes ≡ true
-    → IsCStringText bytes text → cstr_value text ≡ Ok (ended bytes)
+    → IsCStringText bytes text → cstr_value text ≡ Ok (with_zero bytes)
 c_strings_come_back all text low some is =
     let inside = parts_text is.parts in
     let fit : AreFit all = record { low = low; some = some } in
-    let raw = option_map (λ content. ended (encode_utf8_all content))
+    let raw = option_map (λ content. with_zero (encode_utf8_all content))
     (raw_content (codes "cr") (codes "c\"" ++ (inside ++ codes "\""))) in
     ap cstr_value is.whole
     ∙ (ap (λ o. value_from (option_map (λ content. c_bytes (values.units c_kind content)) o) raw)
     (between_within (codes "c\"") (codes "\"") inside)
     ∙ (ap (λ v. value_from (Some (c_bytes v)) raw)
     (given_value (items c_kind inside) (units_of is.parts) (parts_give (bytes inside) is.parts all is.reads fit))
-    ∙ ap (λ x. Ok (ended x)) (parts_bytes is.parts all is.reads)))
+    ∙ ap (λ x. Ok (with_zero x)) (parts_bytes is.parts all is.reads)))

@@ -7,10 +7,11 @@ use Rattle.std.specs.Char.Escape.{escape_unicode}
 use Rattle.std.specs.List.{fold}
 use Rattle.std.proofs.lemmas.Bool.{agree_below_at, cond-true, cond-false, false_from_ne_true, ltb-true}
 use Rattle.std.proofs.lemmas.Str.{digit_value-digit_char}
-use Rattle.literal_escaper.specs.Escape.{closed, code_unit, coded, escape, is_code_character, is_hex, unicode_escape}
+use Rattle.literal_escaper.specs.Escape.{read_closing, code_unit, read_code, escape, is_code_character, is_hex}
+use Rattle.literal_escaper.specs.Escape.{unicode_escape}
 use Rattle.literal_escaper.specs.Kind.{Kind, character, string_kind}
 use Rattle.literal_escaper.specs.Text.{while_front, while_rest}
-use Rattle.pm_token.proofs.HexLemmas.{is_scalar-IsScalar, AreHex, digits_of, value_behind, coded as coded_as}
+use Rattle.pm_token.proofs.HexLemmas.{is_scalar-IsScalar, AreHex, digits_of, value_on, escape_is_coded as coded_as}
 use Rattle.pm_token.proofs.UnicodeEscapeLemmas.{scalar_character}
 use Rattle.pm_token.proofs.ReadLemmas.{Escapes}
 
@@ -50,7 +51,7 @@ digits_count [] = refl
 digits_count (d ∷ ds) = ap (λ n. suc n) (digits_count ds)
 
 digits_number : (n : ℕ) (ds : List ℕ) → AreHex ds
-    → fold (λ m c. 16 * m + digit_value c) n (digits_of ds) ≡ value_behind n ds
+    → fold (λ m c. 16 * m + digit_value c) n (digits_of ds) ≡ value_on n ds
 digits_number n [] all = refl
 digits_number n (d ∷ ds) all =
     ap (λ v. fold (λ m c. 16 * m + digit_value c) (16 * n + v) (digits_of ds)) (digit_value-digit_char d (omega arith))
@@ -59,7 +60,7 @@ digits_number n (d ∷ ds) all =
 -- ---- the character
 
 code_is : {U : Type 0} (kind : Kind U) (unit : U) (c : ℕ) (ds : List ℕ) → AreHex ds → length ds ≤ 6
-    → value_behind 0 ds ≡ c → IsScalar c → kind.of_code (Ok c) ≡ Ok unit
+    → value_on 0 ds ≡ c → IsScalar c → kind.of_code (Ok c) ≡ Ok unit
     → code_unit kind (digits_of ds) ≡ Ok unit
 code_is kind unit c ds all few value scalar is =
     cond-false _ _ _ (false_from_ne_true (nat_lt 6 (length (digits_of ds)))
@@ -69,17 +70,18 @@ code_is kind unit c ds all few value scalar is =
 
 -- the digits in braces are read as the character
 coded_is : {U : Type 0} (kind : Kind U) (unit : U) (c : ℕ) (ds more : List ℕ) → AreHex ds → length ds ≤ 6
-    → value_behind 0 ds ≡ c → IsScalar c → kind.of_code (Ok c) ≡ Ok unit
-    → coded kind ((digits_of ds ++ 125 ∷ []) ++ more) ≡ record { unit = Ok unit; rest = more }
-unfolding coded
+    → value_on 0 ds ≡ c → IsScalar c → kind.of_code (Ok c) ≡ Ok unit
+    → read_code kind ((digits_of ds ++ 125 ∷ []) ++ more) ≡ record { unit = Ok unit; rest = more }
+unfolding read_code
 coded_is kind unit c ds more all few value scalar is =
-    ap₂ (λ digits rest. closed kind digits rest) (ap (filter is_hex) (digits_front ds more all) ∙ digits_hex ds all)
+    ap₂ (λ digits rest. read_closing kind digits rest)
+    (ap (filter is_hex) (digits_front ds more all) ∙ digits_hex ds all)
     (digits_rest ds more all)
     ∙ ap (λ u. record { unit = u; rest = more }) (code_is kind unit c ds all few value scalar is)
 
 -- the text after `\u` is read as the character
 unicode_is : {U : Type 0} (kind : Kind U) (unit : U) (c first : ℕ) (others more : List ℕ) → AreHex (first ∷ others)
-    → length others ≤ 5 → value_behind 0 (first ∷ others) ≡ c → IsScalar c
+    → length others ≤ 5 → value_on 0 (first ∷ others) ≡ c → IsScalar c
     → kind.of_code (Ok c) ≡ Ok unit
     → escape kind (117 ∷ (123 ∷ ((digits_of (first ∷ others) ++ 125 ∷ []) ++ more)))
     ≡ record { unit = Ok unit; rest = more }
@@ -98,7 +100,8 @@ code_escapes_as kind unit c scalar is =
       back = 123 ∷ (digits_of (coded.first ∷ coded.others) ++ 125 ∷ []);
       whole = coded.whole;
       no_line = refl;
-      gives = λ more. unicode_is kind unit c coded.first coded.others more coded.hex coded.few coded.value scalar is;
+      gives = λ more. unicode_is kind unit c coded.first coded.others more coded.hex coded.few
+          coded.value scalar is;
     }
 
 -- the `\u` escape in a string

@@ -13,7 +13,7 @@ use Rattle.std.proofs.lemmas.Str.{IsUtf8-take, IsCharBoundary-before_ascii, char
 use Rattle.std.proofs.lemmas.Str.Ascii.{IsAscii-nil, IsAscii-cons}
 use Rattle.lexical.specs.Text.{begins_with, first_passes}
 use Rattle.lexical.proofs.TextLemmas.{begins_front, begins_splits, seam_bytes}
-use Rattle.pm_token.specs.Content.{behind, before, between, cooked_content, is_hash, hashes, hashed_content}
+use Rattle.pm_token.specs.Content.{strip_front, before, between, cooked_content, is_hash, hashes, hashed_content}
 
 -- ---- options
 
@@ -36,42 +36,44 @@ no_option (Some x) f = absurd (f x refl)
 
 -- ---- prefixes and endings
 
-pub behind_front : (front rest : List ℕ) → behind front (front ++ rest) ≡ Some rest
-unfolding behind
-behind_front front rest = cond-true _ _ _ (begins_front front rest) ∙ ap (λ x. Some x) (drop-append_seam front rest)
+pub strip_front_of : (front rest : List ℕ) → strip_front front (front ++ rest) ≡ Some rest
+unfolding strip_front
+strip_front_of front rest = cond-true _ _ _ (begins_front front rest) ∙ ap (λ x. Some x) (drop-append_seam front rest)
 
-pub behind_none : (front text : List ℕ) → begins_with front text ≡ false → behind front text ≡ None
-unfolding behind
-behind_none front text h = cond-false _ _ _ h
+pub strip_front_none : (front text : List ℕ) → begins_with front text ≡ false → strip_front front text ≡ None
+unfolding strip_front
+strip_front_none front text h = cond-false _ _ _ h
 
-behind_cases : (b : Bool) (front text rest : List ℕ) → begins_with front text ≡ b → behind front text ≡ Some rest
+strip_front_cases : (b : Bool) (front text rest : List ℕ) → begins_with front text ≡ b
+    → strip_front front text ≡ Some rest
     → text ≡ front ++ rest
-behind_cases true front text rest h e =
+strip_front_cases true front text rest h e =
     let split = begins_splits front text h in
     split.1 ∙ ap (λ r. front ++ r)
-    (some_same split.0 rest (sym (behind_front front split.0) ∙ (ap (behind front) (sym split.1) ∙ e)))
-behind_cases false front text rest h e = absurd (not_some rest (sym (behind_none front text h) ∙ e))
+    (some_same split.0 rest (sym (strip_front_of front split.0) ∙ (ap (strip_front front) (sym split.1) ∙ e)))
+strip_front_cases false front text rest h e = absurd (not_some rest (sym (strip_front_none front text h) ∙ e))
 
-pub behind_splits : (front text rest : List ℕ) → behind front text ≡ Some rest → text ≡ front ++ rest
-behind_splits front text rest e = behind_cases (begins_with front text) front text rest refl e
+pub strip_front_splits : (front text rest : List ℕ) → strip_front front text ≡ Some rest → text ≡ front ++ rest
+strip_front_splits front text rest e = strip_front_cases (begins_with front text) front text rest refl e
 
 pub before_back : (back front : List ℕ) → before back (front ++ back) ≡ Some front
 unfolding before
 before_back back front =
-    ap (λ t. option_map reverse (behind (reverse back) t)) (reverse-append front back)
-    ∙ (ap (option_map reverse) (behind_front (reverse back) (reverse front)) ∙ ap (λ x. Some x) (reverse-reverse front))
+    ap (λ t. option_map reverse (strip_front (reverse back) t)) (reverse-append front back)
+    ∙ (ap (option_map reverse) (strip_front_of (reverse back) (reverse front))
+    ∙ ap (λ x. Some x) (reverse-reverse front))
 
-before_cases : (o : Option (List ℕ)) (back text front : List ℕ) → behind (reverse back) (reverse text) ≡ o
+before_cases : (o : Option (List ℕ)) (back text front : List ℕ) → strip_front (reverse back) (reverse text) ≡ o
     → option_map reverse o ≡ Some front → text ≡ front ++ back
 before_cases None back text front h e = absurd (not_some front e)
 before_cases (Some rest) back text front h e =
-    sym (reverse-reverse text) ∙ (ap reverse (behind_splits (reverse back) (reverse text) rest h)
+    sym (reverse-reverse text) ∙ (ap reverse (strip_front_splits (reverse back) (reverse text) rest h)
     ∙ (reverse-append (reverse back) rest
     ∙ ap₂ (λ xs ys. xs ++ ys) (some_same (reverse rest) front e) (reverse-reverse back)))
 
 pub before_splits : (back text front : List ℕ) → before back text ≡ Some front → text ≡ front ++ back
 unfolding before
-before_splits back text front e = before_cases (behind (reverse back) (reverse text)) back text front refl e
+before_splits back text front e = before_cases (strip_front (reverse back) (reverse text)) back text front refl e
 
 pub before_none : (back text : List ℕ) → ((front : List ℕ) → text ≢ front ++ back) → before back text ≡ None
 before_none back text none = no_option (before back text) (λ front e. none front (before_splits back text front e))
@@ -79,18 +81,18 @@ before_none back text none = no_option (before back text) (λ front e. none fron
 -- ---- the text between a prefix and an ending
 
 pub between_within : (front back content : List ℕ) → between front back (front ++ (content ++ back)) ≡ Some content
-between_within front back content = ap (option_and_then (before back)) (behind_front front (content ++ back))
+between_within front back content = ap (option_and_then (before back)) (strip_front_of front (content ++ back))
     ∙ before_back back content
 
-between_cases : (o : Option (List ℕ)) (front back text content : List ℕ) → behind front text ≡ o
+between_cases : (o : Option (List ℕ)) (front back text content : List ℕ) → strip_front front text ≡ o
     → option_and_then (before back) o ≡ Some content → text ≡ front ++ (content ++ back)
 between_cases None front back text content h e = absurd (not_some content e)
-between_cases (Some rest) front back text content h e = behind_splits front text rest h
+between_cases (Some rest) front back text content h e = strip_front_splits front text rest h
     ∙ ap (λ r. front ++ r) (before_splits back rest content e)
 
 pub between_splits : (front back text content : List ℕ) → between front back text ≡ Some content
     → text ≡ front ++ (content ++ back)
-between_splits front back text content e = between_cases (behind front text) front back text content refl e
+between_splits front back text content e = between_cases (strip_front front text) front back text content refl e
 
 -- ---- hash signs
 
@@ -116,12 +118,12 @@ hashes_front (c ∷ signs) rest h =
     cond-true _ _ _ parts.0 ∙ ap (λ xs. c ∷ xs) (hashes_front signs rest parts.1)
 
 -- a hash sign after hash signs may as well be before them
-turned : (signs : List ℕ) → list_all is_hash signs ≡ true → signs ++ codes "#" ≡ 35 ∷ signs
-turned [] h = refl
-turned (c ∷ signs) h =
+hash_turn : (signs : List ℕ) → list_all is_hash signs ≡ true → signs ++ codes "#" ≡ 35 ∷ signs
+hash_turn [] h = refl
+hash_turn (c ∷ signs) h =
     let parts = and_parts (is_hash c) (list_all is_hash signs) h in
     let sign : c ≡ 35 = eqb-true c 35 parts.0 in
-    ap₂ (λ d xs. d ∷ xs) sign (turned signs parts.1 ∙ ap (λ d. d ∷ signs) (sym sign))
+    ap₂ (λ d xs. d ∷ xs) sign (hash_turn signs parts.1 ∙ ap (λ d. d ∷ signs) (sym sign))
 
 pub hashed_splits : (text content : List ℕ) → hashed_content text ≡ Some content → IsHashed text content
 unfolding hashed_content
@@ -144,16 +146,16 @@ more_signs : (signs content : List ℕ) → list_all is_hash signs ≡ true
     → (signs ++ codes "\"") ++ (content ++ (codes "\"" ++ (35 ∷ signs)))
     ≡ ((signs ++ codes "\"") ++ (content ++ (codes "\"" ++ signs))) ++ codes "#"
 more_signs signs content h =
-    ap (λ xs. (signs ++ codes "\"") ++ (content ++ (34 ∷ xs))) (sym (turned signs h))
+    ap (λ xs. (signs ++ codes "\"") ++ (content ++ (34 ∷ xs))) (sym (hash_turn signs h))
     ∙ (ap (λ xs. (signs ++ codes "\"") ++ xs) (sym (append_assoc content (34 ∷ signs) (codes "#")))
     ∙ sym (append_assoc (signs ++ codes "\"") (content ++ (34 ∷ signs)) (codes "#")))
 
-behind_sign : (signs text content : List ℕ) → list_all is_hash signs ≡ true
+strip_front_sign : (signs text content : List ℕ) → list_all is_hash signs ≡ true
     → 35 ∷ text ≡ (signs ++ codes "\"") ++ (content ++ (codes "\"" ++ signs))
     → (fewer : List ℕ) × (list_all is_hash fewer ≡ true)
     × (text ≡ ((fewer ++ codes "\"") ++ (content ++ (codes "\"" ++ fewer))) ++ codes "#")
-behind_sign [] text content h e = absurd (both_ways true (ap (first_passes is_hash) e) refl)
-behind_sign (c ∷ signs) text content h e =
+strip_front_sign [] text content h e = absurd (both_ways true (ap (first_passes is_hash) e) refl)
+strip_front_sign (c ∷ signs) text content h e =
     let parts = and_parts (is_hash c) (list_all is_hash signs) h in
     let sign : c ≡ 35 = eqb-true c 35 parts.0 in (
       signs,
@@ -170,7 +172,7 @@ hashed_peel text = same_option _ _ inside outside
         → hashed_content text ≡ Some content
     inside content e =
         let is = hashed_splits (35 ∷ (text ++ codes "#")) content e in
-        let fewer = behind_sign is.signs (text ++ codes "#") content is.all is.whole in
+        let fewer = strip_front_sign is.signs (text ++ codes "#") content is.all is.whole in
         hashed_within text content
         (record { signs = fewer.0; all = fewer.1; whole = append_cancel_right _ _ (codes "#") fewer.2 })
 
@@ -189,31 +191,31 @@ pub hashed_alone : (text : List ℕ) → before (codes "#") text ≡ None → ha
 hashed_alone text none =
     no_option (hashed_content (35 ∷ text)) (λ content e.
     let is = hashed_splits (35 ∷ text) content e in
-    let fewer = behind_sign is.signs text content is.all is.whole in
+    let fewer = strip_front_sign is.signs text content is.all is.whole in
     not_some _ (sym none ∙ (ap (before (codes "#")) fewer.2 ∙ before_back (codes "#") _)))
 
-no_hashes : (text : List ℕ) → behind (codes "#") text ≡ None → hashes text ≡ []
+no_hashes : (text : List ℕ) → strip_front (codes "#") text ≡ None → hashes text ≡ []
 no_hashes [] e = refl
 no_hashes (c ∷ text) e = step (is_hash c) refl
   where
     step : (b : Bool) → is_hash c ≡ b → hashes (c ∷ text) ≡ []
     step true h = absurd (not_some text
-        (sym e ∙ (ap (λ d. behind (codes "#") (d ∷ text)) (eqb-true c 35 h) ∙ behind_front (codes "#") text)))
+        (sym e ∙ (ap (λ d. strip_front (codes "#") (d ∷ text)) (eqb-true c 35 h) ∙ strip_front_of (codes "#") text)))
     step false h = cond-false _ _ _ h
 
 -- no hash sign at the start
-pub hashed_plain : (text : List ℕ) → behind (codes "#") text ≡ None
+pub hashed_plain : (text : List ℕ) → strip_front (codes "#") text ≡ None
     → hashed_content text ≡ cooked_content (codes "\"") text
 unfolding hashed_content
 hashed_plain text e = ap (λ s. between (s ++ codes "\"") (codes "\"" ++ s) text) (no_hashes text e)
 
 -- ---- the clauses of `strip_prefix` and `strip_suffix`
 
-pub behind_found : (front text : List ℕ) (r : Option (Bor (List ℕ)))
+pub strip_front_found : (front text : List ℕ) (r : Option (Bor (List ℕ)))
     → MatchOption r (begins_with front text ≡ false) (λ x. text ≡ front ++ chars x.now)
-    → MatchOption r (behind front text ≡ None) (λ x. behind front text ≡ Some (chars x.now))
-behind_found front text None h = behind_none front text h
-behind_found front text (Some x) h = ap (behind front) h ∙ behind_front front (chars x.now)
+    → MatchOption r (strip_front front text ≡ None) (λ x. strip_front front text ≡ Some (chars x.now))
+strip_front_found front text None h = strip_front_none front text h
+strip_front_found front text (Some x) h = ap (strip_front front) h ∙ strip_front_of front (chars x.now)
 
 -- a UTF-8 text without the ASCII character at its end is UTF-8
 utf8_before : (text front : List ℕ) (c : ℕ) → IsUtf8 text → text ≡ front ++ (c ∷ []) → c < 128 → IsUtf8 front
@@ -243,29 +245,29 @@ before_found c text (Some x) low utf8 whole =
 
 -- a hash sign at the start only: there is no content
 pub stop_signs : (all quoted rest : List ℕ) → hashed_content quoted ≡ hashed_content all
-    → behind (codes "#") quoted ≡ Some rest → before (codes "#") rest ≡ None → hashed_content all ≡ None
+    → strip_front (codes "#") quoted ≡ Some rest → before (codes "#") rest ≡ None → hashed_content all ≡ None
 stop_signs all quoted rest same front back = sym same
-    ∙ (ap hashed_content (behind_splits (codes "#") quoted rest front) ∙ hashed_alone rest back)
+    ∙ (ap hashed_content (strip_front_splits (codes "#") quoted rest front) ∙ hashed_alone rest back)
 
 -- a hash sign at each end is removed
 pub past_signs : (all quoted rest inside : List ℕ) → hashed_content quoted ≡ hashed_content all
-    → behind (codes "#") quoted ≡ Some rest → before (codes "#") rest ≡ Some inside
+    → strip_front (codes "#") quoted ≡ Some rest → before (codes "#") rest ≡ Some inside
     → hashed_content inside ≡ hashed_content all
 past_signs all quoted rest inside same front back =
     sym (hashed_peel inside) ∙ (ap (λ xs. hashed_content (35 ∷ xs)) (sym (before_splits (codes "#") rest inside back))
-    ∙ (sym (ap hashed_content (behind_splits (codes "#") quoted rest front)) ∙ same))
+    ∙ (sym (ap hashed_content (strip_front_splits (codes "#") quoted rest front)) ∙ same))
 
 -- the remaining text is shorter
-pub past_shorter : (quoted rest inside : List ℕ) → behind (codes "#") quoted ≡ Some rest
+pub past_shorter : (quoted rest inside : List ℕ) → strip_front (codes "#") quoted ≡ Some rest
     → before (codes "#") rest ≡ Some inside → length inside < length quoted
 past_shorter quoted rest inside front back =
-    let first = ap length (behind_splits (codes "#") quoted rest front) in
+    let first = ap length (strip_front_splits (codes "#") quoted rest front) in
     let last = ap length (before_splits (codes "#") rest inside back) in
     omega (arith, first, last, length-append inside (codes "#"))
 
 -- no hash sign at the start: the rest is a quoted content
 pub no_signs : (all quoted : List ℕ) (r : Option (Bor (List ℕ))) → hashed_content quoted ≡ hashed_content all
-    → behind (codes "#") quoted ≡ None
+    → strip_front (codes "#") quoted ≡ None
     → MatchOption r (cooked_content (codes "\"") quoted ≡ None) (λ x. cooked_content (codes "\"") quoted
     ≡ Some (chars x.now))
     → MatchOption r (hashed_content all ≡ None) (λ x. hashed_content all ≡ Some (chars x.now))

@@ -23,8 +23,8 @@ use Rattle.literal_escaper.specs.Text.{bytes, while_front, while_rest}
 use Rattle.literal_escaper.specs.Value.{value_of}
 use Rattle.literal_escaper.proofs.ItemLemmas.{items_past}
 use Rattle.pm_token.specs.Content.{raw_content}
-use Rattle.pm_token.specs.Joined.{Makes, escape_value, is_blank, is_skipped, joined, numbers, unit_value, utf8}
-use Rattle.pm_token.specs.Value.{c_bytes, ended, unit_bytes, units, value_from}
+use Rattle.pm_token.specs.Joined.{Makes, escape_value, is_blank, is_skipped, units_value, numbers, unit_value, utf8}
+use Rattle.pm_token.specs.Value.{c_bytes, with_zero, unit_bytes, units, value_from}
 use Rattle.pm_token.specs.ValueLaws.{ByteStringsHaveValues, CStringsHaveValues, StringsHaveValues, cooked_text}
 use Rattle.pm_token.proofs.ContentLemmas.{between_within}
 use Rattle.pm_token.proofs.EscapeValueLemmas.{byte_escape, c_escape, string_escape}
@@ -63,8 +63,8 @@ or_none : (a b : Bool) → (a || b) ≡ false → (a ≡ false) × (b ≡ false)
 or_none true b h = absurd (both_ways true h refl)
 or_none false b h = (refl, h)
 
-flipped : (c d : ℕ) → (d == c) ≡ false → (c == d) ≡ false
-flipped c d e = ne_eqb c d (λ same. eqb-false d c e (sym same))
+eqb_flip : (c d : ℕ) → (d == c) ≡ false → (c == d) ≡ false
+eqb_flip c d e = ne_eqb c d (λ same. eqb-false d c e (sym same))
 
 -- a character that is a unit alone
 alone : {U : Type 0} (kind : Kind U) (c : ℕ) (unit : U) → is_string_plain c ≡ true → kind.of_char c ≡ Ok unit
@@ -75,10 +75,10 @@ alone kind c unit plain is =
     let return = or_none (13 == c) _ backslash.1 in
     record {
       unit_is = is;
-      no_return = flipped c 13 return.0;
-      no_backslash = flipped c 92 backslash.0;
+      no_return = eqb_flip c 13 return.0;
+      no_backslash = eqb_flip c 92 backslash.0;
       no_quote =
-          flipped c 34 quote.0;
+          eqb_flip c 34 quote.0;
     }
 
 -- what a kind must provide: a unit with the right value for each character that may be alone, and for each escape
@@ -112,8 +112,8 @@ escape_stands letter back false line = ap (λ b. (b && pointwise nat_eq back [])
 module _ {U : Type 0} (kind : Kind U) (spell : U → List ℕ) (makes : Makes) (end : ℕ) where
   -- what the units of the grammar give, both if blanks at the start are kept and if they are skipped
   abbrev HasBoth : List ℕ → List (List ℕ) → Type 0
-  HasBoth text parts = Has kind spell end text (joined makes false parts)
-      × Has kind spell end (while_rest blank text) (joined makes true parts)
+  HasBoth text parts = Has kind spell end text (units_value makes false parts)
+      × Has kind spell end (while_rest blank text) (units_value makes true parts)
 
   has_front : (text rest : List ℕ) (unit : U) (one more : List ℕ) → Begins kind end text unit rest → spell unit ≡ one
       → Has kind spell end rest more
@@ -139,15 +139,15 @@ module _ {U : Type 0} (kind : Kind U) (spell : U → List ℕ) (makes : Makes) (
   has_plain c rest parts unit is gives has =
       let value = unit_value makes (c ∷ []) in
       let value_is : spell unit ≡ value = gives ∙ sym (cond-false _ _ _ is.no_backslash) in
-      let here = has_front (c ∷ rest) rest unit value (joined makes false parts)
+      let here = has_front (c ∷ rest) rest unit value (units_value makes false parts)
       (begins_alone kind end c unit rest is) value_is has.0 in
-      let both = has_chosen (blank c) (while_rest blank rest) (c ∷ rest) (joined makes true parts)
-      (value ++ joined makes false parts) has.1 here in (
+      let both = has_chosen (blank c) (while_rest blank rest) (c ∷ rest) (units_value makes true parts)
+      (value ++ units_value makes false parts) has.1 here in (
         subst (λ b. Has kind spell end (c ∷ rest)
-            (cond b (joined makes true parts) (value ++ joined makes false parts)))
+            (cond b (units_value makes true parts) (value ++ units_value makes false parts)))
             (sym (ap (λ b. (b && false) || false) is.no_backslash)) here,
         subst (λ b. Has kind spell end (while_rest blank (c ∷ rest))
-            (cond b (joined makes true parts) (value ++ joined makes false parts)))
+            (cond b (units_value makes true parts) (value ++ units_value makes false parts)))
             (sym (skips c is.no_return is.no_backslash)) both,
       )
 
@@ -157,25 +157,26 @@ module _ {U : Type 0} (kind : Kind U) (spell : U → List ℕ) (makes : Makes) (
       → HasBoth (92 ∷ (back ++ rest)) ((92 ∷ back) ∷ parts)
   has_escape back rest parts is has = (with false, with true)
     where
-      here : Has kind spell end (92 ∷ (back ++ rest)) (escape_value makes back ++ joined makes false parts)
-      here = has_front (92 ∷ (back ++ rest)) rest is.unit (escape_value makes back) (joined makes false parts)
+      here : Has kind spell end (92 ∷ (back ++ rest)) (escape_value makes back ++ units_value makes false parts)
+      here = has_front (92 ∷ (back ++ rest)) rest is.unit (escape_value makes back) (units_value makes false parts)
           (begins_escape kind end (92 ∷ back) is.unit rest is.escapes) is.value_is has.0
 
       stands : (skipping : Bool) → is_skipped skipping (92 ∷ back) ≡ false
       stands skipping = ap (is_skipped skipping) is.escapes.whole
           ∙ escape_stands is.escapes.letter is.escapes.back skipping is.escapes.no_line
 
-      with : (skipping : Bool) → Has kind spell end (92 ∷ (back ++ rest)) (joined makes skipping ((92 ∷ back) ∷ parts))
+      with : (skipping : Bool) → Has kind spell end (92 ∷ (back ++ rest))
+          (units_value makes skipping ((92 ∷ back) ∷ parts))
       with skipping =
           subst (λ b. Has kind spell end (92 ∷ (back ++ rest))
-          (cond b (joined makes true parts) (escape_value makes back ++ joined makes false parts)))
+          (cond b (units_value makes true parts) (escape_value makes back ++ units_value makes false parts)))
           (sym (stands skipping)) here
 
   -- the first unit is a line end after a backslash
   has_line : (rest : List ℕ) (parts : List (List ℕ)) → HasBoth rest parts
       → HasBoth (92 ∷ 10 ∷ rest) ((92 ∷ 10 ∷ []) ∷ parts)
   has_line rest parts has =
-      let here : Has kind spell end (92 ∷ 10 ∷ rest) (joined makes true parts) =
+      let here : Has kind spell end (92 ∷ 10 ∷ rest) (units_value makes true parts) =
       record {
         units = has.1.units;
         give = give_line kind end rest has.1.units has.1.give;
@@ -196,18 +197,19 @@ module _ {U : Type 0} (kind : Kind U) (spell : U → List ℕ) (makes : Makes) (
     has_unit unit rest r parts clean (inr (inl newline)) has =
         absurd (both_ways false refl (ap (λ p. no_return (p ++ rest)) (sym newline) ∙ clean))
     has_unit unit rest r parts clean (inr (inr then)) has =
-        subst (λ p. HasBoth (p ++ rest) (p ∷ parts)) (sym whole) (behind then.second)
+        subst (λ p. HasBoth (p ++ rest) (p ∷ parts)) (sym whole) (rest_after then.second)
       where
         whole : unit ≡ 92 ∷ then.back
         whole = then.whole ∙ ap (λ p. p ++ then.back) then.first
 
-        behind : Either Continuation Escape then.back r → HasBoth (92 ∷ (then.back ++ rest)) ((92 ∷ then.back) ∷ parts)
-        behind (inl (inl line)) =
+        rest_after : Either Continuation Escape then.back r
+            → HasBoth (92 ∷ (then.back ++ rest)) ((92 ∷ then.back) ∷ parts)
+        rest_after (inl (inl line)) =
             subst (λ p. HasBoth (92 ∷ (p ++ rest)) ((92 ∷ p) ∷ parts)) (sym line) (has_line rest parts has)
-        behind (inl (inr newline)) =
+        rest_after (inl (inr newline)) =
             absurd (both_ways false refl
             (sym (ap (λ p. no_return (p ++ rest)) (whole ∙ ap (λ p. 92 ∷ p) newline)) ∙ clean))
-        behind (inr escaped) = has_escape then.back rest parts (fits.escape then.back r escaped) has
+        rest_after (inr escaped) = has_escape then.back rest parts (fits.escape then.back r escaped) has
 
     has_units : (parts : List (List ℕ)) (r : List ℕ) → no_return (concat parts) ≡ true
         → Each (BodyUnit plain Escape) parts r → HasBoth (concat parts) parts
@@ -227,11 +229,11 @@ record Reads {U : Type 0} (kind : Kind U) (spell : U → List ℕ) (content valu
 reads : {U : Type 0} (kind : Kind U) (spell : U → List ℕ) (makes : Makes) (plain : ℕ → Bool) (Escape : Form)
     (content r : List ℕ)
     → Fits kind spell makes plain Escape → no_return content ≡ true
-    → (many : Many (BodyUnit plain Escape) content r) → Reads kind spell content (joined makes false many.units)
+    → (many : Many (BodyUnit plain Escape) content r) → Reads kind spell content (units_value makes false many.units)
 reads kind spell makes plain Escape content r fits clean many =
     let has = has_units kind spell makes (bytes content) plain Escape fits many.units r
     (ap no_return (sym many.whole) ∙ clean) many.each in
-    let here = subst (λ text. Has kind spell (bytes content) text (joined makes false many.units))
+    let here = subst (λ text. Has kind spell (bytes content) text (units_value makes false many.units))
     (sym many.whole) has.0 in
     record { units = here.units; is = given_value (items kind content) here.units here.give; value_is = here.value_is }
 
@@ -289,9 +291,9 @@ c_strings_have_values content is clean = record {
   value_is = λ body. let has = reads c_kind unit_bytes utf8 is_c_plain CEscape content (codes "\"") c_fits clean body in
       ap (λ o. value_from (option_map (λ text. c_bytes (units c_kind text)) o) raw)
       (between_within (codes "c\"") (codes "\"") content)
-      ∙ (ap (λ v. value_from (Some (c_bytes v)) raw) has.is ∙ ap (λ v. Ok (ended v)) has.value_is);
+      ∙ (ap (λ v. value_from (Some (c_bytes v)) raw) has.is ∙ ap (λ v. Ok (with_zero v)) has.value_is);
 }
   where
     raw : Option (List ℕ)
-    raw = option_map (λ text. ended (encode_utf8_all text))
+    raw = option_map (λ text. with_zero (encode_utf8_all text))
         (raw_content (codes "cr") (cooked_text (codes "c\"") content))

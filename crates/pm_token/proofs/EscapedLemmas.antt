@@ -19,9 +19,10 @@ use Rattle.lexical.specs.Token.{Literal}
 use Rattle.pm_token.specs.Built.{IsBuiltToken}
 use Rattle.lexical.proofs.ClassLemmas.{any_of}
 use Rattle.lexical.proofs.QuotedLemmas.{EndsSuffix, no_name, stops, stop_ends}
-use Rattle.pm_token.specs.Escaped.{is_bare, written_char, written, content, string_text, character_text}
+use Rattle.pm_token.specs.Escaped.{is_bare, written_char, char_text, content, string_text, character_text}
 use Rattle.pm_token.specs.Text.{IsText}
-use Rattle.pm_token.proofs.HexLemmas.{digits_of, IsCoded, coded, hex_digit, hex_digits, length_digits, hex_value-digits}
+use Rattle.pm_token.proofs.HexLemmas.{digits_of, IsCoded, escape_is_coded, hex_digit, hex_digits, length_digits}
+use Rattle.pm_token.proofs.HexLemmas.{hex_value-digits}
 use Rattle.pm_token.proofs.HexLemmas.{is_scalar-IsScalar}
 use Rattle.pm_token.proofs.TextLemmas.{text_literal}
 
@@ -37,31 +38,31 @@ pub record Allows (class : ℕ → Bool) (Escape : Form) (plain : ℕ → List �
   pub zeros : (r : List ℕ) → (c == 0) ≡ true → Escape (codes "0") r × Escape (codes "x00") r
   pub other : (r : List ℕ) → is_plain quote c ≡ true → SingleUnit class Escape (plain c) r
 
-behind_backslash : (class : ℕ → Bool) (Escape : Form) (back r : List ℕ) → Escape back r
+unit_of_escape : (class : ℕ → Bool) (Escape : Form) (back r : List ℕ) → Escape back r
     → SingleUnit class Escape (92 ∷ back) r
-behind_backslash class Escape back r is =
+unit_of_escape class Escape back r is =
     inr (record { front = codes "\\"; back = back; whole = refl; first = refl; second = is })
 
-flipped : (c d : ℕ) → (c == d) ≡ false → (d == c) ≡ false
-flipped c d e = ne_eqb d c (λ same. eqb-false c d e (sym same))
+eqb_flip : (c d : ℕ) → (c == d) ≡ false → (d == c) ≡ false
+eqb_flip c d e = ne_eqb d c (λ same. eqb-false c d e (sym same))
 
 -- any other character is plain
 bare : (quote c : ℕ) → (c == 9) ≡ false → (c == 13) ≡ false → (c == 10) ≡ false → (c == 92) ≡ false
     → (c == quote) ≡ false
     → is_plain quote c ≡ true
 bare quote c tab cr lf backslash other =
-    ap not (or_from _ _ (flipped c quote other) (or_from _ _ (flipped c 92 backslash)
-    (or_from _ _ (flipped c 10 lf) (or_from _ _ (flipped c 13 cr) (or_from _ _ (flipped c 9 tab) refl)))))
+    ap not (or_from _ _ (eqb_flip c quote other) (or_from _ _ (eqb_flip c 92 backslash)
+    (or_from _ _ (eqb_flip c 10 lf) (or_from _ _ (eqb_flip c 13 cr) (or_from _ _ (eqb_flip c 9 tab) refl)))))
 
 -- what is written for a character is a unit, whatever follows
 pub written_stands : (class : ℕ → Bool) (Escape : Form) (plain : ℕ → List ℕ) (quote c : ℕ) (rest r : List ℕ)
     → Allows class Escape plain quote c
-    → is_one_of (codes "nrt\\'\"") quote ≡ true → SingleUnit class Escape (written quote plain c rest) r
+    → is_one_of (codes "nrt\\'\"") quote ≡ true → SingleUnit class Escape (char_text quote plain c rest) r
 written_stands class Escape plain quote c rest r allows is =
     cond_both ((c == 0) && first_passes is_octal_digit rest) _ _ (λ p. SingleUnit class Escape p r)
-    (λ e. behind_backslash class Escape _ r (allows.zeros r (and_parts _ _ e).0).1)
+    (λ e. unit_of_escape class Escape _ r (allows.zeros r (and_parts _ _ e).0).1)
     (λ e. cond_both (c == 0) _ _ (λ p. SingleUnit class Escape p r)
-    (λ e. behind_backslash class Escape _ r (allows.zeros r e).0)
+    (λ e. unit_of_escape class Escape _ r (allows.zeros r e).0)
     (λ e. cond_both (c == 9) _ _ (λ p. SingleUnit class Escape p r) (λ e. short 116 refl)
     (λ tab. cond_both (c == 13) _ _ (λ p. SingleUnit class Escape p r) (λ e. short 114 refl)
     (λ cr. cond_both (c == 10) _ _ (λ p. SingleUnit class Escape p r) (λ e. short 110 refl)
@@ -70,7 +71,7 @@ written_stands class Escape plain quote c rest r allows is =
     (λ other. allows.other r (bare quote c tab cr lf backslash other))))))))
   where
     short : (letter : ℕ) → is_one_of (codes "nrt\\'\"") letter ≡ true → SingleUnit class Escape (92 ∷ letter ∷ []) r
-    short letter is = behind_backslash class Escape (letter ∷ []) r (allows.letter letter r is)
+    short letter is = unit_of_escape class Escape (letter ∷ []) r (allows.letter letter r is)
 
 -- ---- characters of strings
 
@@ -97,10 +98,10 @@ pub unicode : (letters : List ℕ) (pair : Rule) (allowed class : ℕ → Bool) 
     → allowed c ≡ true
     → SingleUnit class (Stands (rule.escape_of letters pair allowed)) (escape_unicode c) r
 unicode letters pair allowed class c r scalar fits =
-    let is = coded c scalar in
+    let is = escape_is_coded c scalar in
     let digits = digits_of (is.first ∷ is.others) in
     subst (λ q. SingleUnit class (Stands (rule.escape_of letters pair allowed)) q r) (sym is.whole)
-    (behind_backslash class (Stands (rule.escape_of letters pair allowed)) (117 ∷ 123 ∷ (digits ++ 125 ∷ [])) r
+    (unit_of_escape class (Stands (rule.escape_of letters pair allowed)) (117 ∷ 123 ∷ (digits ++ 125 ∷ [])) r
     (inr (inr (record {
       front = codes "u{";
       back = digits ++ 125 ∷ [];
@@ -179,12 +180,12 @@ body_unit class Escape p r is = elim is [
 -- the text of each character, as it is written
 abbrev pub units_of : ℕ → (ℕ → List ℕ) → List ℕ → List (List ℕ)
 units_of quote plain [] = []
-units_of quote plain (c ∷ rest) = written quote plain c rest ∷ units_of quote plain rest
+units_of quote plain (c ∷ rest) = char_text quote plain c rest ∷ units_of quote plain rest
 
 pub content_units : (quote : ℕ) (plain : ℕ → List ℕ) (text : List ℕ)
     → content quote plain text ≡ concat (units_of quote plain text)
 content_units quote plain [] = refl
-content_units quote plain (c ∷ rest) = ap (λ p. written quote plain c rest ++ p) (content_units quote plain rest)
+content_units quote plain (c ∷ rest) = ap (λ p. char_text quote plain c rest ++ p) (content_units quote plain rest)
 
 each_unit : (text r : List ℕ) → IsText text → Each StringUnit (units_of 34 written_char text) r
 each_unit [] r all = tt
@@ -207,8 +208,8 @@ string_body text r all = record {
 -- ---- literals
 
 -- the end of a literal without a suffix
-pub closed : (close r : List ℕ) → EndsSuffix r → Then (Exactly close) Suffix close r
-closed close r ends = record {
+pub close_without_suffix : (close r : List ℕ) → EndsSuffix r → Then (Exactly close) Suffix close r
+close_without_suffix close r ends = record {
   front = close;
   back = [];
   whole = sym (append-nil close);
@@ -230,7 +231,7 @@ string_stands text r all ends = record {
     back = codes "\"";
     whole = refl;
     first = string_body text (34 ∷ r) all;
-    second = closed (codes "\"") r ends;
+    second = close_without_suffix (codes "\"") r ends;
   };
 }
 
@@ -246,16 +247,16 @@ string_whole text all = inl (inl (inl (inl (string_before_stop text [] all refl)
 pub character_stands : (c : ℕ) (r : List ℕ) → IsScalar c → EndsSuffix r → Character (character_text c) r
 character_stands c r scalar ends = record {
   front = codes "'";
-  back = written 39 written_char c [] ++ codes "'";
+  back = char_text 39 written_char c [] ++ codes "'";
   whole = refl;
   first = refl;
   second = record {
-    front = written 39 written_char c [];
+    front = char_text 39 written_char c [];
     back = codes "'";
     whole = refl;
     first = written_stands is_char_plain StringEscape written_char 39 c [] (39 ∷ r)
         (allows_char is_char_plain 39 c scalar (λ d plain. plain)) refl;
-    second = closed (codes "'") r ends;
+    second = close_without_suffix (codes "'") r ends;
   };
 }
 

@@ -1,7 +1,7 @@
 -- Examples of what the constructors write, by evaluation.
 use Rattle.std.proofs.Common.{◌≡◌, [], ◌∷◌, codes, refl}
 use Rattle.ucd_category.proofs.Computing.{ucd_category}
-use Rattle.pm_token.specs.Escaped.{written_char, written, string_text}
+use Rattle.pm_token.specs.Escaped.{written_char, char_text, string_text}
 
 -- a zero is written long only before the digits 0 to 7
 zeros : string_text (97 ∷ 0 ∷ 48 ∷ 98 ∷ 0 ∷ 55 ∷ 99 ∷ 0 ∷ 56 ∷ 100 ∷ 0 ∷ 101 ∷ 0 ∷ [])
@@ -16,7 +16,7 @@ line_end = refl
 quotes : string_text (codes "'\"") ≡ codes "\"'\\\"\""
 quotes = refl
 
-quotes_of_characters : written 39 written_char 39 [] ≡ codes "\\'"
+quotes_of_characters : char_text 39 written_char 39 [] ≡ codes "\\'"
 quotes_of_characters = refl
 
 -- a no-break space

@@ -27,9 +27,9 @@ abbrev pub digits_of : List ℕ → List ℕ
 digits_of ds = map digit_char ds
 
 -- the number that these digits write after the number n
-abbrev pub value_behind : ℕ → List ℕ → ℕ
-value_behind n [] = n
-value_behind n (d ∷ ds) = value_behind (16 * n + d) ds
+abbrev pub value_on : ℕ → List ℕ → ℕ
+value_on n [] = n
+value_on n (d ∷ ds) = value_on (16 * n + d) ds
 
 pub hex_digits : (ds : List ℕ) → AreHex ds → list_all (λ c. is_ascii_hexdigit c || (c == 95)) (digits_of ds) ≡ true
 hex_digits [] all = refl
@@ -40,14 +40,14 @@ length_digits [] all = refl
 length_digits (d ∷ ds) all = ap length (cond-true _ _ _ (hex_digit d all.0)) ∙ omega (arith, length_digits ds all.1)
 
 value_of : (n : ℕ) (ds : List ℕ) → AreHex ds
-    → fold (λ m c. cond (c == 95) m (16 * m + digit_value c)) n (digits_of ds) ≡ value_behind n ds
+    → fold (λ m c. cond (c == 95) m (16 * m + digit_value c)) n (digits_of ds) ≡ value_on n ds
 value_of n [] all = refl
 value_of n (d ∷ ds) all =
     ap (λ m. fold (λ k c. cond (c == 95) k (16 * k + digit_value c)) m (digits_of ds))
     (cond-false _ _ _ (not_underscore d all.0) ∙ ap (λ v. 16 * n + v) (digit_value-digit_char d (omega arith)))
     ∙ value_of (16 * n + d) ds all.1
 
-pub hex_value-digits : (ds : List ℕ) → AreHex ds → hex_value (digits_of ds) ≡ value_behind 0 ds
+pub hex_value-digits : (ds : List ℕ) → AreHex ds → hex_value (digits_of ds) ≡ value_on 0 ds
 hex_value-digits ds all = value_of 0 ds all
 
 -- ---- characters
@@ -63,24 +63,24 @@ scalar_low : (c : ℕ) → IsScalar c → c < 0x11_0000
 scalar_low c is = elim (scalar_cases c is) [ inl low ↦ omega arith | inr high ↦ omega arith ]
 
 -- the digits of a number, from the first one that isn't zero, write the number
-value_1 : (c : ℕ) → c < 0x10 → value_behind 0 (c / 1 % 16 ∷ []) ≡ c
+value_1 : (c : ℕ) → c < 0x10 → value_on 0 (c / 1 % 16 ∷ []) ≡ c
 value_1 c low = omega arith
 
-value_2 : (c : ℕ) → c < 0x100 → value_behind 0 (c / 0x10 % 16 ∷ c / 1 % 16 ∷ []) ≡ c
+value_2 : (c : ℕ) → c < 0x100 → value_on 0 (c / 0x10 % 16 ∷ c / 1 % 16 ∷ []) ≡ c
 value_2 c low = omega arith
 
-value_3 : (c : ℕ) → c < 0x1000 → value_behind 0 (c / 0x100 % 16 ∷ c / 0x10 % 16 ∷ c / 1 % 16 ∷ []) ≡ c
+value_3 : (c : ℕ) → c < 0x1000 → value_on 0 (c / 0x100 % 16 ∷ c / 0x10 % 16 ∷ c / 1 % 16 ∷ []) ≡ c
 value_3 c low = omega arith
 
 value_4 : (c : ℕ) → c < 0x1_0000
-    → value_behind 0 (c / 0x1000 % 16 ∷ c / 0x100 % 16 ∷ c / 0x10 % 16 ∷ c / 1 % 16 ∷ []) ≡ c
+    → value_on 0 (c / 0x1000 % 16 ∷ c / 0x100 % 16 ∷ c / 0x10 % 16 ∷ c / 1 % 16 ∷ []) ≡ c
 value_4 c low = omega arith
 
 value_5 : (c : ℕ) → c < 0x10_0000
-    → value_behind 0 (c / 0x1_0000 % 16 ∷ c / 0x1000 % 16 ∷ c / 0x100 % 16 ∷ c / 0x10 % 16 ∷ c / 1 % 16 ∷ []) ≡ c
+    → value_on 0 (c / 0x1_0000 % 16 ∷ c / 0x1000 % 16 ∷ c / 0x100 % 16 ∷ c / 0x10 % 16 ∷ c / 1 % 16 ∷ []) ≡ c
 value_5 c low = omega arith
 
-value_6 : (c : ℕ) → c < 0x11_0000 → value_behind 0
+value_6 : (c : ℕ) → c < 0x11_0000 → value_on 0
     (c / 0x10_0000 % 16 ∷ c / 0x1_0000 % 16 ∷ c / 0x1000 % 16 ∷ c / 0x100 % 16 ∷ c / 0x10 % 16 ∷ c / 1 % 16 ∷ []) ≡ c
 value_6 c low = omega arith
 
@@ -90,14 +90,14 @@ pub record IsCoded (c : ℕ) (p : List ℕ) : Type 0 where
   pub others : List ℕ
   pub hex : AreHex (first ∷ others)
   pub few : length others ≤ 5
-  pub value : value_behind 0 (first ∷ others) ≡ c
+  pub value : value_on 0 (first ∷ others) ≡ c
   pub whole : p ≡ 92 ∷ 117 ∷ 123 ∷ (digits_of (first ∷ others) ++ 125 ∷ [])
 
 abbrev at : ℕ → ℕ → ℕ
 at weight c = c / weight % 16
 
-pub coded : (c : ℕ) → IsScalar c → IsCoded c (escape_unicode c)
-coded c is =
+pub escape_is_coded : (c : ℕ) → IsScalar c → IsCoded c (escape_unicode c)
+escape_is_coded c is =
     cond_both (nat_lt c 0x10) _ _ (IsCoded c)
     (λ e. record {
       first = at 1 c;

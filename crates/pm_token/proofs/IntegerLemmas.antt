@@ -20,7 +20,7 @@ use Rattle.lexical.specs.Text.{begins_with, begins_any, first_passes}
 use Rattle.lexical.specs.Number.{Number, Digits, is_digit_or_underscore, base_prefixes, number, tail}
 use Rattle.lexical.specs.Rule.{find}
 use Rattle.lexical.specs.Literal.{Literal}
-use Rattle.lexical.specs.Finder.{behind, and_find}
+use Rattle.lexical.specs.Finder.{prepend, and_find}
 use Rattle.lexical.proofs.StripLemmas.{is_ascii}
 use Rattle.lexical.proofs.TextLemmas.{begins_splits}
 use Rattle.lexical.proofs.FinderLemmas.{found_is}
@@ -87,8 +87,8 @@ no_prefix c rest h = false_from_ne_true _ (λ begins. elim (or_cases _ _ begins)
         → is_base_letter letter ≡ true → ⊥
     clash front nought letter begins e is =
         let at = begins_splits front (c ∷ rest) begins in
-        let behind_zero : rest ≡ letter ∷ at.0 = ap (drop 1) (at.1 ∙ ap (λ x. x ++ at.0) e) in
-        both_ways _ h (ap (first_passes is_base_letter) behind_zero ∙ is)
+        let after_zero : rest ≡ letter ∷ at.0 = ap (drop 1) (at.1 ∙ ap (λ x. x ++ at.0) e) in
+        both_ways _ h (ap (first_passes is_base_letter) after_zero ∙ is)
 
 -- no digit is the letter of a base prefix, and no suffix begins with one
 digit_no_letter : (c : ℕ) → is_ascii_digit c ≡ true → is_base_letter c ≡ false
@@ -127,7 +127,7 @@ integer_found c digits suffix all =
     } in
     number_decimal _ (no_prefix c (digits ++ suffix_text suffix) (no_letter digits suffix parts.1))
     ∙ (ap (and_find (find tail)) (finds_digits.complete (c ∷ digits) (suffix_text suffix) front)
-    ∙ ap (behind (c ∷ digits)) (suffix_ends suffix).ends)
+    ∙ ap (prepend (c ∷ digits)) (suffix_ends suffix).ends)
 
 -- digits with a suffix are a literal, and it begins with a digit
 integer_literal : (digits : List ℕ) (suffix : Suffix) → IsNumeral 10 digits
@@ -152,22 +152,22 @@ signed_whole (negsuc n) suffix h =
 
 -- ---- characters
 
-chars_behind : (front : List ℕ) (suffix : Suffix) → IsAscii front
+chars_before_suffix : (front : List ℕ) (suffix : Suffix) → IsAscii front
     → chars (front ++ suffix_text suffix) ≡ front ++ suffix_text suffix
-chars_behind front suffix ascii =
+chars_before_suffix front suffix ascii =
     chars-append front (suffix_text suffix) (IsUtf8-from_ascii front ascii)
     ∙ ap₂ (λ xs ys. xs ++ ys) (chars-IsAscii front ascii)
     (chars-IsAscii (suffix_text suffix) (is_ascii (suffix_text suffix) (suffix_ends suffix).ascii))
 
 pub chars_unsigned : (n : ℕ) (suffix : Suffix) → n < 2 ^ 128
     → chars (decimal n ++ suffix_text suffix) ≡ decimal n ++ suffix_text suffix
-chars_unsigned n suffix h = chars_behind (decimal n) suffix (IsAscii-decimal_wide n (omega (arith, h)))
+chars_unsigned n suffix h = chars_before_suffix (decimal n) suffix (IsAscii-decimal_wide n (omega (arith, h)))
 
 pub chars_signed : (z : ℤ) (suffix : Suffix) → SFits w128 z
     → chars (signed_decimal z ++ suffix_text suffix) ≡ signed_decimal z ++ suffix_text suffix
 chars_signed (pos n) suffix h = chars_unsigned n suffix (omega (arith, h.sfits))
 chars_signed (negsuc n) suffix h =
-    chars_behind (45 ∷ decimal (suc n)) suffix
+    chars_before_suffix (45 ∷ decimal (suc n)) suffix
     (IsAscii-cons 45 (decimal (suc n)) (omega arith) (IsAscii-decimal_wide (suc n) (omega (arith, h.sfits))))
 
 -- a number is written as its sign and the digits of its absolute value

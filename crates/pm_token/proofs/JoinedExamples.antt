@@ -6,13 +6,13 @@ use Rattle.lexical.specs.Quoted.{StringUnit}
 use Rattle.pm_token.specs.Joined.{c_joined, string_joined}
 
 -- a backslash and LF give nothing, nor do the blanks after them
-skipped : string_joined (codes "a" ∷ codes "\\\n" ∷ codes " " ∷ codes "\t" ∷ codes "\n" ∷ codes " " ∷ codes "b"
+skips_blanks : string_joined (codes "a" ∷ codes "\\\n" ∷ codes " " ∷ codes "\t" ∷ codes "\n" ∷ codes " " ∷ codes "b"
     ∷ codes " " ∷ []) ≡ codes "ab "
-skipped = refl
+skips_blanks = refl
 
 -- a line end without a backslash is kept, with the blanks after it
-kept : string_joined (codes "a" ∷ codes "\n" ∷ codes " " ∷ codes "b" ∷ []) ≡ codes "a\n b"
-kept = refl
+keeps_line_end : string_joined (codes "a" ∷ codes "\n" ∷ codes " " ∷ codes "b" ∷ []) ≡ codes "a\n b"
+keeps_line_end = refl
 
 -- an escape is not a blank, even if it gives one
 tab : string_joined (codes "\\\n" ∷ codes " " ∷ codes "\\t" ∷ codes " " ∷ []) ≡ codes "\t "
@@ -53,6 +53,6 @@ division = record {
           inl (inl refl);
     }))
 
-divided : string_joined division.units ≡ codes "ab"
+division_value : string_joined division.units ≡ codes "ab"
 unfolding division
-divided = refl
+division_value = refl

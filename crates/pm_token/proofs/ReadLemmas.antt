@@ -11,7 +11,7 @@ use Rattle.literal_escaper.specs.Kind.{Kind}
 use Rattle.literal_escaper.specs.Text.{first_is}
 use Rattle.literal_escaper.specs.Value.{last_fault, units_of, value_of, value_or}
 use Rattle.literal_escaper.proofs.ItemLemmas.{items_none, items_past}
-use Rattle.pm_token.specs.Escaped.{written}
+use Rattle.pm_token.specs.Escaped.{char_text}
 
 -- ---- items without an error
 
@@ -194,7 +194,7 @@ pub written_as : (kind : Kind ℕ) (quote : ℕ) (how : ℕ → List ℕ) (c : �
     → Escapes kind (92 ∷ quote ∷ []) quote
     → ((c == 9) ≡ false → (c == 13) ≡ false → (c == 10) ≡ false → (c == 92) ≡ false → (c == quote) ≡ false
     → WrittenAs kind quote c (how c) c)
-    → WrittenAs kind quote c (written quote how c rest) c
+    → WrittenAs kind quote c (char_text quote how c rest) c
 written_as kind quote how c rest is closing other =
     cond_both ((c == 0) && first_passes is_octal_digit rest) _ _ (λ p. WrittenAs kind quote c p c)
     (λ e. inl (same_unit kind _ c 0 (and_parts (c == 0) _ e).0 (long_zero kind is)))

@@ -31,18 +31,18 @@ pub record Holds (room bytes : List ℕ) (text : List ℕ) (end : ℕ) : Type 0 
   pub front : take end bytes ≡ text
   pub rest : drop end bytes ≡ drop end room
 
-pub copied : (room text x : List ℕ) → x ≡ text
+pub copy_holds : (room text x : List ℕ) → x ≡ text
     → Holds room (x ++ drop (length text) room) text (length text)
-copied room text x is = rw is (record {
+copy_holds room text x is = rw is (record {
   front = take_at text (drop (length text) room) (length text) refl;
   rest = drop-append-drop (length text) room text (length text) (omega arith) refl;
 })
 
 -- another text is copied after the first one
-pub copied_behind : (room bytes front back y : List ℕ) (start : ℕ) → start ≤ length bytes → y ≡ back
+pub second_copy : (room bytes front back y : List ℕ) (start : ℕ) → start ≤ length bytes → y ≡ back
     → Holds room bytes front start
     → Holds room (put_mid start (start + length back - start) bytes y) (front ++ back) (start + length back)
-copied_behind room bytes front back y start within is here = rw is (record {
+second_copy room bytes front back y start within is here = rw is (record {
   front = take-put_mid start (start + length back - start) bytes back (start + length back) refl within
       ∙ ap (λ p. p ++ back) here.front;
   rest = drop-put_mid start (start + length back - start) bytes back (start + length back) (omega arith) within
@@ -55,8 +55,8 @@ pub copied_both : (room front back x y : List ℕ) → x ≡ front → y ≡ bac
     → Holds room (put_mid (length front) (length front + length back - length front) (x ++ drop (length front) room) y)
     (front ++ back) (length front + length back)
 copied_both room front back x y is_front is_back = rw is_front
-    (copied_behind room (front ++ drop (length front) room) front back y (length front)
-    (omega (arith, length-append front (drop (length front) room))) is_back (copied room front front refl))
+    (second_copy room (front ++ drop (length front) room) front back y (length front)
+    (omega (arith, length-append front (drop (length front) room))) is_back (copy_holds room front front refl))
 
 -- the sign of a number
 abbrev pub sign : Bool → List ℕ
@@ -75,11 +75,11 @@ number_short false n start count small at is =
     omega (arith, at, is, length-decimal-le 20 n (omega arith) (omega arith) small)
 
 -- digits are written after the sign; the first byte of the array is `-`
-pub digits_behind : (negative : Bool) (room bytes digits : List ℕ) (start end : ℕ) → start ≡ length (sign negative)
+pub digits_after_sign : (negative : Bool) (room bytes digits : List ℕ) (start end : ℕ) → start ≡ length (sign negative)
     → start + length digits ≡ end → 0 < length digits
     → take start bytes ≡ take start (45 ∷ room) → drop start bytes ≡ digits ++ drop end (45 ∷ room)
     → Holds (0 ∷ room) bytes (sign negative ++ digits) end
-digits_behind negative room bytes digits start end at long some before written = record {
+digits_after_sign negative room bytes digits start end at long some before written = record {
   front = ap (take end) whole ∙ (take_at (sign negative ++ digits) _ end size);
   rest = ap (drop end) whole ∙ (drop_at (sign negative ++ digits) _ end size ∙ past end (omega arith));
 }
@@ -101,19 +101,19 @@ digits_behind negative room bytes digits start end at long some before written =
     past (suc n) h = refl
 
 -- a sign, digits and a suffix
-pub numbered : (negative : Bool) (n : ℕ) (suffix bytes y : List ℕ) (start count first : ℕ) → n < 2 ^ 64
+pub number_holds : (negative : Bool) (n : ℕ) (suffix bytes y : List ℕ) (start count first : ℕ) → n < 2 ^ 64
     → start ≡ from_bool negative → count ≡ length (decimal n) → first + length (decimal n) ≡ start + count
     → take first bytes ≡ take first (45 ∷ replicate 21 0)
     → drop first bytes ≡ decimal n ++ drop (start + count) (45 ∷ replicate 21 0)
     → length bytes ≡ 22 → y ≡ suffix
     → Holds (replicate 22 0) (put_mid (start + count) (start + count + length suffix - (start + count)) bytes y)
     ((sign negative ++ decimal n) ++ suffix) (start + count + length suffix)
-numbered negative n suffix bytes y start count first small at is begins before written size behind =
+number_holds negative n suffix bytes y start count first small at is begins before written size rest_after =
     let fits = number_short negative n start count small at is in
     let place : first ≡ length (sign negative) = omega (arith, begins, is, at, sign_length negative) in
-    copied_behind (replicate 22 0) bytes (sign negative ++ decimal n) suffix y (start + count)
-    (omega (arith, size, fits)) behind
-    (digits_behind negative (replicate 21 0) bytes (decimal n) first (start + count) place begins
+    second_copy (replicate 22 0) bytes (sign negative ++ decimal n) suffix y (start + count)
+    (omega (arith, size, fits)) rest_after
+    (digits_after_sign negative (replicate 21 0) bytes (decimal n) first (start + count) place begins
     (decimal_nonempty n small) before written)
 
 pub number_utf8 : (negative : Bool) (n : ℕ) (suffix : List ℕ) → n < 2 ^ 64 → IsUtf8 suffix

@@ -33,8 +33,8 @@ use Rattle.pm_token.proofs.ValueLawLemmas.{bytes_come_back, characters_come_back
 
 -- ---- one unit
 
-flipped : (c d : ℕ) → (d == c) ≡ false → (c == d) ≡ false
-flipped c d e = ne_eqb c d (λ same. eqb-false d c e (sym same))
+eqb_flip : (c d : ℕ) → (d == c) ≡ false → (c == d) ≡ false
+eqb_flip c d e = ne_eqb c d (λ same. eqb-false d c e (sym same))
 
 -- a character that may be alone is a unit
 bare_unit : (kind : Kind ℕ) (c : ℕ) → is_char_plain c ≡ true → kind.of_char c ≡ Ok c
@@ -48,11 +48,11 @@ bare_unit kind c plain is =
     single_stand kind c (c ∷ []) (record {
       whole = refl;
       unit_is = is;
-      no_tab = flipped c 9 tab.0;
-      no_return = flipped c 13 return.0;
-      no_line = flipped c 10 line.0;
-      no_backslash = flipped c 92 backslash.0;
-      no_quote = flipped c 39 quote.0;
+      no_tab = eqb_flip c 9 tab.0;
+      no_return = eqb_flip c 13 return.0;
+      no_line = eqb_flip c 10 line.0;
+      no_backslash = eqb_flip c 92 backslash.0;
+      no_quote = eqb_flip c 39 quote.0;
     })
 
 -- what a kind must provide: a unit for each character that may be alone, and for each escape

@@ -10,21 +10,21 @@ use Rattle.std.proofs.lemmas.Nat.Bits.{bit_at-trailing_zeros}
 use lib.Bits.{bit_and, bit_or, bit_xor}
 use lib.Count.{trailing_of_zero}
 use Rattle.lexical.specs.Finder.{while_front}
-use Rattle.lexical.specs.Word.{word_of}
+use Rattle.lexical.specs.MachineWord.{word_of}
 use Rattle.pm_token.specs.Escaped.{is_plain_ascii}
 use Rattle.lexical.proofs.LaneLemmas.{AreBytes, add_each, and_each, each_is, eights, first_stop, low, low_word}
-use Rattle.lexical.proofs.LaneLemmas.{not_each, or_each, read, repeated, same_each, xor_each}
+use Rattle.lexical.proofs.LaneLemmas.{not_each, or_each, read, uniform_word, same_each, xor_each}
 
 -- a byte whose highest bit is set unless its low bits are those of the other byte
 abbrev apart : ℕ → ℕ → ℕ
 apart other b = bit_xor (low b) other + 127
 
 -- a byte whose highest bit is set unless its low bits are those of a control character
-abbrev printed : ℕ → ℕ
-printed b = low b + 96
+abbrev printable_mark : ℕ → ℕ
+printable_mark b = low b + 96
 
 abbrev on : ℕ → ℕ
-on b = bit_and (bit_and (bit_and (printed b) (apart 127 b)) (apart 92 b)) (apart 34 b)
+on b = bit_and (bit_and (bit_and (printable_mark b) (apart 127 b)) (apart 92 b)) (apart 34 b)
 
 abbrev stop : ℕ → ℕ
 stop b = bit_and (bit_or (255 - on b) b) 128
@@ -60,8 +60,8 @@ stops_are = refl
 -- lemmas on a word of 8 bytes
 module _ (bytes : List ℕ) (l : length bytes ≡ 8) (are : AreBytes bytes) (word : ℕ)
     (is : word ≡ from_le_bytes w64 bytes) where
-  constant : (k n : ℕ) → n ≡ repeated k 8 → n ≡ word_of (λ b. k) bytes
-  constant k n e = e ∙ sym (each_is k bytes ∙ ap (repeated k) l)
+  constant : (k n : ℕ) → n ≡ uniform_word k 8 → n ≡ word_of (λ b. k) bytes
+  constant k n e = e ∙ sym (each_is k bytes ∙ ap (uniform_word k) l)
 
   word_is : word ≡ word_of (λ b. b) bytes
   word_is = is ∙ read bytes l
@@ -69,10 +69,10 @@ module _ (bytes : List ℕ) (l : length bytes ≡ 8) (are : AreBytes bytes) (wor
   low_is : low_word word ≡ word_of low bytes
   low_is = ap₂ bit_and word_is (constant 127 _ refl) ∙ and_each (λ b. b) (λ b. 127) refl refl bytes are
 
-  plus : (f : ℕ → ℕ) (k w n : ℕ) → w ≡ word_of f bytes → n ≡ repeated k 8 → w + n ≡ word_of (λ b. f b + k) bytes
+  plus : (f : ℕ → ℕ) (k w n : ℕ) → w ≡ word_of f bytes → n ≡ uniform_word k 8 → w + n ≡ word_of (λ b. f b + k) bytes
   plus f k w n e c = ap₂ (λ x y. x + y) e (constant k n c) ∙ add_each f (λ b. k) bytes
 
-  printed_is : printed_word word ≡ word_of printed bytes
+  printed_is : printed_word word ≡ word_of printable_mark bytes
   printed_is = plus low 96 _ _ low_is refl
 
   delete_is : apart_word 0x7F7F_7F7F_7F7F_7F7F word ≡ word_of (apart 127) bytes
@@ -91,15 +91,15 @@ module _ (bytes : List ℕ) (l : length bytes ≡ 8) (are : AreBytes bytes) (wor
   on_is =
       ap₂ bit_and
       (ap₂ bit_and
-      (ap₂ bit_and printed_is delete_is ∙ and_each printed (apart 127) refl refl bytes are)
+      (ap₂ bit_and printed_is delete_is ∙ and_each printable_mark (apart 127) refl refl bytes are)
       backslash_is
-      ∙ and_each (λ b. bit_and (printed b) (apart 127 b)) (apart 92) refl refl bytes are)
+      ∙ and_each (λ b. bit_and (printable_mark b) (apart 127 b)) (apart 92) refl refl bytes are)
       quote_is
-      ∙ and_each (λ b. bit_and (bit_and (printed b) (apart 127 b)) (apart 92 b)) (apart 34) refl refl bytes are
+      ∙ and_each (λ b. bit_and (bit_and (printable_mark b) (apart 127 b)) (apart 92 b)) (apart 34) refl refl bytes are
 
   off_is : 2 ^ 64 - 1 - on_word word ≡ word_of (λ b. 255 - on b) bytes
   off_is =
-      let full : 2 ^ 64 - 1 ≡ repeated 255 (length bytes) = sym (ap (repeated 255) l) in
+      let full : 2 ^ 64 - 1 ≡ uniform_word 255 (length bytes) = sym (ap (uniform_word 255) l) in
       omega (arith, on_is, full, not_each on refl bytes are)
 
   stops_is : stop_word word ≡ word_of plain_stop bytes

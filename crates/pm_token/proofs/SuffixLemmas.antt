@@ -41,11 +41,11 @@ name_plain quote out c [] start all ends =
 name_plain quote out c (d ∷ text) start all ends = continues_plain quote out (d ∷ text) all ends
 
 -- if a quote ends the text, no suffix follows the closing quote
-no_suffix_behind : (quote : ℕ) → IsNoName quote → (body suffix r : List ℕ) → Suffix suffix r
+no_suffix_after : (quote : ℕ) → IsNoName quote → (body suffix r : List ℕ) → Suffix suffix r
     → ends_with quote (body ++ (quote ∷ suffix)) ≡ true
     → suffix ≡ []
-no_suffix_behind quote out body suffix r (inr (none, nothing)) ends = nothing
-no_suffix_behind quote out body suffix r (inl name) ends =
+no_suffix_after quote out body suffix r (inr (none, nothing)) ends = nothing
+no_suffix_after quote out body suffix r (inl name) ends =
     let c = name.first.0 in
     let text : suffix ≡ c ∷ name.back = name.whole ∙ ap (λ x. x ++ name.back) name.first.1 in
     let last : ends_with quote (c ∷ name.back) ≡ true =
@@ -70,13 +70,13 @@ single_out = record {
 -- if a single quote ends the text, no suffix follows the closing one
 pub no_single_suffix : (body suffix r : List ℕ) → Suffix suffix r → ends_with 39 (body ++ (39 ∷ suffix)) ≡ true
     → suffix ≡ []
-no_single_suffix = no_suffix_behind 39 single_out
+no_single_suffix = no_suffix_after 39 single_out
 
 -- the body of the grammar is the text before the quote at the end
 body_same : (body content suffix r : List ℕ) → Suffix suffix r
     → body ++ (34 ∷ suffix) ≡ content ++ codes "\"" → body ≡ content
 body_same body content suffix r is same =
-    let none = no_suffix_behind 34 double_out body suffix r is (ap (ends_with 34) same ∙ ends_back 34 content) in
+    let none = no_suffix_after 34 double_out body suffix r is (ap (ends_with 34) same ∙ ends_back 34 content) in
     append_cancel_right body content (codes "\"") (sym (ap (λ s. body ++ (34 ∷ s)) none) ∙ same)
 
 -- the content is made of units of the grammar, up to the quote

@@ -16,7 +16,7 @@ use Rattle.lexical.specs.Finder.{while_front, while_rest}
 use Rattle.lexical.specs.Form.{Run}
 use Rattle.lexical.proofs.FinderLemmas.{finds_run}
 use Rattle.lexical.proofs.Scan.{run_boundary, run_front, run_rest}
-use Rattle.pm_token.specs.Escaped.{is_plain_ascii, written_char, written, content}
+use Rattle.pm_token.specs.Escaped.{is_plain_ascii, written_char, char_text, content}
 
 -- the bytes of one character are that character
 chars-encode : (c : ℕ) → IsScalar c → chars (encode_utf8 c) ≡ c ∷ []
@@ -39,11 +39,11 @@ chars_texted (Err v) new old text utf8 e = tt
 -- ---- the content of a literal, one character after another
 
 pub content_more : (quote c : ℕ) (old new text rest : List ℕ) → IsUtf8 text → text ≡ encode_utf8 c ++ rest
-    → new ≡ old ++ written quote written_char c (chars rest)
+    → new ≡ old ++ char_text quote written_char c (chars rest)
     → new ++ content quote written_char (chars rest) ≡ old ++ content quote written_char (chars text)
 content_more quote c old new text rest utf8 split e =
     ap (λ cs. cs ++ content quote written_char (chars rest)) e
-    ∙ (append_assoc old (written quote written_char c (chars rest)) (content quote written_char (chars rest))
+    ∙ (append_assoc old (char_text quote written_char c (chars rest)) (content quote written_char (chars rest))
     ∙ ap (λ cs. old ++ content quote written_char cs) (sym (chars_past_char text rest c utf8 split)))
 
 pub content_end : (quote : ℕ) (old text : List ℕ) → length text ≡ 0
@@ -59,7 +59,7 @@ plain_past quote c high = and_right (nat_le 32 c) _ (and_left _ _ (le-ltb c 127 
 
 -- each such character is written as itself
 pub plain_written : (quote c : ℕ) (rest : List ℕ) → is_plain_ascii quote c ≡ true
-    → written quote written_char c rest ≡ c ∷ []
+    → char_text quote written_char c rest ≡ c ∷ []
 plain_written quote c rest is =
     let low = and_parts (nat_le 32 c) (nat_lt c 127 && (not (c == 92) && not (c == quote))) is in
     let high = and_parts (nat_lt c 127) (not (c == 92) && not (c == quote)) low.1 in
@@ -79,7 +79,7 @@ plain_written quote c rest is =
 
 -- the literal of such a character, between single quotes
 pub plain_between : (c : ℕ) → is_plain_ascii 39 c ≡ true
-    → chars (39 ∷ c ∷ 39 ∷ []) ≡ 39 ∷ (written 39 written_char c [] ++ 39 ∷ [])
+    → chars (39 ∷ c ∷ 39 ∷ []) ≡ 39 ∷ (char_text 39 written_char c [] ++ 39 ∷ [])
 plain_between c is =
     let low = and_parts (nat_le 32 c) (nat_lt c 127 && (not (c == 92) && not (c == 39))) is in
     let high = and_parts (nat_lt c 127) (not (c == 92) && not (c == 39)) low.1 in

@@ -9,9 +9,9 @@ use Rattle.std.proofs.lemmas.Bool.{agree_below_at, and_parts, and_from, cond_bot
 use Rattle.std.proofs.lemmas.Str.{IsUtf8-string_bytes, scalars-chars}
 use Rattle.lexical.specs.Quoted.{is_octal_digit}
 use Rattle.lexical.specs.Text.{first_passes}
-use Rattle.pm_token.specs.Escaped.{is_bare, written_char, written, content, string_text}
+use Rattle.pm_token.specs.Escaped.{is_bare, written_char, char_text, content, string_text}
 use Rattle.pm_token.specs.Text.{IsText}
-use Rattle.pm_token.proofs.HexLemmas.{AreHex, digits_of, coded}
+use Rattle.pm_token.proofs.HexLemmas.{AreHex, digits_of, escape_is_coded}
 
 pub text_append : (p r : List ℕ) → IsText p → IsText r → IsText (p ++ r)
 text_append [] r h k = k
@@ -40,12 +40,13 @@ text_digits (d ∷ ds) all =
 
 text_unicode : (c : ℕ) → IsScalar c → IsText (escape_unicode c)
 text_unicode c is =
-    let code = coded c is in
+    let code = escape_is_coded c is in
     let values = code.first ∷ code.others in
     let digits = text_append (digits_of values) (codes "}") (text_digits values code.hex) refl in
     subst IsText (sym code.whole) (text_append (codes "\\u{") (digits_of values ++ codes "}") refl digits)
 
-text_written : (quote c : ℕ) (rest : List ℕ) → IsScalar quote → IsScalar c → IsText (written quote written_char c rest)
+text_written : (quote c : ℕ) (rest : List ℕ) → IsScalar quote → IsScalar c
+    → IsText (char_text quote written_char c rest)
 text_written quote c rest own is =
     cond_both ((c == 0) && first_passes is_octal_digit rest) _ _ IsText (λ e. refl)
     (λ e. cond_both (c == 0) _ _ IsText (λ e. refl)
@@ -60,7 +61,7 @@ text_content : (quote : ℕ) (text : List ℕ) → IsScalar quote → IsText tex
 text_content quote [] own all = refl
 text_content quote (c ∷ rest) own all =
     let parts = and_parts _ _ all in
-    text_append (written quote written_char c rest) (content quote written_char rest)
+    text_append (char_text quote written_char c rest) (content quote written_char rest)
     (text_written quote c rest own parts.0) (text_content quote rest own parts.1)
 
 pub text_literal : (text : List ℕ) → IsText text → IsText (string_text text)

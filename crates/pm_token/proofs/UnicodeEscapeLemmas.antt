@@ -10,7 +10,8 @@ use Rattle.std.proofs.lemmas.Bool.{false_from_ne_true, not-true, or_cases}
 use Rattle.lexical.specs.Rule.{Stands}
 use Rattle.lexical.specs.Quoted as rule
 use Rattle.lexical.specs.Quoted.{is_scalar, is_code, hex_value}
-use Rattle.literal_escaper.specs.Escape.{closed, code_unit, coded, escape, is_code_character, is_hex, unicode_escape}
+use Rattle.literal_escaper.specs.Escape.{read_closing, code_unit, read_code, escape, is_code_character, is_hex}
+use Rattle.literal_escaper.specs.Escape.{unicode_escape}
 use Rattle.literal_escaper.specs.Kind.{Kind, character}
 use Rattle.literal_escaper.specs.Text.{while_front, while_rest}
 use Rattle.pm_token.specs.Joined.{Makes, escape_value}
@@ -110,10 +111,11 @@ code_unit_is kind allowed cs all is =
 
 coded_is : {U : Type 0} (kind : Kind U) (allowed : ℕ → Bool) (cs more : List ℕ)
     → list_all is_code_part cs ≡ true → is_code allowed cs ≡ true
-    → coded kind ((cs ++ 125 ∷ []) ++ more) ≡ record { unit = kind.of_code (Ok (hex_value cs)); rest = more }
-unfolding coded
+    → read_code kind ((cs ++ 125 ∷ []) ++ more) ≡ record { unit = kind.of_code (Ok (hex_value cs)); rest = more }
+unfolding read_code
 coded_is kind allowed cs more all is =
-    ap₂ (λ digits rest. closed kind digits rest) (ap (filter is_hex) (code_front cs more all)) (code_rest cs more all)
+    ap₂ (λ digits rest. read_closing kind digits rest) (ap (filter is_hex) (code_front cs more all))
+    (code_rest cs more all)
     ∙ ap (λ u. record { unit = u; rest = more }) (code_unit_is kind allowed cs all is)
 
 first_digit : (c : ℕ) → is_ascii_hexdigit c ≡ true → ((c == 95) ≡ false) × ((c == 125) ≡ false)

@@ -15,7 +15,7 @@ use Rattle.literal_escaper.specs.Kind.{Kind, byte_kind, string_kind}
 use Rattle.literal_escaper.specs.Single.{only, single}
 use Rattle.literal_escaper.specs.Text.{bytes}
 use Rattle.pm_token.specs.Content.{raw_content}
-use Rattle.pm_token.specs.Escaped.{is_bare, written_char, written_byte, written, content, hex_pair, string_text}
+use Rattle.pm_token.specs.Escaped.{is_bare, written_char, written_byte, char_text, content, hex_pair, string_text}
 use Rattle.pm_token.specs.Escaped.{byte_string_text}
 use Rattle.pm_token.specs.Text.{IsText}
 use Rattle.pm_token.specs.Value.{units, value_from}
@@ -55,9 +55,9 @@ string_units end (c ∷ rest) all =
     let parts = and_parts _ _ all in
     let how = written_as string_kind 34 written_char c rest string_plain (short_double string_kind string_plain)
     (char_as 34 c parts.0) in
-    give_front string_kind end (written 34 written_char c rest ++ content 34 written_char rest) c
+    give_front string_kind end (char_text 34 written_char c rest ++ content 34 written_char rest) c
     (content 34 written_char rest) rest
-    (begins_written string_kind end c (written 34 written_char c rest) c (content 34 written_char rest) how)
+    (begins_written string_kind end c (char_text 34 written_char c rest) c (content 34 written_char rest) how)
     (string_units end rest parts.1)
 
 pub strings_come_back : StringsComeBack
@@ -123,9 +123,9 @@ byte_units end [] all = give_none byte_kind end
 byte_units end (b ∷ rest) all =
     let how = written_as byte_kind 34 written_byte b rest byte_plain (short_double byte_kind byte_plain)
     (byte_as 34 b all.0) in
-    give_front byte_kind end (written 34 written_byte b rest ++ content 34 written_byte rest) b
+    give_front byte_kind end (char_text 34 written_byte b rest ++ content 34 written_byte rest) b
     (content 34 written_byte rest) rest
-    (begins_written byte_kind end b (written 34 written_byte b rest) b (content 34 written_byte rest) how)
+    (begins_written byte_kind end b (char_text 34 written_byte b rest) b (content 34 written_byte rest) how)
     (byte_units end rest all.1)
 
 pub byte_strings_come_back : ByteStringsComeBack
@@ -163,10 +163,10 @@ pub characters_come_back : CharactersComeBack
 characters_come_back c scalar =
     let how = written_as string_kind 39 written_char c [] string_plain (short_single string_kind string_plain)
     (char_as 39 c scalar) in
-    (written 39 written_char c [], refl, single_written string_kind c (written 39 written_char c []) how)
+    (char_text 39 written_char c [], refl, single_written string_kind c (char_text 39 written_char c []) how)
 
 pub bytes_come_back : BytesComeBack
 bytes_come_back b low =
     let how = written_as byte_kind 39 written_byte b [] byte_plain (short_single byte_kind byte_plain)
     (byte_as 39 b low) in
-    (written 39 written_byte b [], refl, single_written byte_kind b (written 39 written_byte b []) how)
+    (char_text 39 written_byte b [], refl, single_written byte_kind b (char_text 39 written_byte b []) how)

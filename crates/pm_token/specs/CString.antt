@@ -3,7 +3,7 @@ use Rattle.std.specs.Prelude.{ℕ, Bool, not, ◌==◌, ◌≡◌, ◌<◌, List
 use Rattle.std.specs.Char.{IsScalar}
 use Rattle.std.specs.List.{list_all}
 use Rattle.literal_escaper.specs.Character.{double_quote}
-use Rattle.pm_token.specs.Escaped.{hex_pair, written, written_char}
+use Rattle.pm_token.specs.Escaped.{hex_pair, char_text, written_char}
 
 -- a part of a C string's bytes: a character, or a byte that begins no character
 pub data Part : Type 0 where
@@ -22,7 +22,7 @@ AreParts (Byte b ∷ parts) bytes = BeginsNone bytes × (rest : List ℕ) × (by
 
 -- how a part is written: a character as in a string, and a byte as its number
 abbrev pub part_text : Part → List ℕ
-part_text (Char c) = written double_quote written_char c []
+part_text (Char c) = char_text double_quote written_char c []
 part_text (Byte b) = codes "\\x" ++ hex_pair b
 
 abbrev pub parts_text : List Part → List ℕ

@@ -6,16 +6,16 @@ use Rattle.lexical.specs.Text.{begins_with}
 use Rattle.literal_escaper.specs.Text.{while_front}
 
 -- the text after this prefix, or `None` if the text does not begin with it
-unfoldable pub behind : List ℕ → List ℕ → Option (List ℕ)
-behind front text = if begins_with front text then Some (drop (length front) text) else None
+unfoldable pub strip_front : List ℕ → List ℕ → Option (List ℕ)
+strip_front front text = if begins_with front text then Some (drop (length front) text) else None
 
 -- the text before this ending, or `None` if the text does not end with it
 unfoldable pub before : List ℕ → List ℕ → Option (List ℕ)
-before back text = option_map reverse (behind (reverse back) (reverse text))
+before back text = option_map reverse (strip_front (reverse back) (reverse text))
 
 -- the text between a prefix and an ending
 abbrev pub between : List ℕ → List ℕ → List ℕ → Option (List ℕ)
-between front back text = option_and_then (before back) (behind front text)
+between front back text = option_and_then (before back) (strip_front front text)
 
 -- `cooked-content`: the text after this prefix and before a quote at the end
 abbrev pub cooked_content : List ℕ → List ℕ → Option (List ℕ)
@@ -34,4 +34,4 @@ hashed_content text = between (hashes text ++ codes "\"") (codes "\"" ++ hashes 
 
 -- `raw-content`: the text after this prefix, without its quotes and hash signs
 abbrev pub raw_content : List ℕ → List ℕ → Option (List ℕ)
-raw_content front text = option_and_then hashed_content (behind front text)
+raw_content front text = option_and_then hashed_content (strip_front front text)

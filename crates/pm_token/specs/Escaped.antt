@@ -51,8 +51,8 @@ written_byte b =
     else codes "\\x" ++ hex_pair b
 
 -- `escaped`: how c is written between these quotes, before the rest; `plain` writes characters without a short escape
-abbrev pub written : ℕ → (ℕ → List ℕ) → ℕ → List ℕ → List ℕ
-written quote plain c rest =
+abbrev pub char_text : ℕ → (ℕ → List ℕ) → ℕ → List ℕ → List ℕ
+char_text quote plain c rest =
     -- before an octal digit, `\0` would look like an octal escape of C
     if (c == 0) && first_passes is_octal_digit rest then codes "\\x00"
     -- the short escapes
@@ -72,7 +72,7 @@ is_plain_ascii quote c = nat_le 32 c && (nat_lt c 127 && (not (c == backslash) &
 -- `content`: how all the characters are written, in order
 abbrev pub content : ℕ → (ℕ → List ℕ) → List ℕ → List ℕ
 content quote plain [] = []
-content quote plain (c ∷ rest) = written quote plain c rest ++ content quote plain rest
+content quote plain (c ∷ rest) = char_text quote plain c rest ++ content quote plain rest
 
 -- `string-text`: the string literal of a text
 abbrev pub string_text : List ℕ → List ℕ
@@ -80,11 +80,11 @@ string_text text = codes "\"" ++ (content double_quote written_char text ++ code
 
 -- `character-text`: the literal of a character
 abbrev pub character_text : ℕ → List ℕ
-character_text c = codes "'" ++ (written single_quote written_char c [] ++ codes "'")
+character_text c = codes "'" ++ (char_text single_quote written_char c [] ++ codes "'")
 
 -- `byte-text`: the literal of a byte
 abbrev pub byte_text : ℕ → List ℕ
-byte_text b = codes "b'" ++ (written single_quote written_byte b [] ++ codes "'")
+byte_text b = codes "b'" ++ (char_text single_quote written_byte b [] ++ codes "'")
 
 -- `byte-string-text`: the literal of some bytes
 abbrev pub byte_string_text : List ℕ → List ℕ

@@ -66,15 +66,16 @@ is_skipped skipping unit = is_line_skip unit || (skipping && is_blank unit)
 
 -- `units-joined`: the values of the units, in order; from a backslash and LF on, blanks are skipped up to the next
 -- unit that gives something
-abbrev pub joined : Makes → Bool → List (List ℕ) → List ℕ
-joined makes skipping [] = []
-joined makes skipping (unit ∷ units) =
-    if is_skipped skipping unit then joined makes true units else unit_value makes unit ++ joined makes false units
+abbrev pub units_value : Makes → Bool → List (List ℕ) → List ℕ
+units_value makes skipping [] = []
+units_value makes skipping (unit ∷ units) =
+    if is_skipped skipping unit then units_value makes true units else unit_value makes unit
+    ++ units_value makes false units
 
 -- the characters of a string, or the bytes of a byte string
 abbrev pub string_joined : List (List ℕ) → List ℕ
-string_joined units = joined numbers false units
+string_joined units = units_value numbers false units
 
 -- the bytes of a C string
 abbrev pub c_joined : List (List ℕ) → List ℕ
-c_joined units = joined utf8 false units
+c_joined units = units_value utf8 false units

@@ -59,16 +59,16 @@ unit_bytes (Char c) = encode_utf8 c
 unit_bytes (HighByte byte) = byte ∷ []
 
 -- the bytes, and a zero byte after them
-abbrev pub ended : List ℕ → List ℕ
-ended bytes = bytes ++ 0 ∷ []
+abbrev pub with_zero : List ℕ → List ℕ
+with_zero bytes = bytes ++ 0 ∷ []
 
 -- the bytes of a C string's units and a zero byte, or the error
 abbrev pub c_bytes : Result (List MixedUnit) EscapeError → Result (List ℕ) EscapeError
-c_bytes (Ok units) = Ok (ended (flat_map unit_bytes units))
+c_bytes (Ok units) = Ok (with_zero (flat_map unit_bytes units))
 c_bytes (Err fault) = Err fault
 
 -- `c-string-value`: the bytes of a C string literal's value, the last of them zero, or the error
 abbrev pub cstr_value : List ℕ → Result (List ℕ) ConversionErrorKind
 cstr_value text =
     value_from (option_map (λ content. c_bytes (units c_kind content)) (cooked_content (codes "c\"") text))
-    (option_map (λ content. ended (encode_utf8_all content)) (raw_content (codes "cr") text))
+    (option_map (λ content. with_zero (encode_utf8_all content)) (raw_content (codes "cr") text))

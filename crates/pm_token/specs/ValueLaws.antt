@@ -16,7 +16,7 @@ use Rattle.pm_token.specs.Escaped.{byte_string_text, byte_text, character_text, 
 use Rattle.pm_token.specs.Joined.{c_joined, string_joined}
 use Rattle.pm_token.specs.SingleValue.{byte_value, char_value}
 use Rattle.pm_token.specs.Text.{IsText}
-use Rattle.pm_token.specs.Value.{byte_str_value, cstr_value, ended, str_value}
+use Rattle.pm_token.specs.Value.{byte_str_value, cstr_value, with_zero, str_value}
 
 -- the value of the string literal of a text is the text
 abbrev pub StringsComeBack : Type 0
@@ -30,7 +30,7 @@ ByteStringsComeBack = (bytes : List ℕ) → AllByRecursion (λ b. b < 256) byte
 -- the value of the C string literal of some bytes, none of them zero, is these bytes and a zero byte
 abbrev pub CStringsComeBack : Type 0
 CStringsComeBack = (bytes text : List ℕ) → AllByRecursion (λ b. b < 256) bytes → IsTrue (has_no_zero bytes)
-    → IsCStringText bytes text → cstr_value text ≡ Ok (ended bytes)
+    → IsCStringText bytes text → cstr_value text ≡ Ok (with_zero bytes)
 
 -- the text between the quotes of a character's literal is one unit, which is the character
 abbrev pub CharactersComeBack : Type 0
@@ -87,7 +87,7 @@ RawByteStringsHaveBodies = (signs body : List ℕ) → IsTrue (list_all is_hash 
 -- the value of a raw C string is the bytes of its body and a zero byte
 abbrev pub RawCStringsHaveBodies : Type 0
 RawCStringsHaveBodies = (signs body : List ℕ) → IsTrue (list_all is_hash signs)
-    → cstr_value (raw_text (codes "cr") signs body) ≡ Ok (ended (encode_utf8_all body))
+    → cstr_value (raw_text (codes "cr") signs body) ≡ Ok (with_zero (encode_utf8_all body))
 
 -- whether the text has no CR
 abbrev pub has_no_return : List ℕ → Bool
@@ -119,4 +119,4 @@ ByteStringsHaveValues =
 -- the value of a C string without CR is what its units give together, and a zero byte
 abbrev pub CStringsHaveValues : Type 0
 CStringsHaveValues = (content : List ℕ) → CStr (cooked_text (codes "c\"") content) [] → IsTrue (has_no_return content)
-    → IsJoined CUnit (λ units. ended (c_joined units)) content (cstr_value (cooked_text (codes "c\"") content))
+    → IsJoined CUnit (λ units. with_zero (c_joined units)) content (cstr_value (cooked_text (codes "c\"") content))

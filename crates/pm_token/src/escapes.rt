@@ -7,7 +7,7 @@ ghost use Rattle.lexical.specs.Text.{first_passes};
 ghost use Rattle.lexical.specs.Finder.{while_front};
 ghost use Rattle.lexical.specs.Form.{Run};
 ghost use Rattle.lexical.specs.Quoted.{is_octal_digit};
-ghost use Rattle.pm_token.specs.Escaped.{is_hidden, is_bare as bare, is_plain_ascii, written_char, written, content};
+ghost use Rattle.pm_token.specs.Escaped.{is_hidden, is_bare as bare, is_plain_ascii, written_char, char_text, content};
 ghost use Rattle.pm_token.specs.Escaped.{string_text};
 ghost use Rattle.pm_token.specs.Text.{IsText};
 
@@ -138,7 +138,7 @@ impl TextBuilder {
         c: char,
         rest: &str,
     ) -> Result<(), AllocError>
-        ensures ok { OnOk result (self.new ≡ self.old ++ written quote written_char c (chars rest.now)) }
+        ensures ok { OnOk result (self.new ≡ self.old ++ char_text quote written_char c (chars rest.now)) }
     {
         match c {
             '\0' if begins_octal(rest) => self.push_long_zero(),

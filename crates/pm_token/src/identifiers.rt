@@ -71,7 +71,7 @@ impl Ident {
 
     /// Makes the identifier of this name, if the name is valid.
     #[inline(always)]
-    fn checked(alloc: Global, name: &str, raw: bool, span: Span) -> Result<Ident, IdentError>
+    fn valid_ident(alloc: Global, name: &str, raw: bool, span: Span) -> Result<Ident, IdentError>
         ensures ok { IfOk result (λ ident. ident ≡ record { name = chars name.now; raw = raw; span = span }) }
         ensures refused { Refuses (ident_fault raw (chars name.now)) result }
     {
@@ -102,7 +102,7 @@ impl Ident {
         ensures reserved { (result ≡ Err IdentError.Reserved)
             ↔ (ident_fault false (chars name.now) ≡ Some IdentError.Reserved) }
     {
-        Ident::checked(alloc, name, false, span)
+        Ident::valid_ident(alloc, name, false, span)
     }
 
     /// Makes the raw identifier of this name, which is given without `r#`, with this span.
@@ -122,7 +122,7 @@ impl Ident {
         ensures reserved { (result ≡ Err IdentError.Reserved)
             ↔ (ident_fault true (chars name.now) ≡ Some IdentError.Reserved) }
     {
-        Ident::checked(alloc, name, true, span)
+        Ident::valid_ident(alloc, name, true, span)
     }
 
     /// Returns whether `text` is how the identifier is written: a raw `a` is written `r#a`, and not `a`.

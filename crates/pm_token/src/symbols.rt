@@ -156,7 +156,7 @@ impl Symbol {
 
     /// Returns both texts joined, if the result is short. This allocates nothing.
     #[inline(always)]
-    pub fn joined(front: &str, back: &str) -> Option<Symbol>
+    pub fn concatenation(front: &str, back: &str) -> Option<Symbol>
         ensures value { IfSome result (λ symbol. symbol ≡ chars (front.now ++ back.now)) }
         ensures text { IfSome result IsText }
     {
@@ -164,7 +164,7 @@ impl Symbol {
             return None;
         }
         Some(Symbol {
-            text: Text::Short(Short::joined(front, back)),
+            text: Text::Short(Short::concatenation(front, back)),
         })
     }
 
@@ -187,7 +187,7 @@ impl Symbol {
         ensures ok { IfOk result (λ symbol. symbol ≡ chars (front.now ++ back.now)) }
         ensures text { IfOk result IsText }
     {
-        match Symbol::joined(front, back) {
+        match Symbol::concatenation(front, back) {
             Some(text) => Ok(text),
             None => Symbol::long_concat(alloc, front, back),
         }

@@ -7,14 +7,14 @@ use Rattle.pretty.specs.Comments.{denial, note}
 
 -- what is said of a text with this many plain comments: nothing if it has none, and otherwise that they are left out,
 -- or would be lost if they are denied
-abbrev pub said_of : Bool → List ℕ → ℕ → List ℕ
-said_of deny path count = if count == 0 then [] else (if deny then denial path count else note count)
+abbrev pub comment_message : Bool → List ℕ → ℕ → List ℕ
+comment_message deny path count = if count == 0 then [] else (if deny then denial path count else note count)
 
 -- what is said of an outcome: what is said of the comments, or the message of the failure, with the system's reason if
 -- there is one
-abbrev pub said : Bool → List ℕ → List ℕ → Result ℕ Failure → List ℕ
-said deny path reason (Ok count) = said_of deny path count
-said deny path reason (Err failure) = message path reason failure
+abbrev pub messages_of : Bool → List ℕ → List ℕ → Result ℕ Failure → List ℕ
+messages_of deny path reason (Ok count) = comment_message deny path count
+messages_of deny path reason (Err failure) = message path reason failure
 
 -- the exit status: 1 if comments are denied and there are some, 0 after any other success, or that of the failure
 abbrev pub status_of : Bool → Result ℕ Failure → ℕ

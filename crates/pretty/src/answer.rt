@@ -48,7 +48,7 @@ pub fn print_text<W: Write>(
                 Err(failure) => Err(failure),
             }
         }
-        Err(error) => Err(Failure::unparsed(error, &map)),
+        Err(error) => Err(Failure::parse_failure(error, &map)),
     }
 }
 

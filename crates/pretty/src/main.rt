@@ -28,14 +28,14 @@ use std::io::{BufWriter, Write};
 use std::process::ExitCode;
 
 fn main(rt: HostRuntime) -> ExitCode {
-    match asked(&rt) {
+    match command_options(&rt) {
         Ok(options) => pretty_file(&rt, &options),
         Err(failure) => conclude(rt.alloc(), "-", Err(failure), &mut rt.stderr()),
     }
 }
 
 /// Returns the options of the command line.
-fn asked(rt: &HostRuntime) -> Result<Options, Failure> {
+fn command_options(rt: &HostRuntime) -> Result<Options, Failure> {
     let words = words(rt.alloc(), env::args(rt), USAGE)?;
     options_of(rt.alloc(), words.as_slice())
 }

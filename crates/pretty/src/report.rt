@@ -1,7 +1,7 @@
 //! What the program writes to standard error, and its exit status.
 ghost use Rattle.std.specs.Prelude.{◌≡◌, ℕ, List, OnOk};
 ghost use Rattle.std.specs.Io.KnownBytes.{Appends};
-ghost use Rattle.pretty.specs.Report.{said, status_of};
+ghost use Rattle.pretty.specs.Report.{messages_of, status_of};
 
 use crate::comments::{say_denied, say_left_out};
 use messages::{Failure, say};
@@ -19,7 +19,7 @@ pub fn report<E: Write>(
     errors: &mut E,
 ) -> io::Result<()>
     ensures { OnOk result ((reason : List ℕ) × Appends (E.contents errors.old) (E.contents errors.new)
-        (said deny path.now reason outcome.now)) }
+        (messages_of deny path.now reason outcome.now)) }
 {
     match outcome {
         Ok(0) => Ok(()),

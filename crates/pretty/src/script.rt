@@ -5,7 +5,7 @@ ghost use Rattle.lexical.specs.Ascii.{all_ascii};
 ghost use Rattle.lexical.specs.Text.{begins_with};
 ghost use Rattle.pretty.specs.Script.{code_of, is_script, script_line, with_line};
 
-use lexical::parts::{Class, Cursor, before, begins, skip, skip_to};
+use lexical::parts::{Class, TextCursor, before, begins, skip, skip_to};
 use pm_token::parts::TextBuilder;
 use std::alloc::{AllocError, Global};
 
@@ -22,7 +22,7 @@ pub fn split_script(text: &str) -> (&str, &str)
     if !is_script(text) {
         return ("", text);
     }
-    let code = skip_to(Cursor::new(text), b'\n').rest;
+    let code = skip_to(TextCursor::new(text), b'\n').rest;
     (before(text, code), code)
 }
 
@@ -31,7 +31,7 @@ fn is_script(text: &str) -> bool
     ensures { result ≡ is_script (chars text.now) }
 {
     match strip(text, "#!") {
-        Some(rest) => !begins(skip(Cursor::new(rest), Class::White).rest, "["),
+        Some(rest) => !begins(skip(TextCursor::new(rest), Class::White).rest, "["),
         None => false,
     }
 }

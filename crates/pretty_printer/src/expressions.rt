@@ -1,5 +1,5 @@
 //! Reads expressions, patterns and types as trees. Each operator takes the operands that bind more strongly.
-use crate::atoms::{Atom, Kind, Role, Sign, Word};
+use crate::atoms::{Atom, Kind, Lexeme, Role, Sign};
 use crate::roles::awaits_operand;
 use crate::tree::{Form, NOWHERE, Tree};
 
@@ -69,9 +69,9 @@ impl Tree {
         let opens = own.role == Role::BarOpen || own.role == Role::BarClose && !own.is_mark('|');
         // It is the rest of an operator such as `>>`, the `|` after `move`, or a label.
         let passed = own.role == Role::Between && previous.glued
-            || opens && previous.is_word(Word::Prefix)
-            || own.role == Role::Colon && previous.is_word(Word::Lifetime)
-            || own.is_word(Word::Lifetime) && next.role == Role::Colon;
+            || opens && previous.is_word(Lexeme::Prefix)
+            || own.role == Role::Colon && previous.is_word(Lexeme::Lifetime)
+            || own.is_word(Lexeme::Lifetime) && next.role == Role::Colon;
         match own.kind {
             _ if passed => {}
             Kind::Sign(_) => match own.role {
@@ -81,17 +81,17 @@ impl Tree {
                 Role::BarClose => {}
                 _ => self.go_on(index, own),
             },
-            Kind::Word(Word::Prefix) if closure => self.open(Form::Closure, index, WEAKEST),
-            Kind::Word(word) => match word {
-                Word::For if next.is_mark('<') => self.go_on(index, own),
-                Word::If if previous.is_word(Word::Else) => {}
-                Word::If | Word::Match | Word::While | Word::For | Word::Loop => {
+            Kind::Lexeme(Lexeme::Prefix) if closure => self.open(Form::Closure, index, WEAKEST),
+            Kind::Lexeme(word) => match word {
+                Lexeme::For if next.is_mark('<') => self.go_on(index, own),
+                Lexeme::If if previous.is_word(Lexeme::Else) => {}
+                Lexeme::If | Lexeme::Match | Lexeme::While | Lexeme::For | Lexeme::Loop => {
                     self.open(Form::Control, index, WEAKEST);
                 }
-                Word::Else => {}
-                Word::Let => self.open(Form::Let, index, WEAKEST),
-                Word::Return => self.open(Form::Plain, index, WEAKEST),
-                Word::Prefix => self.open(Form::Plain, index, BEFORE),
+                Lexeme::Else => {}
+                Lexeme::Let => self.open(Form::Let, index, WEAKEST),
+                Lexeme::Return => self.open(Form::Plain, index, WEAKEST),
+                Lexeme::Prefix => self.open(Form::Plain, index, BEFORE),
                 _ => self.go_on(index, own),
             },
             _ if own.is_body() && self.awaits_block() && !awaits_operand(&previous) => {
@@ -132,10 +132,10 @@ impl Tree {
             Kind::Group(_) if own.is_body() && self.reader.controls > 0 && !bang => {
                 return self.take_block(index, own);
             }
-            Kind::Word(Word::In | Word::Else) if !self.reader.opens.is_empty() => {
+            Kind::Lexeme(Lexeme::In | Lexeme::Else) if !self.reader.opens.is_empty() => {
                 return self.attach(ASSIGN, index);
             }
-            Kind::Word(Word::If) => return self.take_arm(index),
+            Kind::Lexeme(Lexeme::If) => return self.take_arm(index),
             Kind::Sign(_) if own.role == Role::Arm => return self.take_arm(index),
             Kind::Sign(_) if own.role == Role::Dot && !previous.glued => {
                 return self.take_dot(index);
@@ -244,7 +244,7 @@ impl Tree {
         if let Some(control) = self.nodes.get_mut(node) {
             control.from = control.from.min(own.node);
         }
-        if !self.next(index).is_word(Word::Else) {
+        if !self.next(index).is_word(Lexeme::Else) {
             self.reduce_one(index.saturating_add(1));
         }
     }

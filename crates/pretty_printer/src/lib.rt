@@ -13,7 +13,7 @@ ghost use Rattle.layout.specs.declared.errors.LayoutError.TheVariants.{NotWellSp
 ghost use Rattle.proc_macro2.specs.WellSpaced.{IsWellSpaced};
 ghost use Rattle.quoting.specs.Choice.{HopelessIfNamed};
 ghost use Rattle.quoting.specs.Fault.{IsFaultOf};
-ghost use Rattle.quoting.specs.Respaced.{respaced};
+ghost use Rattle.quoting.specs.Respaced.{respace_marks};
 
 mod atoms;
 mod expressions;
@@ -28,7 +28,7 @@ mod sides;
 mod signs;
 mod tree;
 
-use layout::{Chooser, Gap, LayoutError, Place, text_with};
+use layout::{Chooser, Gap, GapContext, LayoutError, text_with};
 use printer::Printer;
 use proc_macro2::TokenStream;
 use quoting::{Quote, QuoteError, laws};
@@ -36,7 +36,7 @@ use std::alloc::Global;
 
 impl<'a> Chooser for Printer<'a> {
     #[inline(always)]
-    fn gap(&mut self, place: Place<'_>) -> Gap {
+    fn gap(&mut self, place: GapContext<'_>) -> Gap {
         if place.after.is_none() {
             return match place.before {
                 Some(_) => Gap::Line(0),
@@ -59,8 +59,8 @@ impl<'a> Chooser for Printer<'a> {
 ///
 /// `fn f(){g(1)}` is written over three lines, the second of which is `    g(1)`.
 pub fn to_pretty_string(alloc: Global, stream: &TokenStream) -> Result<String, QuoteError>
-    ensures layout { IfOk result (λ text. IsLayout (respaced stream.now) (chars (string_bytes text))) }
-    ensures back { IfOk result (λ text. ReadsBack (respaced stream.now) (chars (string_bytes text))) }
+    ensures layout { IfOk result (λ text. IsLayout (respace_marks stream.now) (chars (string_bytes text))) }
+    ensures back { IfOk result (λ text. ReadsBack (respace_marks stream.now) (chars (string_bytes text))) }
     ensures unchanged { IfOk result (λ text. IsWellSpaced stream.now
         → IsLayout stream.now (chars (string_bytes text)) × ReadsBack stream.now (chars (string_bytes text))) }
     ensures fault { IfErr result (IsFaultOf stream.now) }

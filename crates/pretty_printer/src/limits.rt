@@ -1,5 +1,5 @@
 //! Measures from the inside out: widths on one line, and what needs several lines. rustfmt's limits are here.
-use crate::atoms::{Atom, Role, Word};
+use crate::atoms::{Atom, Lexeme, Role};
 use crate::parts::SHORT;
 use crate::tree::{Form, NO_HEAD, NOWHERE, Node, Tree};
 use layout::Gap;
@@ -48,7 +48,7 @@ impl Tree {
         // The body of a closure begins on the line of its parameters if it is a block, or ends with one.
         let block = match last.form {
             Form::Group | Form::Plain => self.previous(last.end).is_brace(),
-            Form::Control => first.is_word(Word::Match) || first.is_word(Word::Loop),
+            Form::Control => first.is_word(Lexeme::Match) || first.is_word(Lexeme::Loop),
             form => form == Form::Closure,
         };
         let head = match own.form {
@@ -129,7 +129,7 @@ impl Tree {
         let forced = comma && !loose && !(atom.role == Role::Tuple && self.is_single(own));
         let next = self.atom(own.end);
         let sign = next.role == Role::Arm || next.is_mark('=') || next.is_mark('|');
-        let pattern = sign || next.is_word(Word::If) || previous.is_word(Word::Let);
+        let pattern = sign || next.is_word(Lexeme::If) || previous.is_word(Lexeme::Let);
         let index = !atom.is_round() && previous.is_value();
         let limit = match atom.role {
             Role::Fields => FIELDS,

@@ -12,7 +12,7 @@ const DEEPEST: usize = 60;
 
 /// What is to be done.
 #[derive(Clone, Copy, PartialEq)]
-pub enum Step {
+pub enum LayStep {
     /// Lay out the node, which is not on one line.
     Lay,
     /// Lay out the next child: after one on one line, after one that is not, with its block on its own line, and on its
@@ -33,7 +33,7 @@ pub enum Step {
 /// A step that is left: the children of `node` from `child` on.
 #[derive(Clone, Copy)]
 pub struct Task {
-    pub step: Step,
+    pub step: LayStep,
     pub node: usize,
     pub child: usize,
     /// The index of the next atom. Of a list: the part before.
@@ -68,18 +68,18 @@ impl Tree {
             return self.put(own.first, own.end);
         }
         let task = Task {
-            step: Step::Lay,
+            step: LayStep::Lay,
             node,
             child: NOWHERE,
             at: NOWHERE,
             indent,
             tail,
         };
-        self.push(Step::Lay, &task, NOWHERE, NOWHERE);
+        self.push(LayStep::Lay, &task, NOWHERE, NOWHERE);
     }
 
     /// Leaves the children of a task's node from `child` on to this step.
-    pub fn push(&mut self, step: Step, task: &Task, child: usize, at: usize) {
+    pub fn push(&mut self, step: LayStep, task: &Task, child: usize, at: usize) {
         let mut left = *task;
         left.step = step;
         left.child = child;
@@ -89,7 +89,7 @@ impl Tree {
     }
 
     /// Leaves the children after this one to this step.
-    pub fn leave(&mut self, step: Step, task: &Task, child: &Node) {
+    pub fn leave(&mut self, step: LayStep, task: &Task, child: &Node) {
         self.push(step, task, child.next, child.end);
     }
 
@@ -97,9 +97,9 @@ impl Tree {
     fn take_task(&mut self, task: &Task) {
         let own = *self.node(task.node);
         match task.step {
-            Step::Lay => return self.lay_node(task, &own),
-            Step::Close => return self.close(&own, task.indent),
-            Step::Shut => return self.put_mark(),
+            LayStep::Lay => return self.lay_node(task, &own),
+            LayStep::Close => return self.close(&own, task.indent),
+            LayStep::Shut => return self.put_mark(),
             _ => {}
         }
         let child = *self.node(task.child);
@@ -115,7 +115,7 @@ impl Tree {
             _ => {
                 self.reach(task, &own, &child, false);
                 let tail = self.tail_of(task, &own, &child);
-                self.leave(Step::Next, task, &child);
+                self.leave(LayStep::Next, task, &child);
                 self.lay(task.child, task.indent, tail);
             }
         }
@@ -131,7 +131,7 @@ impl Tree {
             Form::Group => self.lay_group(task),
             Form::Chain => self.lay_chain(task, own),
             Form::Arm => self.lay_arm(task, own),
-            _ => self.push(Step::Next, task, own.child, own.first),
+            _ => self.push(LayStep::Next, task, own.child, own.first),
         }
     }
 

@@ -1,5 +1,5 @@
 //! Reads the trees of a list as atoms.
-use crate::atoms::{Atom, Kind, NOTHING, Role, Sign, Word, word_of};
+use crate::atoms::{Atom, Kind, Lexeme, NOTHING, Role, Sign, word_of};
 use crate::tree::{Form, Tree};
 use pm_token::parts::{is_raw, name_of};
 use proc_macro2::{Ident, Spacing, TokenTree};
@@ -40,10 +40,10 @@ pub fn push_list<'a>(
                 atom
             }
             Some(TokenTree::Ident(ident)) if is_raw(ident) => {
-                Atom::new(Kind::Word(Word::Name), width_of(ident))
+                Atom::new(Kind::Lexeme(Lexeme::Name), width_of(ident))
             }
             Some(TokenTree::Ident(ident)) => {
-                Atom::new(Kind::Word(word_of(name_of(ident))), width_of(ident))
+                Atom::new(Kind::Lexeme(word_of(name_of(ident))), width_of(ident))
             }
             Some(TokenTree::Literal(literal)) => literal_atom(literal.text()),
             Some(TokenTree::Punct(punct)) => mark_atom(punct.as_char(), trees, index),
@@ -72,15 +72,15 @@ fn has_statements(trees: &[TokenTree]) -> bool {
 /// Returns the atom of a literal with this text. It needs several lines if its text has several.
 fn literal_atom(text: &str) -> Atom {
     let word = if text.starts_with("\"") {
-        Word::String
+        Lexeme::String
     } else {
-        Word::Literal
+        Lexeme::Literal
     };
     let (line, tall) = match text.split_once('\n') {
         Some((line, _)) => (line, true),
         None => (text, false),
     };
-    let mut atom = Atom::new(Kind::Word(word), char_count(line));
+    let mut atom = Atom::new(Kind::Lexeme(word), char_count(line));
     atom.tall = tall;
     atom
 }
@@ -107,7 +107,7 @@ fn mark_atom(first: char, trees: &[TokenTree], index: usize) -> Atom {
     if first == '\'' {
         if let Some(TokenTree::Ident(ident)) = trees.get(next) {
             let width = width_of(ident).saturating_add(1);
-            return Atom::new(Kind::Word(Word::Lifetime), width);
+            return Atom::new(Kind::Lexeme(Lexeme::Lifetime), width);
         }
     }
     let (sign, width) = match (first, next_mark(trees, index).unwrap_or(' ')) {

@@ -1,5 +1,5 @@
 //! Gives words and groups their roles.
-use crate::atoms::{Atom, Kind, Role, Sign, Word};
+use crate::atoms::{Atom, Kind, Lexeme, Role, Sign};
 use crate::signs::{pair_angles, wants_space};
 use crate::tree::{NOWHERE, Tree};
 use layout::Gap;
@@ -66,10 +66,10 @@ impl State {
         let mut role = own.role;
         self.ends = false;
         match own.kind {
-            Kind::Word(word) => {
+            Kind::Lexeme(word) => {
                 if let Some(head) = head_of(word) {
                     self.take_head(word, head, previous, tree.next(index));
-                } else if word == Word::Where && is_item(self.head) {
+                } else if word == Lexeme::Where && is_item(self.head) {
                     role = Role::Where;
                 }
             }
@@ -110,23 +110,24 @@ impl State {
         }
         let item = is_item(self.head);
         let role = self.brace_role(own, previous, next);
-        let operand = awaits_operand(previous) && !(passed == 1 && previous.is_word(Word::Prefix));
+        let operand = awaits_operand(previous)
+            && !(passed == 1 && previous.is_word(Lexeme::Prefix));
         let goes_on = match next.kind {
-            Kind::Word(word) => word == Word::Else,
+            Kind::Lexeme(word) => word == Lexeme::Else,
             Kind::Sign(sign) => matches!(sign, Sign::Arm | Sign::One(';' | ',' | '.' | '?')),
             _ => false,
         };
         let second = tree.next(self.start);
         let statement = match tree.atom(self.start).kind {
             Kind::Group(_) => passed == 0,
-            Kind::Word(Word::Lifetime) => true,
+            Kind::Lexeme(Lexeme::Lifetime) => true,
             // For example `unsafe` and `async move`.
-            Kind::Word(Word::Prefix) => passed < 3,
-            Kind::Word(Word::Name | Word::MacroRules) => {
+            Kind::Lexeme(Lexeme::Prefix) => passed < 3,
+            Kind::Lexeme(Lexeme::Name | Lexeme::MacroRules) => {
                 // For example `m! {}` and `union U {}`.
                 matches!(second.role, Role::Bang | Role::Path) || second.is_any_word()
             }
-            Kind::Word(word) => head_of(word).is_some(),
+            Kind::Lexeme(word) => head_of(word).is_some(),
             _ => false,
         };
         let braces = role == Role::Block || role == Role::Expression || second.is_any_word();
@@ -136,8 +137,8 @@ impl State {
     }
 
     /// Takes the head that begins with this word.
-    fn take_head(&mut self, word: Word, head: Head, previous: &Atom, next: &Atom) {
-        let bounds = word == Word::For && (self.head == Head::Impl || next.is_mark('<'));
+    fn take_head(&mut self, word: Lexeme, head: Head, previous: &Atom, next: &Atom) {
+        let bounds = word == Lexeme::For && (self.head == Head::Impl || next.is_mark('<'));
         let inner = is_item(head) && (next.is_group() || self.head == Head::Fn);
         if bounds || inner {
             return;
@@ -147,12 +148,12 @@ impl State {
             && previous.role != Role::Semicolon;
         let is_value = after_sign
             || matches!(previous.kind, Kind::Nothing) && self.start == NOWHERE
-            || previous.is_word(Word::Return);
-        let after_else = previous.is_word(Word::Else);
+            || previous.is_word(Lexeme::Return);
+        let after_else = previous.is_word(Lexeme::Else);
         self.head = match word {
-            Word::If if after_else => self.last,
-            Word::If if is_value => Head::Branch,
-            Word::Else if self.last == Head::Branch || !previous.is_brace() => Head::Branch,
+            Lexeme::If if after_else => self.last,
+            Lexeme::If if is_value => Head::Branch,
+            Lexeme::Else if self.last == Head::Branch || !previous.is_brace() => Head::Branch,
             _ => head,
         };
     }
@@ -169,7 +170,7 @@ impl State {
         let goes_on = next.is_mark('=')
             || next.is_mark('|')
             || next.is_mark(':')
-            || next.is_word(Word::In)
+            || next.is_word(Lexeme::In)
             || awaits_operand(previous);
         if self.head == Head::Nothing || !is_item(self.head) && goes_on {
             return self.value_role(own, previous);
@@ -195,7 +196,7 @@ impl State {
 
     /// Returns the role of a group that is not in braces.
     fn list_role(&self, own: &Atom, previous: &Atom, earlier: &Atom) -> Role {
-        let named = previous.is_any_word() && earlier.is_word(Word::Fn);
+        let named = previous.is_any_word() && earlier.is_word(Lexeme::Fn);
         if previous.is_mark('$') {
             Role::Repeated
         } else if !own.is_round() && previous.role == Role::Hash {
@@ -220,13 +221,15 @@ pub fn is_item(head: Head) -> bool {
 }
 
 /// Returns the kind of item or expression that begins with the word.
-fn head_of(word: Word) -> Option<Head> {
+fn head_of(word: Lexeme) -> Option<Head> {
     match word {
-        Word::Fn => Some(Head::Fn),
-        Word::Impl => Some(Head::Impl),
-        Word::Item | Word::Extern => Some(Head::Item),
-        Word::For | Word::While | Word::Loop | Word::Match | Word::If => Some(Head::Other),
-        Word::Else => Some(Head::Other),
+        Lexeme::Fn => Some(Head::Fn),
+        Lexeme::Impl => Some(Head::Impl),
+        Lexeme::Item | Lexeme::Extern => Some(Head::Item),
+        Lexeme::For | Lexeme::While | Lexeme::Loop | Lexeme::Match | Lexeme::If => Some(
+            Head::Other,
+        ),
+        Lexeme::Else => Some(Head::Other),
         _ => None,
     }
 }
@@ -234,7 +237,8 @@ fn head_of(word: Word) -> Option<Head> {
 /// Returns whether braces after the atom are an operand and not a body.
 pub fn awaits_operand(previous: &Atom) -> bool {
     match previous.kind {
-        Kind::Word(Word::If | Word::While | Word::Match | Word::In | Word::Prefix) => true,
+        Kind::Lexeme(Lexeme::If | Lexeme::While | Lexeme::Match | Lexeme::In | Lexeme::Prefix) =>
+            true,
         _ => previous.role == Role::Between,
     }
 }

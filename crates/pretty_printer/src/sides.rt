@@ -1,7 +1,7 @@
 //! Breaks the lines of chains and operators, of what has a left and a right side, and of control flow.
-use crate::atoms::{Role, Word};
+use crate::atoms::{Lexeme, Role};
 use crate::limits::CALL;
-use crate::lines::{Step, TAB, Task, WIDTH, deeper};
+use crate::lines::{LayStep, TAB, Task, WIDTH, deeper};
 use crate::tree::{Form, NO_HEAD, Node, Tree};
 
 /// The number of columns of ` => {`.
@@ -39,7 +39,7 @@ impl Tree {
         }
         let root = *self.node(joined);
         self.put(own.first, root.first);
-        self.leave(Step::Next, task, &root);
+        self.leave(LayStep::Next, task, &root);
         let tail = if joined == own.last { task.tail } else { 0 };
         self.lay(joined, task.indent, tail);
     }
@@ -47,19 +47,20 @@ impl Tree {
     /// Writes the next call of a chain on its own line, which is deeper unless a line of closers ends the root.
     pub fn next_call(&mut self, task: &Task, own: &Node, child: &Node) {
         let mut rest = *task;
-        if task.step == Step::Next && !self.is_shut {
+        if task.step == LayStep::Next && !self.is_shut {
             rest.indent = deeper(task.indent);
         }
         self.begin_line(child.first, rest.indent);
-        self.leave(Step::Line, &rest, child);
+        self.leave(LayStep::Line, &rest, child);
         let tail = if child.end == own.end { task.tail } else { 0 };
         self.lay(task.child, rest.indent, tail);
     }
 
     /// Writes the next operand, with its operator at the beginning of a line. Lines of patterns are not deeper.
     pub fn next_operand(&mut self, task: &Task, own: &Node, child: &Node) {
-        let fills = task.step == Step::Fill && self.fit(task.at, child.end, ARM.saturating_add(1));
-        let pattern = matches!(task.step, Step::Line | Step::Fill);
+        let fills = task.step == LayStep::Fill
+            && self.fit(task.at, child.end, ARM.saturating_add(1));
+        let pattern = matches!(task.step, LayStep::Line | LayStep::Fill);
         let below = deeper(task.indent);
         let inner = if pattern { task.indent } else { below };
         self.leave(task.step, task, child);
@@ -80,8 +81,8 @@ impl Tree {
     pub fn next_side(&mut self, task: &Task, own: &Node, child: &Node) {
         let word = child.first.saturating_sub(1);
         let before = *self.atom(word);
-        let gives_up = before.is_word(Word::Else);
-        if gives_up && task.step == Step::Broken && !self.is_shut {
+        let gives_up = before.is_word(Lexeme::Else);
+        if gives_up && task.step == LayStep::Broken && !self.is_shut {
             self.begin_line(word, task.indent);
             self.put(word, child.first);
         } else {
@@ -90,13 +91,17 @@ impl Tree {
         self.lead(own, child.first);
         let tail = self.tail_of(task, own, child);
         let fits = self.fits(child, tail);
-        self.leave(if fits { Step::Next } else { Step::Broken }, task, child);
+        self.leave(
+            if fits { LayStep::Next } else { LayStep::Broken },
+            task,
+            child,
+        );
         if gives_up {
             return self.lay_lines(task, task.child);
         }
         // The right side of `=` may fit on the next line. Closures and blocks stay.
         let closure = child.form == Form::Closure && child.head != NO_HEAD;
-        let stays = closure || self.atom(child.first).is_word(Word::Prefix) || child.must || fits;
+        let stays = closure || self.atom(child.first).is_word(Lexeme::Prefix) || child.must || fits;
         let equals = before.role == Role::Between && child.first > own.first;
         let below = deeper(task.indent);
         let width = self.width(child.first, child.end).saturating_add(tail);
@@ -111,10 +116,14 @@ impl Tree {
     /// Writes the next condition or block of an `if`, a `match` or a loop.
     pub fn next_of_control(&mut self, task: &Task, own: &Node, child: &Node) {
         let block = child.form == Form::Group && self.atom(child.first).is_brace();
-        let line = block && task.step == Step::Broken && !self.is_shut;
+        let line = block && task.step == LayStep::Broken && !self.is_shut;
         self.reach(task, own, child, line);
         let flat = block || self.fits(child, 2);
-        self.leave(if flat { Step::Next } else { Step::Broken }, task, child);
+        self.leave(
+            if flat { LayStep::Next } else { LayStep::Broken },
+            task,
+            child,
+        );
         if block {
             return self.lay_lines(task, task.child);
         }
@@ -127,15 +136,15 @@ impl Tree {
         let bar = self.node(pattern.child).end;
         let bars = pattern.form == Form::Operators && self.atom(bar).is_mark('|');
         if !bars || self.fits(&pattern, ARM) {
-            self.leave(Step::Next, task, &pattern);
+            self.leave(LayStep::Next, task, &pattern);
             return self.lay(own.child, task.indent, 3);
         }
-        self.leave(Step::Broken, task, &pattern);
+        self.leave(LayStep::Broken, task, &pattern);
         let mut patterns = *task;
         patterns.node = own.child;
         patterns.tail = 3;
         let short = self.are_short(pattern.first, pattern.end, Role::Between, PATTERN);
-        let step = if short { Step::Fill } else { Step::Line };
+        let step = if short { LayStep::Fill } else { LayStep::Line };
         self.push(step, &patterns, pattern.child, pattern.first);
     }
 }

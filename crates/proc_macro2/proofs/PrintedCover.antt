@@ -20,7 +20,7 @@ use Rattle.pm_stream.specs.Shown.{is_shown}
 use Rattle.pm_stream.specs.WellSpaced.{follows_quote, follows_joint, fits, next_token, well_spaced}
 use Rattle.proc_macro2.proofs.PieceStarts.{tick_comment, no_comment, name_stands, alone_stands, joint_stands}
 use Rattle.proc_macro2.proofs.PieceStarts.{literal_stands, no_error}
-use Rattle.proc_macro2.proofs.EventSpans.{bare, said}
+use Rattle.proc_macro2.proofs.EventSpans.{bare, piece_events}
 
 -- ---- the pieces of a printed text
 
@@ -127,24 +127,25 @@ plain_inside (group d lo hi f k) ps r h =
     let last = gap_then (is_brace d) (close_piece d ∷ pieces_onto true k (close_piece Parenthesis ∷ ps)) in
     no_comment false (Open (opener_of d)) (opening d) (onto (pieces_onto (is_brace d) f last) r) refl h.0
 
-plain_behind : (d : Delimiter) (f : Forest) (ps : List Piece) (r : List ℕ)
+plain_stands : (d : Delimiter) (f : Forest) (ps : List Piece) (r : List ℕ)
     → StandBefore false (pieces_onto (is_brace d) f (gap_then (is_brace d) (close_piece d ∷ ps))) r → d ≡ Parenthesis
     → begins_any comment_fronts (onto (pieces_onto (is_brace d) f (gap_then (is_brace d) (close_piece d ∷ ps))) r)
     ≡ false
-plain_behind Parenthesis f ps r h is = plain_inside f ps r h
-plain_behind Brace f ps r h is = absurd (cc)
-plain_behind Bracket f ps r h is = absurd (cc)
-plain_behind None f ps r h is = absurd (cc)
+plain_stands Parenthesis f ps r h is = plain_inside f ps r h
+plain_stands Brace f ps r h is = absurd (cc)
+plain_stands Bracket f ps r h is = absurd (cc)
+plain_stands None f ps r h is = absurd (cc)
 
 -- ---- each token is valid before what is printed after it
 
 pub tick_stands : (r : List ℕ) → FollowsQuote r → Stands (Mark 39 true) r
 tick_stands r f = inr ((refl, f), refl)
 
-quoted : (f : Forest) (ps : List Piece) (r : List ℕ) → follows_quote (next_token f) ≡ true → stops (onto ps r) ≡ true
+quote_stands : (f : Forest) (ps : List Piece) (r : List ℕ) → follows_quote (next_token f) ≡ true
+    → stops (onto ps r) ≡ true
     → StandBefore false (pieces_onto false f ps) r → FollowsQuote (onto (pieces_onto false f ps) r)
-quoted nil ps r e s h = absurd (both_ways false refl e)
-quoted (leaf (Name true name) lo hi f) ps r e s h = record {
+quote_stands nil ps r e s h = absurd (both_ways false refl e)
+quote_stands (leaf (Name true name) lo hi f) ps r e s h = record {
   raw = true;
   name = name;
   rest = onto (pieces_onto true f ps) r;
@@ -152,7 +153,7 @@ quoted (leaf (Name true name) lo hi f) ps r e s h = record {
   named = h.0.1.0;
   unbarred = stop_unbarred true (onto (pieces_onto true f ps) r) (stops_after f ps r s);
 }
-quoted (leaf (Name false name) lo hi f) ps r e s h = record {
+quote_stands (leaf (Name false name) lo hi f) ps r e s h = record {
   raw = false;
   name = name;
   rest = onto (pieces_onto true f ps) r;
@@ -160,23 +161,23 @@ quoted (leaf (Name false name) lo hi f) ps r e s h = record {
   named = h.0.1.0;
   unbarred = stop_unbarred false (onto (pieces_onto true f ps) r) (stops_after f ps r s);
 }
-quoted (leaf (Mark d joint) lo hi f) ps r e s h = absurd (both_ways false refl e)
-quoted (leaf (Literal text) lo hi f) ps r e s h = prefixed_follows text (onto (pieces_onto true f ps) r) e
-quoted (group d lo hi f k) ps r e s h = absurd (both_ways false refl e)
+quote_stands (leaf (Mark d joint) lo hi f) ps r e s h = absurd (both_ways false refl e)
+quote_stands (leaf (Literal text) lo hi f) ps r e s h = prefixed_follows text (onto (pieces_onto true f ps) r) e
+quote_stands (group d lo hi f k) ps r e s h = absurd (both_ways false refl e)
 
-joined : (c : ℕ) (f : Forest) (ps : List Piece) (r : List ℕ) → is_mark c ≡ true → c ≢ 39
+joint_may_stand : (c : ℕ) (f : Forest) (ps : List Piece) (r : List ℕ) → is_mark c ≡ true → c ≢ 39
     → follows_joint c (next_token f) ≡ true
     → StandBefore false (pieces_onto false f ps) r → Stands (Mark c true) (onto (pieces_onto false f ps) r)
-joined c nil ps r m other e h = absurd (both_ways false refl e)
-joined c (leaf (Name raw name) lo hi f) ps r m other e h = absurd (both_ways false refl e)
-joined c (leaf (Mark d joint) lo hi f) ps r m other e h =
+joint_may_stand c nil ps r m other e h = absurd (both_ways false refl e)
+joint_may_stand c (leaf (Name raw name) lo hi f) ps r m other e h = absurd (both_ways false refl e)
+joint_may_stand c (leaf (Mark d joint) lo hi f) ps r m other e h =
     joint_stands c false (Leaf (Mark d joint)) (d ∷ []) (onto (pieces_onto (parts (Mark d joint)) f ps) r) m other h.0
     refl
     (not-true (begins_any comment_fronts (c ∷ d ∷ [])) e)
-joined c (leaf (Literal text) lo hi f) ps r m other e h =
+joint_may_stand c (leaf (Literal text) lo hi f) ps r m other e h =
     joint_stands c false (Leaf (Literal text)) text (onto (pieces_onto true f ps) r) m other h.0 e
     (tick_comment c text (onto (pieces_onto true f ps) r) e)
-joined c (group d lo hi f k) ps r m other e h = absurd (both_ways false refl e)
+joint_may_stand c (group d lo hi f k) ps r m other e h = absurd (both_ways false refl e)
 
 -- the Joint mark c is valid before the tokens that fit it
 joint_fits : (c : ℕ) (f : Forest) (ps : List Piece) (r : List ℕ) → is_mark c ≡ true
@@ -186,8 +187,9 @@ joint_fits : (c : ℕ) (f : Forest) (ps : List Piece) (r : List ℕ) → is_mark
 joint_fits c f ps r m fit s h = elim (cases_Bool (c == 39)) [
   | inl same ↦
       subst (λ x. Stands (Mark x true) (onto (pieces_onto false f ps) r)) (sym (eqb-true c 39 same))
-      (tick_stands (onto (pieces_onto false f ps) r) (quoted f ps r (sym (cond-true (c == 39) _ _ same) ∙ fit) s h))
-  | inr other ↦ joined c f ps r m (eqb-false c 39 other) (sym (cond-false (c == 39) _ _ other) ∙ fit) h
+      (tick_stands (onto (pieces_onto false f ps) r)
+      (quote_stands f ps r (sym (cond-true (c == 39) _ _ same) ∙ fit) s h))
+  | inr other ↦ joint_may_stand c f ps r m (eqb-false c 39 other) (sym (cond-false (c == 39) _ _ other) ∙ fit) h
 ]
 
 token_stands : (t : Token) (f : Forest) (ps : List Piece) (r : List ℕ) → IsBuiltToken t → fits t (next_token f) ≡ true
@@ -221,43 +223,44 @@ stand_printed gap b (group d lo hi f k) ps r built w s h =
     let inside : StandBefore false (pieces_onto (is_brace d) f last) r =
     stand_printed (is_brace d) false f last r built.1 deep.0 (stops_closing d rest r both.0) close in
     stand_gap gap b (open_piece d ∷ pieces_onto (is_brace d) f last) r
-    (λ c. (stand_open d c (onto (pieces_onto (is_brace d) f last) r) both.0 (plain_behind d f rest r inside), inside))
+    (λ c. (stand_open d c (onto (pieces_onto (is_brace d) f last) r) both.0 (plain_stands d f rest r inside), inside))
 
 -- ---- the events of the pieces
 
-said_gap : (gap : Bool) (ps : List Piece) → said (gap_then gap ps) ≡ said ps
-said_gap true ps = refl
-said_gap false ps = refl
+events_of_gap : (gap : Bool) (ps : List Piece) → piece_events (gap_then gap ps) ≡ piece_events ps
+events_of_gap true ps = refl
+events_of_gap false ps = refl
 
-pub said_open : (d : Delimiter) (ps : List Piece) → is_shown d ≡ true → said (open_piece d ∷ ps) ≡ Opens d 0 ∷ said ps
-said_open Parenthesis ps h = refl
-said_open Brace ps h = refl
-said_open Bracket ps h = refl
-said_open None ps h = absurd (both_ways false refl h)
+pub events_of_open : (d : Delimiter) (ps : List Piece) → is_shown d ≡ true
+    → piece_events (open_piece d ∷ ps) ≡ Opens d 0 ∷ piece_events ps
+events_of_open Parenthesis ps h = refl
+events_of_open Brace ps h = refl
+events_of_open Bracket ps h = refl
+events_of_open None ps h = absurd (both_ways false refl h)
 
-pub said_close : (d : Delimiter) (ps : List Piece) → is_shown d ≡ true
-    → said (close_piece d ∷ ps) ≡ Closes d 0 ∷ said ps
-said_close Parenthesis ps h = refl
-said_close Brace ps h = refl
-said_close Bracket ps h = refl
-said_close None ps h = absurd (both_ways false refl h)
+pub events_of_close : (d : Delimiter) (ps : List Piece) → is_shown d ≡ true
+    → piece_events (close_piece d ∷ ps) ≡ Closes d 0 ∷ piece_events ps
+events_of_close Parenthesis ps h = refl
+events_of_close Brace ps h = refl
+events_of_close Bracket ps h = refl
+events_of_close None ps h = absurd (both_ways false refl h)
 
 -- the printed text has the events of the trees
-pub said_printed : (gap : Bool) (f : Forest) (ps : List Piece) (es : List Event) → well_spaced f ≡ true
-    → said ps ≡ bare es
-    → said (pieces_onto gap f ps) ≡ bare (flat_onto f es)
-said_printed gap nil ps es w h = h
-said_printed gap (leaf t lo hi f) ps es w h =
-    said_gap gap (token_piece t ∷ pieces_onto (parts t) f ps)
+pub events_of_printed : (gap : Bool) (f : Forest) (ps : List Piece) (es : List Event) → well_spaced f ≡ true
+    → piece_events ps ≡ bare es
+    → piece_events (pieces_onto gap f ps) ≡ bare (flat_onto f es)
+events_of_printed gap nil ps es w h = h
+events_of_printed gap (leaf t lo hi f) ps es w h =
+    events_of_gap gap (token_piece t ∷ pieces_onto (parts t) f ps)
     ∙ ap (λ xs. One t 0 0 ∷ xs)
-    (said_printed (parts t) f ps es (and_parts (fits t (next_token f)) (well_spaced f) w).1 h)
-said_printed gap (group d lo hi f k) ps es w h =
+    (events_of_printed (parts t) f ps es (and_parts (fits t (next_token f)) (well_spaced f) w).1 h)
+events_of_printed gap (group d lo hi f k) ps es w h =
     let both = and_parts (is_shown d) (well_spaced f && well_spaced k) w in
     let deep = and_parts (well_spaced f) (well_spaced k) both.1 in
     let last = close_piece d ∷ pieces_onto true k ps in
-    said_gap gap (open_piece d ∷ pieces_onto (is_brace d) f (gap_then (is_brace d) last))
-    ∙ (said_open d (pieces_onto (is_brace d) f (gap_then (is_brace d) last)) both.0
+    events_of_gap gap (open_piece d ∷ pieces_onto (is_brace d) f (gap_then (is_brace d) last))
+    ∙ (events_of_open d (pieces_onto (is_brace d) f (gap_then (is_brace d) last)) both.0
     ∙ ap (λ xs. Opens d 0 ∷ xs)
-    (said_printed (is_brace d) f (gap_then (is_brace d) last) (Closes d hi ∷ flat_onto k es) deep.0
-    (said_gap (is_brace d) last ∙ (said_close d (pieces_onto true k ps) both.0
-    ∙ ap (λ xs. Closes d 0 ∷ xs) (said_printed true k ps es deep.1 h)))))
+    (events_of_printed (is_brace d) f (gap_then (is_brace d) last) (Closes d hi ∷ flat_onto k es) deep.0
+    (events_of_gap (is_brace d) last ∙ (events_of_close d (pieces_onto true k ps) both.0
+    ∙ ap (λ xs. Closes d 0 ∷ xs) (events_of_printed true k ps es deep.1 h)))))

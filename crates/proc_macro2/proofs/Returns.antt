@@ -17,21 +17,21 @@ use Rattle.pm_stream.specs.Events.{Event, One, Opens, Closes}
 use Rattle.pm_stream.specs.Forest.{Forest, nil, leaf, group, flat_onto, flattening, IsBuilt}
 use Rattle.pm_stream.specs.Parsing.{ParsesTo}
 use Rattle.pm_stream.specs.Printed.{parts, space, printed_after, printed}
-use Rattle.pm_stream.specs.Same.{erased, Same}
+use Rattle.pm_stream.specs.Same.{without_spans, Same}
 use Rattle.pm_stream.specs.Shown.{is_shown}
 use Rattle.pm_stream.specs.WellSpaced.{follows_quote, follows_joint, fits, next_token, well_spaced, IsWellSpaced}
 use Rattle.pm_stream.proofs.LawLemmas.{one_parse}
 use Rattle.proc_macro2.specs.Laws.{Gives}
-use Rattle.proc_macro2.proofs.EventSpans.{bare, bare-expansion, said, said_onto, same_from_said}
+use Rattle.proc_macro2.proofs.EventSpans.{bare, bare-expansion, piece_events, piece_event_onto, same_from_events}
 use Rattle.proc_macro2.proofs.PieceStarts.{joins, quotes, joint_by, quoted_by}
-use Rattle.proc_macro2.proofs.PrintedCover.{pieces_onto, onto_printed, stand_printed, said_printed}
+use Rattle.proc_macro2.proofs.PrintedCover.{pieces_onto, onto_printed, stand_printed, events_of_printed}
 
 -- ---- the printed text of a well spaced stream
 
 pub comes_back : (base : ℕ) (s : Forest) → IsBuilt s → IsWellSpaced s → Gives base (printed s) s
 comes_back base s built w =
     let ps = pieces_onto false s [] in
-    let x = same_from_said base s ps (said_printed false s [] [] w refl) in
+    let x = same_from_events base s ps (events_of_printed false s [] [] w refl) in
     let covers : IsCover ps (printed s) = record {
       whole = sym (onto_printed false s [] [] ∙ append-nil (printed s));
       stand = stand_printed false true s [] [] built w refl (λ c. tt);
@@ -46,11 +46,11 @@ next_event (One t lo hi ∷ es) = Some t
 next_event (Opens d lo ∷ es) = Nothing
 next_event (Closes d hi ∷ es) = Nothing
 
-abbrev pub spaced : List Event → Bool
-spaced [] = true
-spaced (One t lo hi ∷ es) = fits t (next_event es) && spaced es
-spaced (Opens d lo ∷ es) = is_shown d && spaced es
-spaced (Closes d hi ∷ es) = spaced es
+abbrev pub events_fit : List Event → Bool
+events_fit [] = true
+events_fit (One t lo hi ∷ es) = fits t (next_event es) && events_fit es
+events_fit (Opens d lo ∷ es) = is_shown d && events_fit es
+events_fit (Closes d hi ∷ es) = events_fit es
 
 next-bare : (es : List Event) → next_event (bare es) ≡ next_event es
 next-bare [] = refl
@@ -58,11 +58,11 @@ next-bare (One t lo hi ∷ es) = refl
 next-bare (Opens d lo ∷ es) = refl
 next-bare (Closes d hi ∷ es) = refl
 
-spaced-bare : (es : List Event) → spaced (bare es) ≡ spaced es
-spaced-bare [] = refl
-spaced-bare (One t lo hi ∷ es) = ap₂ (λ n b. fits t n && b) (next-bare es) (spaced-bare es)
-spaced-bare (Opens d lo ∷ es) = ap (λ b. is_shown d && b) (spaced-bare es)
-spaced-bare (Closes d hi ∷ es) = spaced-bare es
+events_fit-bare : (es : List Event) → events_fit (bare es) ≡ events_fit es
+events_fit-bare [] = refl
+events_fit-bare (One t lo hi ∷ es) = ap₂ (λ n b. fits t n && b) (next-bare es) (events_fit-bare es)
+events_fit-bare (Opens d lo ∷ es) = ap (λ b. is_shown d && b) (events_fit-bare es)
+events_fit-bare (Closes d hi ∷ es) = events_fit-bare es
 
 next-flat : (f : Forest) (es : List Event) → next_event es ≡ Nothing → next_event (flat_onto f es) ≡ next_token f
 next-flat nil es h = h
@@ -73,21 +73,22 @@ and_assoc : (a b c : Bool) → (a && (b && c)) ≡ ((a && b) && c)
 and_assoc true b c = refl
 and_assoc false b c = refl
 
-pub spaced-flat : (f : Forest) (es : List Event) → next_event es ≡ Nothing
-    → spaced (flat_onto f es) ≡ (well_spaced f && spaced es)
-spaced-flat nil es h = refl
-spaced-flat (leaf t lo hi f) es h =
-    ap₂ (λ n b. fits t n && b) (next-flat f es h) (spaced-flat f es h)
-    ∙ and_assoc (fits t (next_token f)) (well_spaced f) (spaced es)
-spaced-flat (group d lo hi f k) es h =
+pub events_fit-flat : (f : Forest) (es : List Event) → next_event es ≡ Nothing
+    → events_fit (flat_onto f es) ≡ (well_spaced f && events_fit es)
+events_fit-flat nil es h = refl
+events_fit-flat (leaf t lo hi f) es h =
+    ap₂ (λ n b. fits t n && b) (next-flat f es h) (events_fit-flat f es h)
+    ∙ and_assoc (fits t (next_token f)) (well_spaced f) (events_fit es)
+events_fit-flat (group d lo hi f k) es h =
     ap (λ b. is_shown d && b)
-    (spaced-flat f (Closes d hi ∷ flat_onto k es) refl
-    ∙ (ap (λ b. well_spaced f && b) (spaced-flat k es h) ∙ and_assoc (well_spaced f) (well_spaced k) (spaced es)))
-    ∙ and_assoc (is_shown d) (well_spaced f && well_spaced k) (spaced es)
+    (events_fit-flat f (Closes d hi ∷ flat_onto k es) refl
+    ∙ (ap (λ b. well_spaced f && b) (events_fit-flat k es h)
+    ∙ and_assoc (well_spaced f) (well_spaced k) (events_fit es)))
+    ∙ and_assoc (is_shown d) (well_spaced f && well_spaced k) (events_fit es)
 
 -- a piece that a mark joins begins with a token that may follow the mark
 joint_next : (c : ℕ) (k : Kind) (p r : List ℕ) (es : List Event) → IsPiece false k p r → joins k ≡ true
-    → begins_any comment_fronts (c ∷ (p ++ r)) ≡ false → follows_joint c (next_event (said_onto k es)) ≡ true
+    → begins_any comment_fronts (c ∷ (p ++ r)) ≡ false → follows_joint c (next_event (piece_event_onto k es)) ≡ true
 joint_next c FrontMark p r es h j plain = absurd (both_ways false refl j)
 joint_next c Gap p r es h j plain = absurd (both_ways false refl j)
 joint_next c (Doc inner text) p r es h j plain = absurd (both_ways false refl j)
@@ -99,7 +100,7 @@ joint_next c (Leaf (Mark d joint)) p r es h j plain =
     (ap (λ x. begins_any comment_fronts (c ∷ (x ++ r))) (sym h.0) ∙ plain)
 joint_next c (Leaf (Literal text)) p r es h j plain = j
 
-quote_next : (k : Kind) (es : List Event) → quotes k ≡ true → follows_quote (next_event (said_onto k es)) ≡ true
+quote_next : (k : Kind) (es : List Event) → quotes k ≡ true → follows_quote (next_event (piece_event_onto k es)) ≡ true
 quote_next FrontMark es h = absurd (both_ways false refl h)
 quote_next Gap es h = absurd (both_ways false refl h)
 quote_next (Doc inner text) es h = absurd (both_ways false refl h)
@@ -110,7 +111,7 @@ quote_next (Leaf (Mark d joint)) es h = h
 quote_next (Leaf (Literal text)) es h = h
 
 fits_next : (t : Token) (ps : List Piece) → Stands t (onto ps []) → StandBefore false ps []
-    → fits t (next_event (said ps)) ≡ true
+    → fits t (next_event (piece_events ps)) ≡ true
 fits_next (Name raw name) ps h s = refl
 fits_next (Literal text) ps h s = refl
 fits_next (Mark c false) ps (inl h) s = not_from_false (c == 39) (mark_is c (onto ps []) h.0).1
@@ -119,10 +120,12 @@ fits_next (Mark c true) [] (inl h) s = absurd (both_ways false refl (sym h.1))
 fits_next (Mark c true) [] (inr h) s = absurd (follows_something h.0.1)
 fits_next (Mark c true) (x ∷ ps) (inl h) s =
     cond-false (c == 39) _ _ (mark_is c (onto (x ∷ ps) []) h.0).1
-    ∙ joint_next c x.0 x.1 (onto ps []) (said ps) s.0 (sym (h.1 ∙ joint_by false x.0 x.1 (onto ps []) s.0)) h.0.1
+    ∙ joint_next c x.0 x.1 (onto ps []) (piece_events ps) s.0 (sym (h.1 ∙ joint_by false x.0 x.1 (onto ps []) s.0))
+    h.0.1
 fits_next (Mark c true) (x ∷ ps) (inr h) s =
     let is : c ≡ 39 = cc in
-    cond-true (c == 39) _ _ (eq-eqb c 39 is) ∙ quote_next x.0 (said ps) (quoted_by false x.0 x.1 (onto ps []) s.0 h.0.1)
+    cond-true (c == 39) _ _ (eq-eqb c 39 is)
+    ∙ quote_next x.0 (piece_events ps) (quoted_by false x.0 x.1 (onto ps []) s.0 h.0.1)
 
 -- the delimiter of a character is written
 shown_of : (c : ℕ) → is_shown (delimiter_of c) ≡ true
@@ -133,38 +136,39 @@ shown_of c = shown ((c == 40) || (c == 41)) ((c == 123) || (c == 125))
     shown false true = refl
     shown false false = refl
 
-spaced_said : (b : Bool) (ps : List Piece) → StandBefore b ps [] → spaced (said ps) ≡ true
-spaced_said b [] h = refl
-spaced_said b ((FrontMark, p) ∷ ps) h = spaced_said false ps h.1
-spaced_said b ((Gap, p) ∷ ps) h = spaced_said false ps h.1
-spaced_said b ((Doc true text, p) ∷ ps) h = spaced_said false ps h.1
-spaced_said b ((Doc false text, p) ∷ ps) h = spaced_said false ps h.1
-spaced_said b ((Open c, p) ∷ ps) h =
-    and_from (is_shown (delimiter_of c)) (spaced (said ps)) (shown_of c) (spaced_said false ps h.1)
-spaced_said b ((Close c, p) ∷ ps) h = spaced_said false ps h.1
-spaced_said b ((Leaf t, p) ∷ ps) h =
-    and_from (fits t (next_event (said ps))) (spaced (said ps)) (fits_next t ps h.0.1 h.1) (spaced_said false ps h.1)
+spaced_events : (b : Bool) (ps : List Piece) → StandBefore b ps [] → events_fit (piece_events ps) ≡ true
+spaced_events b [] h = refl
+spaced_events b ((FrontMark, p) ∷ ps) h = spaced_events false ps h.1
+spaced_events b ((Gap, p) ∷ ps) h = spaced_events false ps h.1
+spaced_events b ((Doc true text, p) ∷ ps) h = spaced_events false ps h.1
+spaced_events b ((Doc false text, p) ∷ ps) h = spaced_events false ps h.1
+spaced_events b ((Open c, p) ∷ ps) h =
+    and_from (is_shown (delimiter_of c)) (events_fit (piece_events ps)) (shown_of c) (spaced_events false ps h.1)
+spaced_events b ((Close c, p) ∷ ps) h = spaced_events false ps h.1
+spaced_events b ((Leaf t, p) ∷ ps) h =
+    and_from (fits t (next_event (piece_events ps))) (events_fit (piece_events ps)) (fits_next t ps h.0.1 h.1)
+    (spaced_events false ps h.1)
 
 pub parsed_spaced : (base : ℕ) (source : List ℕ) (t : Forest) → ParsesTo base source t → IsWellSpaced t
 parsed_spaced base source t h =
     (and_parts (well_spaced t) true
-    (sym (spaced-flat t [] refl) ∙ (sym (spaced-bare (flattening t))
-    ∙ (ap (λ es. spaced (bare es)) h.expands
-    ∙ (ap spaced (bare-expansion base h.pieces) ∙ spaced_said true h.pieces h.covers.stand))))).0
+    (sym (events_fit-flat t [] refl) ∙ (sym (events_fit-bare (flattening t))
+    ∙ (ap (λ es. events_fit (bare es)) h.expands
+    ∙ (ap events_fit (bare-expansion base h.pieces) ∙ spaced_events true h.pieces h.covers.stand))))).0
 
 -- ---- streams that are the same
 
-next-erased : (f : Forest) → next_token (erased f) ≡ next_token f
+next-erased : (f : Forest) → next_token (without_spans f) ≡ next_token f
 next-erased nil = refl
 next-erased (leaf t lo hi f) = refl
 next-erased (group d lo hi f k) = refl
 
-spaced-erased : (f : Forest) → well_spaced (erased f) ≡ well_spaced f
-spaced-erased nil = refl
-spaced-erased (leaf t lo hi f) = ap₂ (λ n b. fits t n && b) (next-erased f) (spaced-erased f)
-spaced-erased (group d lo hi f k) = ap₂ (λ a b. is_shown d && (a && b)) (spaced-erased f) (spaced-erased k)
+events_fit-erased : (f : Forest) → well_spaced (without_spans f) ≡ well_spaced f
+events_fit-erased nil = refl
+events_fit-erased (leaf t lo hi f) = ap₂ (λ n b. fits t n && b) (next-erased f) (events_fit-erased f)
+events_fit-erased (group d lo hi f k) = ap₂ (λ a b. is_shown d && (a && b)) (events_fit-erased f) (events_fit-erased k)
 
-printed-erased : (gap : Bool) (f : Forest) → printed_after gap (erased f) ≡ printed_after gap f
+printed-erased : (gap : Bool) (f : Forest) → printed_after gap (without_spans f) ≡ printed_after gap f
 printed-erased gap nil = refl
 printed-erased gap (leaf t lo hi f) = ap (λ x. space gap ++ (token_text t ++ x)) (printed-erased (parts t) f)
 printed-erased gap (group d lo hi f k) =
@@ -172,7 +176,7 @@ printed-erased gap (group d lo hi f k) =
     (printed-erased (is_brace d) f) (printed-erased true k)
 
 same_spaced : (s t : Forest) → Same s t → IsWellSpaced t → IsWellSpaced s
-same_spaced s t e h = sym (spaced-erased s) ∙ (ap well_spaced e ∙ (spaced-erased t ∙ h))
+same_spaced s t e h = sym (events_fit-erased s) ∙ (ap well_spaced e ∙ (events_fit-erased t ∙ h))
 
 pub same_printed : (s t : Forest) → Same s t → printed s ≡ printed t
 same_printed s t e = sym (printed-erased false s) ∙ (ap printed e ∙ printed-erased false t)
@@ -185,7 +189,7 @@ one_text s t bs bt ws wt e =
     let x = comes_back 0 s bs ws in
     let y = comes_back 0 t bt wt in
     let parses = subst (λ text. ParsesTo 0 text x.parsed) e x.parses in
-    x.same ∙ (ap erased (one_parse 0 (printed t) x.parsed y.parsed parses y.parses) ∙ sym y.same)
+    x.same ∙ (ap without_spans (one_parse 0 (printed t) x.parsed y.parsed parses y.parses) ∙ sym y.same)
 
 -- a stream that a source gives is well spaced
 pub given_spaced : (base : ℕ) (source : List ℕ) (s : Forest) → Gives base source s → IsWellSpaced s

@@ -14,7 +14,7 @@ use Rattle.pm_token.specs.Leaf.{is_joint}
 use Rattle.pm_token.specs.declared.delimiters.Delimiter.{Delimiter}
 use Rattle.pm_stream.specs.Delimited.{opening, closing, delimiter_of}
 use Rattle.pm_stream.specs.Events.{Event, One, Opens, Closes, doc_onto, events_onto, expansion}
-use Rattle.pm_stream.specs.Forest.{Forest, nil, leaf, group, flat_onto, flattening, joined}
+use Rattle.pm_stream.specs.Forest.{Forest, nil, leaf, group, flat_onto, flattening, chain}
 use Rattle.pm_stream.specs.InOrder.{spacing_of, token_tree, in_order}
 use Rattle.pm_stream.specs.Parsing.{ParsesTo}
 use Rattle.pm_stream.specs.TreeSpan.{extent_of}
@@ -35,7 +35,7 @@ Ends (One token lo hi ∷ es) = ⊥
 Ends (Opens d lo ∷ es) = ⊥
 Ends (Closes d hi ∷ es) = Unit {0}
 
-joined-nil : (f : Forest) → joined f nil ≡ f
+joined-nil : (f : Forest) → chain f nil ≡ f
 joined-nil nil = refl
 joined-nil (leaf t lo hi f) = ap (leaf t lo hi) (joined-nil f)
 joined-nil (group d lo hi f g) = ap (group d lo hi f) (joined-nil g)
@@ -49,7 +49,7 @@ none_before (group c lo hi k l) d e m n xs ys h = absurd (cc)
 
 -- if the events of a stream begin with those of another, the stream begins with that one
 flat_cut : (g f : Forest) (es ks : List Event) → Ends es → flat_onto f es ≡ flat_onto g ks
-    → (k : Forest) × (f ≡ joined g k) × (flat_onto k es ≡ ks)
+    → (k : Forest) × (f ≡ chain g k) × (flat_onto k es ≡ ks)
 flat_cut nil f es ks p e = (f, refl, e)
 flat_cut (leaf t lo hi g) nil es ks p e = absurd (subst Ends e p)
 flat_cut (leaf t lo hi g) (group d l h f m) es ks p e = absurd (cc)
@@ -70,7 +70,7 @@ flat_cut (group d lo hi g m) (group c l h f n) es ks p e =
     let more = flat_cut m n es ks p none.3 in
     let a : c ≡ d = cc in
     let b : l ≡ lo = cc in
-    let same : f ≡ g = deep.1 ∙ (ap (joined g) none.0 ∙ joined-nil g) in
+    let same : f ≡ g = deep.1 ∙ (ap (chain g) none.0 ∙ joined-nil g) in
     let i = none.2 in
     let s = more.1 in
     (more.0, cc, more.2)
@@ -254,11 +254,11 @@ cut_token at token p ps f es e h =
 
 cut_doc : (at : ℕ) (inner : Bool) (text p : List ℕ) (ps : List Piece) (f : Forest) (es : List Event)
     → Cut (at + length p) ps f es
-    → Cut at ((Doc inner text, p) ∷ ps) (joined (doc_trees at (at + length p) inner text) f) es
+    → Cut at ((Doc inner text, p) ∷ ps) (chain (doc_trees at (at + length p) inner text) f) es
 cut_doc at inner text p ps f es h =
     let doc = doc_trees at (at + length p) inner text in
     let x : Piece = (Doc inner text, p) in
-    cut_more at x ps (joined doc f) f es h
+    cut_more at x ps (chain doc f) f es h
     (flat_onto-joined doc f [] ∙ doc_trees-events at (at + length p) inner text (flattening f))
     (subst (Each (StandsOn at (x ∷ h.front))) (sym (in_order-joined doc f []))
     (each_onto (StandsOn at (x ∷ h.front)) doc (in_order f) (doc_stands at inner text p h.front)
@@ -274,14 +274,14 @@ stands_after at (u ∷ us) ps tree h =
     (stands_after (at + length u.1) us ps tree (subst (λ n. StandsOn n ps tree) place h))
 
 -- the pieces of a group
-abbrev enclosed : Piece → List Piece → Piece → List Piece → List Piece
-enclosed opener middle closer after = opener ∷ (middle ++ (closer ∷ after))
+abbrev group_pieces : Piece → List Piece → Piece → List Piece → List Piece
+group_pieces opener middle closer after = opener ∷ (middle ++ (closer ∷ after))
 
 group_expands : (at c e : ℕ) (p q : List ℕ) (us vs : List Piece) (f g : Forest) → delimiter_of e ≡ delimiter_of c
     → flattening f ≡ expansion (at + length p) us
     → flattening g ≡ expansion (at + length p + width us + length q) vs
     → flattening (group (delimiter_of c) at (at + length p + width us + length q) f g)
-    ≡ expansion at (enclosed (Open c, p) us (Close e, q) vs)
+    ≡ expansion at (group_pieces (Open c, p) us (Close e, q) vs)
 group_expands at c e p q us vs f g same inside outside =
     let begin = at + length p in
     let hi = begin + width us + length q in
@@ -294,7 +294,7 @@ group_expands at c e p q us vs f g same inside outside =
 
 group_stands : (at c e : ℕ) (p q : List ℕ) (us vs : List Piece) (f : Forest) → delimiter_of e ≡ delimiter_of c
     → p ≡ opening (delimiter_of c) → q ≡ closing (delimiter_of e) → flattening f ≡ expansion (at + length p) us
-    → StandsOn at (enclosed (Open c, p) us (Close e, q) vs)
+    → StandsOn at (group_pieces (Open c, p) us (Close e, q) vs)
     (Group (record {
       delimiter = delimiter_of c;
       stream = f;
@@ -302,7 +302,7 @@ group_stands : (at c e : ℕ) (p q : List ℕ) (us vs : List Piece) (f : Forest)
     }))
 group_stands at c e p q us vs f same opens closes inside = record {
   before = [];
-  run = enclosed (Open c, p) us (Close e, q) [];
+  run = group_pieces (Open c, p) us (Close e, q) [];
   after = vs;
   whole = ap (λ xs. (Open c, p) ∷ xs) (sym (append_assoc us ((Close e, q) ∷ []) vs));
   begins = omega arith;
@@ -311,7 +311,7 @@ group_stands at c e p q us vs f same opens closes inside = record {
     opener = c;
     closer = e;
     middle = us;
-    pieces = ap₂ (λ x y. enclosed (Open c, x) us (Close e, y) []) opens (closes ∙ ap closing same);
+    pieces = ap₂ (λ x y. group_pieces (Open c, x) us (Close e, y) []) opens (closes ∙ ap closing same);
     gives = inside ∙ ap (λ x. expansion (at + length x) us) opens;
   });
 }
@@ -326,7 +326,7 @@ cut_group at c e p q ps more f g xs es same opens closes inner follows outer =
     let closer : Piece = (Close e, q) in
     let middle = inner.front in
     let hi = at + length p + width middle + length q in
-    let all = enclosed opener middle closer outer.front in
+    let all = group_pieces opener middle closer outer.front in
     let inside : Each (StandsOn at all) (in_order f) =
     each_map (StandsOn (at + length p) middle) (StandsOn at all) (in_order f)
     (λ tree h. stands_later at opener (middle ++ (closer ∷ outer.front)) tree

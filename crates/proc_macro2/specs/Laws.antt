@@ -8,7 +8,7 @@ use Rattle.lexical.specs.Quiet.{ends_quiet}
 use Rattle.lexical.specs.Cover.{onto, IsCover}
 use Rattle.pm_token.specs.Text.{IsText}
 use Rattle.pm_stream.specs.Building.{split}
-use Rattle.pm_stream.specs.Forest.{Forest, IsBuilt, joined}
+use Rattle.pm_stream.specs.Forest.{Forest, IsBuilt, chain}
 use Rattle.pm_stream.specs.Trees.{GoesInside, alone}
 use Rattle.pm_stream.specs.Parsing.{ParsesTo, FaultAt}
 use Rattle.pm_stream.specs.Printed.{printed}
@@ -84,7 +84,7 @@ OneText = (s t : Forest) → IsBuilt s → IsBuilt t → IsWellSpaced s → IsWe
 -- with U+FEFF
 abbrev pub JoinedTexts : Type 0
 JoinedTexts = (base first second : ℕ) (a b : List ℕ) (s t : Forest) → ParsesTo first a s → ParsesTo second b t
-    → IsFalse (begins_with (0xFEFF ∷ []) b) → Gives base (a ++ (codes "\n" ++ b)) (joined s t)
+    → IsFalse (begins_with (0xFEFF ∷ []) b) → Gives base (a ++ (codes "\n" ++ b)) (chain s t)
 
 -- ---- broken lines
 

@@ -68,7 +68,7 @@ pub use Rattle.pm_stream.specs.Places
 pub use Rattle.pm_stream.specs.PrintsText
 pub use Rattle.pm_stream.specs.Printed
 pub use Rattle.pm_stream.specs.PrintedTree
-pub use Rattle.pm_stream.specs.Rule
+pub use Rattle.pm_stream.specs.PrinterRule
 pub use Rattle.pm_stream.specs.Same
 pub use Rattle.pm_stream.specs.Shown
 pub use Rattle.pm_stream.specs.Size

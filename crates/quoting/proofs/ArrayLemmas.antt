@@ -5,8 +5,8 @@ use Rattle.std.specs.Array.Iter.{array_into_iter_items, array_steps}
 use Rattle.std.specs.Iterator.{Drains}
 
 -- the iterator of an array gives all items that are left
-pub drained : {A : Type 0} {n : ℕ} (it : _) (xs : List A) → Drains (array_steps {A = A} {n = n}) it xs
+pub drain_gives : {A : Type 0} {n : ℕ} (it : _) (xs : List A) → Drains (array_steps {A = A} {n = n}) it xs
     → xs ≡ array_into_iter_items it
-drained {A} {n} it xs d =
+drain_gives {A} {n} it xs d =
     sym (map-id xs) ∙ gives_Drains (array_steps {A = A} {n = n}) (λ x. x) xs (array_into_iter_items it) it
     (listed {B = A} (array_steps {A = A} {n = n}) (λ x. x) array_into_iter_items (λ s t p. p.0) (λ s x t p. p) it) d

@@ -1,7 +1,7 @@
 -- The list of trees of a `StreamBuilder`.
 use Rattle.std.proofs.Common.{◌≡◌, ℕ, zero, suc, ◌+◌, ◌<◌, List, [], ◌∷◌, ◌++◌, take, length, get_or}
 use Rattle.std.proofs.Common.{refl, sym, ap, subst, ◌∙◌}
-use Rattle.proc_macro2.specs.Forest.{Forest, joined, IsBuilt}
+use Rattle.proc_macro2.specs.Forest.{Forest, chain, IsBuilt}
 use Rattle.proc_macro2.specs.Trees.{alone, forest}
 use Rattle.proc_macro2.specs.declared.TokenTree.{TokenTree}
 use Rattle.proc_macro2.specs.declared.TokenTree.TheVariants.{Group, Ident, Punct, Literal}
@@ -24,25 +24,25 @@ built_take (suc n) (Punct p ∷ ts) h = (h.0, h.1, built_take n ts h.2)
 built_take (suc n) (Literal l ∷ ts) h = (h.0, h.1, built_take n ts h.2)
 
 -- a list with copies of the first trees of another one at the end
-pub built_copies : (n : ℕ) (items new ts : List TokenTree) → forest new ≡ joined (forest items) (forest (take n ts))
+pub built_copies : (n : ℕ) (items new ts : List TokenTree) → forest new ≡ chain (forest items) (forest (take n ts))
     → IsBuilt (forest items) → IsBuilt (forest ts) → IsBuilt (forest new)
 built_copies n items new ts copied built trees =
     subst IsBuilt (sym copied)
     (IsBuilt-joined (forest items) (forest (take n ts)) built (built_take n ts trees))
 
 pub copies_begun : (items new ts : List TokenTree) → new ≡ items
-    → forest new ≡ joined (forest items) (forest (take 0 ts))
+    → forest new ≡ chain (forest items) (forest (take 0 ts))
 copies_begun items new ts same = ap forest same ∙ sym (joined_nil (forest items))
 
 -- one more copy
 pub copies_more : (n : ℕ) (old : Forest) (items new trees : List TokenTree) (t copy : TokenTree) → n < length trees
-    → t ≡ get_or trees n t → copy ≡ t → forest items ≡ joined old (forest (take n trees)) → new ≡ items ++ copy ∷ []
-    → forest new ≡ joined old (forest (take (n + 1) trees))
+    → t ≡ get_or trees n t → copy ≡ t → forest items ≡ chain old (forest (take n trees)) → new ≡ items ++ copy ∷ []
+    → forest new ≡ chain old (forest (take (n + 1) trees))
 copies_more n old items new trees t copy within is cloned so_far put =
     ap forest put
     ∙ (forest-push items copy
-    ∙ (ap (λ f. joined f (alone copy)) so_far
+    ∙ (ap (λ f. chain f (alone copy)) so_far
     ∙ (joined_assoc old (forest (take n trees)) (alone copy)
-    ∙ ap (joined old)
-    (copied_more trees n t copy (forest (take n trees)) (joined (forest (take n trees)) (alone copy)) within is cloned
+    ∙ ap (chain old)
+    (copied_more trees n t copy (forest (take n trees)) (chain (forest (take n trees)) (alone copy)) within is cloned
     refl refl))))

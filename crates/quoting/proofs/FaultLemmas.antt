@@ -18,23 +18,23 @@ use Rattle.quoting.specs.Fault.{IsFaultOf, fault_or, first_fault, may_stand, tre
 use Rattle.quoting.specs.Searched.{step_fault}
 use Rattle.quoting.specs.declared.errors.QuoteError.{QuoteError}
 use Rattle.quoting.specs.declared.errors.QuoteError.TheVariants.{NoneGroup, LoneQuote, Memory}
-use Rattle.quoting.proofs.SearchLemmas.{found, or_else}
+use Rattle.quoting.proofs.SearchLemmas.{first_found, or_else}
 
 -- the first error of the steps that are left
 abbrev pub left_fault : List Step → Option QuoteError
-left_fault = found step_fault
+left_fault = first_found step_fault
 
-guarded : (b : Bool) (fault : QuoteError) (later : Option QuoteError)
+if_then_or : (b : Bool) (fault : QuoteError) (later : Option QuoteError)
     → or_else (if b then None else Some fault) later ≡ (if b then later else Some fault)
-guarded true fault later = refl
-guarded false fault later = refl
+if_then_or true fault later = refl
+if_then_or false fault later = refl
 
 token_fault : (token : Token) (lo hi : ℕ) (rest : Forest) (later : Option QuoteError)
     → or_else (tree_fault (token_tree token lo hi) rest) later
     ≡ (if may_stand token (next_token rest) then later else Some LoneQuote)
 token_fault (Name raw name) lo hi rest later = refl
-token_fault (Mark c true) lo hi rest later = guarded (may_stand (Mark c true) (next_token rest)) LoneQuote later
-token_fault (Mark c false) lo hi rest later = guarded (may_stand (Mark c false) (next_token rest)) LoneQuote later
+token_fault (Mark c true) lo hi rest later = if_then_or (may_stand (Mark c true) (next_token rest)) LoneQuote later
+token_fault (Mark c false) lo hi rest later = if_then_or (may_stand (Mark c false) (next_token rest)) LoneQuote later
 token_fault (Literal text) lo hi rest later = refl
 
 left_fault-onto : (f : Forest) (more : List Step) → left_fault (steps_onto f more) ≡ fault_or f (left_fault more)
@@ -44,7 +44,7 @@ left_fault-onto (leaf token lo hi rest) more =
     ∙ ap (λ later. if may_stand token (next_token rest) then later else Some LoneQuote) (left_fault-onto rest more)
 left_fault-onto (group d lo hi inside rest) more =
     let whole : Grouped = record { delimiter = d; stream = inside; span = record { lo = lo; hi = hi } } in
-    guarded (is_shown d) NoneGroup (left_fault (steps_onto inside (Leave whole rest ∷ steps_onto rest more)))
+    if_then_or (is_shown d) NoneGroup (left_fault (steps_onto inside (Leave whole rest ∷ steps_onto rest more)))
     ∙ ap (λ later. if is_shown d then later else Some NoneGroup)
     (left_fault-onto inside (Leave whole rest ∷ steps_onto rest more)
     ∙ ap (fault_or inside) (left_fault-onto rest more))
@@ -54,10 +54,10 @@ left_fault-steps f = left_fault-onto f []
 
 -- ---- the error that is returned
 
-pub named : (f : Forest) (fault : QuoteError) → first_fault f ≡ Some fault → IsFaultOf f fault
-named f NoneGroup h = h
-named f LoneQuote h = h
-named f (Memory error) h = tt
+pub fault_is_named : (f : Forest) (fault : QuoteError) → first_fault f ≡ Some fault → IsFaultOf f fault
+fault_is_named f NoneGroup h = h
+fault_is_named f LoneQuote h = h
+fault_is_named f (Memory error) h = tt
 
 -- ---- whether all marks are well spaced
 

@@ -2,7 +2,7 @@
 use Rattle.std.proofs.Common.{◌≡◌, ℕ, Bool, true, false, zero, suc, All, Option, Some, None, Ok, Err, List, [], ◌∷◌}
 use Rattle.std.proofs.Common.{drop, length, refl, sym, ap, ap₂, subst, ◌∙◌, arith}
 use Rattle.std.proofs.lemmas.List.Elements.{All-drop}
-use Rattle.proc_macro2.specs.Forest.{Forest, nil, leaf, group, joined}
+use Rattle.proc_macro2.specs.Forest.{Forest, nil, leaf, group, chain}
 use Rattle.proc_macro2.specs.Leaf.{mark_token, name_token, text_token}
 use Rattle.proc_macro2.specs.Leaf as leaves
 use Rattle.proc_macro2.specs.Trees.{GoesInside, alone, before, forest}
@@ -10,12 +10,12 @@ use Rattle.proc_macro2.specs.Token.{Token}
 use Rattle.proc_macro2.specs.declared.Group.{Group as Grouped}
 use Rattle.proc_macro2.specs.declared.TokenTree.{TokenTree}
 use Rattle.proc_macro2.specs.declared.TokenTree.TheVariants.{Group, Ident, Punct, Literal}
-use Rattle.quoting.specs.Filled.{followed, enclosed_in, has_meaning, replaced, set_apart, filled_by}
+use Rattle.quoting.specs.Filled.{then_outcome, enclosed_in, has_meaning, replacement, set_apart, filled_by}
 use Rattle.quoting.specs.Given.{UnlessMemory, apart, apart_before, gives, in_turns, inside_at, interpolation_of}
 use Rattle.quoting.specs.Given.{span_of}
 use Rattle.quoting.specs.Given.{text_of}
 use Rattle.quoting.specs.Holes.{Outcome, filling_of, put_in}
-use Rattle.quoting.specs.Interpolation.{Interpolation, Names, taken}
+use Rattle.quoting.specs.Interpolation.{Interpolation, Names, tree_count}
 use Rattle.quoting.specs.declared.errors.TemplateError.{TemplateError}
 use Rattle.quoting.specs.declared.holes.Hole.{Hole}
 use Rattle.quoting.specs.declared.holes.HoleName.{HoleName}
@@ -40,11 +40,12 @@ unless_weaker (Memory error) P Q f h = tt
 
 -- ---- outcomes one after the other
 
-pub followed_nil : (o : Outcome) → followed (Ok nil) o ≡ o
+pub followed_nil : (o : Outcome) → then_outcome (Ok nil) o ≡ o
 followed_nil (Ok f) = refl
 followed_nil (Err fault) = refl
 
-pub followed_more : (f g : Forest) (o : Outcome) → followed (Ok f) (followed (Ok g) o) ≡ followed (Ok (joined f g)) o
+pub followed_more : (f g : Forest) (o : Outcome)
+    → then_outcome (Ok f) (then_outcome (Ok g) o) ≡ then_outcome (Ok (chain f g)) o
 followed_more f g (Ok h) = ap Ok (sym (joined_assoc f g h))
 followed_more f g (Err fault) = refl
 
@@ -63,7 +64,7 @@ passed_over given depth (suc n) (Literal l ∷ ts) = passed_over given depth n t
 -- the outcome of a token, by the hole or repetition that it begins
 abbrev by_interpolation : Giving → ℕ → Token → ℕ → ℕ → Forest → Option Interpolation → Outcome
 by_interpolation given depth token lo hi rest s =
-    followed (replaced (given depth) token lo hi s) (filled_by given depth (taken s) rest)
+    then_outcome (replacement (given depth) token lo hi s) (filled_by given depth (tree_count s) rest)
 
 -- a token with its span. A mark may become Alone
 apart_name : (i : leaves.Name) (b : Bool)
@@ -84,21 +85,22 @@ apart_text l true = refl
 pub token_alone : (given : Giving) (depth : ℕ) (t : TokenTree) (rest : Forest) → ((g : Grouped) → t ≡ Group g → ⊥)
     → interpolation_of t rest ≡ None
     → filled_by given depth 0 (before t rest)
-    ≡ followed (Ok (alone (apart_before rest t))) (filled_by given depth 0 rest)
+    ≡ then_outcome (Ok (alone (apart_before rest t))) (filled_by given depth 0 rest)
 token_alone given depth (Group g) rest other h = absurd (other g refl)
 token_alone given depth (Ident i) rest other h =
     ap (by_interpolation given depth (set_apart (has_meaning rest) (name_token i)) i.span.lo i.span.hi rest) h
-    ∙ ap (λ f. followed (Ok f) (filled_by given depth 0 rest)) (apart_name i (has_meaning rest))
+    ∙ ap (λ f. then_outcome (Ok f) (filled_by given depth 0 rest)) (apart_name i (has_meaning rest))
 token_alone given depth (Punct p) rest other h =
     ap (by_interpolation given depth (set_apart (has_meaning rest) (mark_token p)) p.span.lo p.span.hi rest) h
-    ∙ ap (λ f. followed (Ok f) (filled_by given depth 0 rest)) (apart_mark p (has_meaning rest))
+    ∙ ap (λ f. then_outcome (Ok f) (filled_by given depth 0 rest)) (apart_mark p (has_meaning rest))
 token_alone given depth (Literal l) rest other h =
     ap (by_interpolation given depth (set_apart (has_meaning rest) (text_token l)) l.span.lo l.span.hi rest) h
-    ∙ ap (λ f. followed (Ok f) (filled_by given depth 0 rest)) (apart_text l (has_meaning rest))
+    ∙ ap (λ f. then_outcome (Ok f) (filled_by given depth 0 rest)) (apart_text l (has_meaning rest))
 
 pub begins_some : (given : Giving) (depth : ℕ) (t : TokenTree) (rest : Forest) (s : Interpolation)
     → interpolation_of t rest ≡ Some s
-    → filled_by given depth 0 (before t rest) ≡ followed (given depth s) (filled_by given depth (taken (Some s)) rest)
+    → filled_by given depth 0 (before t rest)
+    ≡ then_outcome (given depth s) (filled_by given depth (tree_count (Some s)) rest)
 begins_some given depth (Group g) rest s h = absurd (cc)
 begins_some given depth (Ident i) rest s h =
     ap (by_interpolation given depth (set_apart (has_meaning rest) (name_token i)) i.span.lo i.span.hi rest) h
@@ -110,17 +112,17 @@ begins_some given depth (Literal l) rest s h =
 pub group_filled : (given : Giving) (depth : ℕ) (g : Grouped) (inside rest : Forest)
     → inside_at given depth g ≡ Ok inside
     → filled_by given depth 0 (before (Group g) rest)
-    ≡ followed (Ok (group g.delimiter g.span.lo g.span.hi inside nil)) (filled_by given depth 0 rest)
+    ≡ then_outcome (Ok (group g.delimiter g.span.lo g.span.hi inside nil)) (filled_by given depth 0 rest)
 group_filled given zero g inside rest h = absurd (cc)
 group_filled given (suc depth) g inside rest h =
-    ap (λ o. followed (enclosed_in g.delimiter g.span.lo g.span.hi o) (filled_by given (suc depth) 0 rest)) h
+    ap (λ o. then_outcome (enclosed_in g.delimiter g.span.lo g.span.hi o) (filled_by given (suc depth) 0 rest)) h
 
 pub group_fault : (given : Giving) (depth : ℕ) (g : Grouped) (fault : TemplateError) (rest : Forest)
     → inside_at given depth g ≡ Err fault
     → filled_by given depth 0 (before (Group g) rest) ≡ Err fault
 group_fault given zero g fault rest h = h
 group_fault given (suc depth) g fault rest h =
-    ap (λ o. followed (enclosed_in g.delimiter g.span.lo g.span.hi o) (filled_by given (suc depth) 0 rest)) h
+    ap (λ o. then_outcome (enclosed_in g.delimiter g.span.lo g.span.hi o) (filled_by given (suc depth) 0 rest)) h
 
 -- ---- the state of the loop
 
@@ -128,21 +130,23 @@ group_fault given (suc depth) g fault rest h =
 -- can be part of a stream
 pub record IsUpTo (given : Giving) (depth : ℕ) (was all out : Forest) (left : List TokenTree) : Type 0 where
   pub so_far :
-      followed (Ok was) (filled_by given depth 0 all) ≡ followed (Ok out) (filled_by given depth 0 (forest left))
+      then_outcome (Ok was) (filled_by given depth 0 all)
+      ≡ then_outcome (Ok out) (filled_by given depth 0 (forest left))
   pub inside : All GoesInside left
 
 pub step : (given : Giving) (depth n : ℕ) (old all out new part : Forest) (t : TokenTree)
     (left after rest : List TokenTree)
     → IsUpTo given depth old all out left → left ≡ t ∷ after → rest ≡ drop n after
-    → filled_by given depth 0 (before t (forest after)) ≡ followed (Ok part) (filled_by given depth n (forest after))
-    → new ≡ joined out part → IsUpTo given depth old all new rest
+    → filled_by given depth 0 (before t (forest after))
+    ≡ then_outcome (Ok part) (filled_by given depth n (forest after))
+    → new ≡ chain out part → IsUpTo given depth old all new rest
 step given depth n old all out new part t left after rest was whole drops one put = record {
   so_far =
       was.so_far
-      ∙ (ap (λ ts. followed (Ok out) (filled_by given depth 0 (forest ts))) whole
-      ∙ (ap (followed (Ok out)) (one ∙ ap (followed (Ok part)) (passed_over given depth n after))
+      ∙ (ap (λ ts. then_outcome (Ok out) (filled_by given depth 0 (forest ts))) whole
+      ∙ (ap (then_outcome (Ok out)) (one ∙ ap (then_outcome (Ok part)) (passed_over given depth n after))
       ∙ (followed_more out part (filled_by given depth 0 (forest (drop n after)))
-      ∙ ap₂ (λ f ts. followed (Ok f) (filled_by given depth 0 (forest ts))) (sym put) (sym drops))));
+      ∙ ap₂ (λ f ts. then_outcome (Ok f) (filled_by given depth 0 (forest ts))) (sym put) (sym drops))));
   inside =
       subst (All GoesInside) (sym drops)
       (All-drop GoesInside n after
@@ -169,48 +173,49 @@ pub token_step : (given : Giving) (depth : ℕ) (old all out new : Forest) (t co
     (left after : List TokenTree)
     → IsUpTo given depth old all out left → left ≡ t ∷ after → ((g : Grouped) → t ≡ Group g → ⊥)
     → None ≡ interpolation_of t (forest after)
-    → copy ≡ apart_before (forest after) t → new ≡ joined out (alone copy) → IsUpTo given depth old all new after
+    → copy ≡ apart_before (forest after) t → new ≡ chain out (alone copy) → IsUpTo given depth old all new after
 token_step given depth old all out new t copy left after was whole other none cloned put =
     step given depth 0 old all out new (alone (apart_before (forest after) t)) t left after after was whole refl
-    (token_alone given depth t (forest after) other (sym none)) (put ∙ ap (λ u. joined out (alone u)) cloned)
+    (token_alone given depth t (forest after) other (sym none)) (put ∙ ap (λ u. chain out (alone u)) cloned)
 
 -- one step at a group
 pub group_step : (given : Giving) (depth : ℕ) (old all out new inside : Forest) (t : TokenTree) (g filled : Grouped)
     (left after : List TokenTree)
     → IsUpTo given depth old all out left → left ≡ t ∷ after → t ≡ Group g → inside_at given depth g ≡ Ok inside
-    → filled ≡ record g { stream = inside } → new ≡ joined out (alone (Group filled))
+    → filled ≡ record g { stream = inside } → new ≡ chain out (alone (Group filled))
     → IsUpTo given depth old all new after
 group_step given depth old all out new inside t g filled left after was whole is fills regrouped put =
     step given depth 0 old all out new (group g.delimiter g.span.lo g.span.hi inside nil) t left after after was whole
     refl
     (ap (λ u. filled_by given depth 0 (before u (forest after))) is
     ∙ group_filled given depth g inside (forest after) fills)
-    (put ∙ ap (λ u. joined out (alone (Group u))) regrouped)
+    (put ∙ ap (λ u. chain out (alone (Group u))) regrouped)
 
 -- one step at a hole or a repetition
 pub found_step : (given : Giving) (depth : ℕ) (old all out new part : Forest) (t : TokenTree) (found : Interpolation)
     (left after rest : List TokenTree)
     → IsUpTo given depth old all out left → left ≡ t ∷ after → Some found ≡ interpolation_of t (forest after)
-    → rest ≡ drop (taken (Some found)) after → given depth found ≡ Ok part → new ≡ joined out part
+    → rest ≡ drop (tree_count (Some found)) after → given depth found ≡ Ok part → new ≡ chain out part
     → IsUpTo given depth old all new rest
 found_step given depth old all out new part t found left after rest was whole is drops gives put =
-    step given depth (taken (Some found)) old all out new part t left after rest was whole drops
+    step given depth (tree_count (Some found)) old all out new part t left after rest was whole drops
     (begins_some given depth t (forest after) found (sym is)
-    ∙ ap (λ o. followed o (filled_by given depth (taken (Some found)) (forest after))) gives)
+    ∙ ap (λ o. then_outcome o (filled_by given depth (tree_count (Some found)) (forest after))) gives)
     put
 
-pub ended : (given : Giving) (depth : ℕ) (old all out : Forest) (left : List TokenTree)
-    → IsUpTo given depth old all out left → length left ≡ 0 → followed (Ok old) (filled_by given depth 0 all) ≡ Ok out
-ended given depth old all out [] was none = was.so_far ∙ ap Ok (joined_nil out)
-ended given depth old all out (t ∷ left) was none = absurd (omega (arith, none))
+pub ends_fill : (given : Giving) (depth : ℕ) (old all out : Forest) (left : List TokenTree)
+    → IsUpTo given depth old all out left → length left ≡ 0
+    → then_outcome (Ok old) (filled_by given depth 0 all) ≡ Ok out
+ends_fill given depth old all out [] was none = was.so_far ∙ ap Ok (joined_nil out)
+ends_fill given depth old all out (t ∷ left) was none = absurd (omega (arith, none))
 
 -- if the whole outcome is a stream, its second part is one too
-pub followed_by : (old new : Forest) (o : Outcome) → followed (Ok old) o ≡ Ok new
-    → (part : Forest) × (o ≡ Ok part) × (new ≡ joined old part)
+pub followed_by : (old new : Forest) (o : Outcome) → then_outcome (Ok old) o ≡ Ok new
+    → (part : Forest) × (o ≡ Ok part) × (new ≡ chain old part)
 followed_by old new (Ok part) h = (part, refl, cc)
 followed_by old new (Err fault) h = absurd (cc)
 
-pub follows_fault : (old : Forest) (o : Outcome) (fault : TemplateError) → followed (Ok old) o ≡ Err fault
+pub follows_fault : (old : Forest) (o : Outcome) (fault : TemplateError) → then_outcome (Ok old) o ≡ Err fault
     → o ≡ Err fault
 follows_fault old (Ok part) fault h = absurd (cc)
 follows_fault old (Err other) fault h = h
@@ -219,7 +224,7 @@ follows_fault old (Err other) fault h = h
 pub found_onto : (given : Giving) (depth : ℕ) (old all out new : Forest) (t : TokenTree) (found : Interpolation)
     (left after rest : List TokenTree)
     → IsUpTo given depth old all out left → left ≡ t ∷ after → Some found ≡ interpolation_of t (forest after)
-    → rest ≡ drop (taken (Some found)) after → followed (Ok out) (given depth found) ≡ Ok new
+    → rest ≡ drop (tree_count (Some found)) after → then_outcome (Ok out) (given depth found) ≡ Ok new
     → IsUpTo given depth old all new rest
 found_onto given depth old all out new t found left after rest was whole is drops put =
     let p = followed_by out new (given depth found) put in

@@ -10,7 +10,7 @@ use Rattle.proc_macro2.specs.Trees.{alone, before, forest}
 use Rattle.proc_macro2.specs.declared.Group.{Group as Grouped}
 use Rattle.proc_macro2.specs.declared.TokenTree.{TokenTree}
 use Rattle.proc_macro2.specs.declared.TokenTree.TheVariants.{Group, Ident, Punct, Literal}
-use Rattle.quoting.specs.Filled.{followed, has_meaning, is_found, filled_by}
+use Rattle.quoting.specs.Filled.{then_outcome, has_meaning, is_found, filled_by}
 use Rattle.quoting.specs.Given.{apart, inside_at, interpolation_of, is_fixed}
 use Rattle.quoting.specs.Interpolation.{after_hash}
 use Rattle.quoting.proofs.FillLemmas.{Giving, token_alone}
@@ -32,7 +32,7 @@ no_meaning (Punct p ∷ trees) h = ap is_found (begins_nothing p (forest trees) 
 no_meaning (Literal l ∷ trees) h = refl
 
 -- an unchanged tree before unchanged trees
-stays : (t : TokenTree) (f : Forest) → followed (Ok (alone t)) (Ok f) ≡ Ok (before t f)
+stays : (t : TokenTree) (f : Forest) → then_outcome (Ok (alone t)) (Ok f) ≡ Ok (before t f)
 stays (Group g) f = refl
 stays (Ident i) f = refl
 stays (Punct p) f = refl
@@ -43,8 +43,8 @@ one_stays : (given : Giving) (depth : ℕ) (t : TokenTree) (rest : Forest) → (
     → filled_by given depth 0 (before t rest) ≡ Ok (before t rest)
 one_stays given depth t rest other nothing quiet filled =
     token_alone given depth t rest other nothing
-    ∙ (ap (λ b. followed (Ok (alone (apart b t))) (filled_by given depth 0 rest)) quiet
-    ∙ (ap (followed (Ok (alone (apart false t)))) filled ∙ stays t rest))
+    ∙ (ap (λ b. then_outcome (Ok (alone (apart b t))) (filled_by given depth 0 rest)) quiet
+    ∙ (ap (then_outcome (Ok (alone (apart false t)))) filled ∙ stays t rest))
 
 pub all_stay : (given : Giving) (depth : ℕ) (trees : List TokenTree) → list_all is_fixed trees ≡ true
     → filled_by given depth 0 (forest trees) ≡ Ok (forest trees)

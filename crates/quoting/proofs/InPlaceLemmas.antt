@@ -3,15 +3,15 @@ use Rattle.std.proofs.Common.{◌≡◌, ℕ, ◌+◌, ◌-◌, ◌≤◌, ◌<�
 use Rattle.std.proofs.Common.{[], ◌∷◌, take, drop, length, refl, sym, ap, subst, ◌∙◌, arith}
 use Rattle.std.specs.Prelude.{slice_index_or, slice_set}
 use Rattle.std.proofs.lemmas.List.{drop-drop, drop-set-lt, drop_more, length-drop, length-set, take_all, take_more_set}
-use Rattle.proc_macro2.specs.Forest.{Forest, nil, joined, IsBuilt}
+use Rattle.proc_macro2.specs.Forest.{Forest, nil, chain, IsBuilt}
 use Rattle.proc_macro2.specs.Leaf as leaves
 use Rattle.proc_macro2.specs.Trees.{GoesInside, alone, before, forest}
 use Rattle.proc_macro2.specs.declared.TokenTree.{TokenTree}
 use Rattle.proc_macro2.specs.declared.TokenTree.TheVariants.{Group, Ident, Punct, Literal}
-use Rattle.quoting.specs.Filled.{followed, filled_by}
+use Rattle.quoting.specs.Filled.{then_outcome, filled_by}
 use Rattle.quoting.specs.Given.{Settles, apart, apart_before, interpolation_of}
 use Rattle.pm_stream.proofs.TreeLemmas.{built_inside, forest-push}
-use Rattle.quoting.proofs.FillLemmas.{Giving, IsUpTo, ended, followed_nil, group_step, token_step}
+use Rattle.quoting.proofs.FillLemmas.{Giving, IsUpTo, ends_fill, followed_nil, group_step, token_step}
 
 -- the loop is at the given index of a list that can become a stream
 pub record IsAt (given : Giving) (depth : ℕ) (was all out : Forest) (done : ℕ) (items : List TokenTree) : Type 0 where
@@ -31,11 +31,11 @@ apart_text true l = refl
 pub settle_step : (given : Giving) (depth : ℕ) (old all out put : Forest) (b : Bool) (t new : TokenTree)
     (left after : List TokenTree)
     → IsUpTo given depth old all out left → left ≡ t ∷ after → None ≡ interpolation_of t (forest after)
-    → apart b t ≡ apart_before (forest after) t → Settles given depth b t new → put ≡ joined out (alone new)
+    → apart b t ≡ apart_before (forest after) t → Settles given depth b t new → put ≡ chain out (alone new)
     → IsUpTo given depth old all put after
 settle_step given depth old all out put b (Group g) new left after was whole none same (inside, fills, is) puts =
     group_step given depth old all out put inside (Group g) g (record g { stream = inside }) left after was whole refl
-    fills refl (puts ∙ ap (λ u. joined out (alone u)) is)
+    fills refl (puts ∙ ap (λ u. chain out (alone u)) is)
 settle_step given depth old all out put b (Ident i) new left after was whole none same is puts =
     token_step given depth old all out put (Ident i) new left after was whole (λ g e. absurd (cc)) none
     (is ∙ (apart_name b i ∙ same)) puts
@@ -97,10 +97,12 @@ all_left n xs items same =
 
 -- ---- the loop
 
-pub begun : (given : Giving) (depth : ℕ) (was all out : Forest) (items : List TokenTree) → IsBuilt (forest items)
-    → followed (Ok was) (filled_by given depth 0 all) ≡ followed (Ok out) (filled_by given depth 0 (forest items))
+pub begin_in_place : (given : Giving) (depth : ℕ) (was all out : Forest) (items : List TokenTree)
+    → IsBuilt (forest items)
+    → then_outcome (Ok was) (filled_by given depth 0 all)
+    ≡ then_outcome (Ok out) (filled_by given depth 0 (forest items))
     → IsAt given depth was all out 0 items
-begun given depth was all out items built same = record {
+begin_in_place given depth was all out items built same = record {
   up_to = record { so_far = same; inside = built_inside items built };
   built = built;
   within = omega arith;
@@ -127,13 +129,13 @@ goes_inside given depth n was all out items after t x here whole at =
     (subst (All GoesInside) whole here.up_to.inside 0 t (omega arith))
 
 -- the loop goes past a tree that begins neither a hole nor a repetition
-pub settled : (given : Giving) (depth n : ℕ) (was all out put : Forest) (items after : List TokenTree) (b : Bool)
+pub past_token : (given : Giving) (depth n : ℕ) (was all out put : Forest) (items after : List TokenTree) (b : Bool)
     (t x new : TokenTree)
     → IsAt given depth was all out n items → drop n items ≡ t ∷ after → x ≡ slice_index_or items n x
     → None ≡ interpolation_of t (forest after) → apart b t ≡ apart_before (forest after) t
-    → Settles given depth b x new → IsBuilt (alone new) → put ≡ joined out (alone new)
+    → Settles given depth b x new → IsBuilt (alone new) → put ≡ chain out (alone new)
     → IsAt given depth was all put (n + 1) (slice_set items n new)
-settled given depth n was all out put items after b t x new here whole at none same settles built puts = record {
+past_token given depth n was all out put items after b t x new here whole at none same settles built puts = record {
   up_to =
       subst (IsUpTo given depth was all put)
       (sym (drop-set-lt (n + 1) items n new (omega arith) ∙ after_is n items after t whole))
@@ -151,16 +153,17 @@ pub settled_in_place : (given : Giving) (depth n : ℕ) (was all : Forest) (item
     → apart b t ≡ apart_before (forest after) t → Settles given depth b x new → IsBuilt (alone new)
     → IsAt given depth was all (forest (take (n + 1) (slice_set items n new))) (n + 1) (slice_set items n new)
 settled_in_place given depth n was all items after b t x new here whole at none same settles built =
-    settled given depth n was all (forest (take n items)) (forest (take (n + 1) (slice_set items n new))) items after b
+    past_token given depth n was all (forest (take n items)) (forest (take (n + 1) (slice_set items n new))) items after
+    b
     t x new here whole at none same settles built
     (ap forest (take_more_set items n new (index_within n items after t whole)) ∙ forest-push (take n items) new)
 
 -- the loop goes past a hole or a repetition
-pub passed : (given : Giving) (depth n m : ℕ) (was all out new : Forest) (items after rest : List TokenTree)
+pub past_hole : (given : Giving) (depth n m : ℕ) (was all out new : Forest) (items after rest : List TokenTree)
     (t : TokenTree)
     → IsAt given depth was all out n items → drop n items ≡ t ∷ after → rest ≡ drop m after
     → IsUpTo given depth was all new rest → IsAt given depth was all new (length items - length rest) items
-passed given depth n m was all out new items after rest t here whole drops now =
+past_hole given depth n m was all out new items after rest t here whole drops now =
     let last : drop (n + 1 + m) items ≡ rest =
     sym (drop-drop m (n + 1) items) ∙ (ap (drop m) (after_is n items after t whole) ∙ sym drops) in
     record {
@@ -175,6 +178,6 @@ pub all_done : (given : Giving) (depth n : ℕ) (all stream : Forest) (items : L
     → filled_by given depth 0 all ≡ Ok stream
 all_done given depth n all stream items here whole is =
     sym (followed_nil (filled_by given depth 0 all))
-    ∙ (ended given depth nil all (forest (take n items)) (drop n items) here.up_to
+    ∙ (ends_fill given depth nil all (forest (take n items)) (drop n items) here.up_to
     (omega (arith, whole, length-drop n items))
     ∙ ap Ok (ap forest (take_all n items (omega (arith, whole))) ∙ sym is))

@@ -43,9 +43,9 @@ item_count_each f [] = refl
 item_count_each f (x ∷ xs) = item_count-item (f x) (each_of f xs) ∙ ap suc (item_count_each f xs)
 
 -- the function applied to the item, if there is one
-abbrev pub mapped : {A B : Type 0} → (A → B) → Option A → Option B
-mapped f None = None
-mapped f (Some x) = Some (f x)
+abbrev pub map_option : {A B : Type 0} → (A → B) → Option A → Option B
+map_option f None = None
+map_option f (Some x) = Some (f x)
 
 item_at-first : (f : Filling) (rest : Items) → item_at zero (item f rest) ≡ Some f
 item_at-first (One stream) rest = refl
@@ -58,23 +58,23 @@ item_at-later n (Unfit why) rest = refl
 item_at-later n (Each inside) rest = refl
 
 pub item_at_each : {A : Type 0} (f : A → Filling) (n : ℕ) (xs : List A)
-    → item_at n (each_of f xs) ≡ mapped f (slice_get xs n)
+    → item_at n (each_of f xs) ≡ map_option f (slice_get xs n)
 item_at_each f zero [] = refl
 item_at_each f (suc n) [] = refl
 item_at_each f zero (x ∷ xs) = item_at-first (f x) (each_of f xs)
 item_at_each f (suc n) (x ∷ xs) = item_at-later n (f x) (each_of f xs) ∙ item_at_each f n xs
 
 -- a borrowed element is the value at its index
-pub lent : {A : Type 0} (f : A → Filling) (xs : List A) (i : ℕ) (r : Option (Bor A)) → IsItemAt xs i r
-    → mapped (λ (x : Bor A). f x.now) r ≡ item_at i (each_of f xs)
-lent f xs i None h = sym (item_at_each f i xs ∙ ap (mapped f) (slice_get_past xs i h.3))
-lent f xs i (Some x) h =
-    sym (item_at_each f i xs ∙ ap (mapped f) (slice_get_read xs (length xs) i x.now refl h.3.0 h.1))
+pub lends_item : {A : Type 0} (f : A → Filling) (xs : List A) (i : ℕ) (r : Option (Bor A)) → IsItemAt xs i r
+    → map_option (λ (x : Bor A). f x.now) r ≡ item_at i (each_of f xs)
+lends_item f xs i None h = sym (item_at_each f i xs ∙ ap (map_option f) (slice_get_past xs i h.3))
+lends_item f xs i (Some x) h =
+    sym (item_at_each f i xs ∙ ap (map_option f) (slice_get_read xs (length xs) i x.now refl h.3.0 h.1))
 
 pub lent_value : {A : Type 0} (f : A → Filling) (xs : List A) (i : ℕ) (r : Option (Bor A)) → IsItemAt xs i r
     → MatchOption r (item_at i (each_of f xs) ≡ None) (λ (x : Bor A). item_at i (each_of f xs) ≡ Some (f x.now))
-lent_value f xs i None h = sym (lent f xs i None h)
-lent_value f xs i (Some x) h = sym (lent f xs i (Some x) h)
+lent_value f xs i None h = sym (lends_item f xs i None h)
+lent_value f xs i (Some x) h = sym (lends_item f xs i (Some x) h)
 
 -- ---- turns
 
@@ -83,34 +83,34 @@ abbrev pub after : List ℕ → Filling → Filling
 after [] filling = filling
 after (turn ∷ turns) filling = after turns (in_turn turn filling)
 
-mapped-if : {A B : Type 0} (f : A → B) (b : Bool) (x : A) (o : Option A) (p : Option B) → p ≡ mapped f o
-    → (if b then Some (f x) else p) ≡ mapped f (if b then Some x else o)
-mapped-if f true x o p h = refl
-mapped-if f false x o p h = h
+map_option-if : {A B : Type 0} (f : A → B) (b : Bool) (x : A) (o : Option A) (p : Option B) → p ≡ map_option f o
+    → (if b then Some (f x) else p) ≡ map_option f (if b then Some x else o)
+map_option-if f true x o p h = refl
+map_option-if f false x o p h = h
 
 filling_of-in_turn : (turn : ℕ) (holes : List Named) (name : List ℕ)
-    → filling_of (all_in_turn turn holes) name ≡ mapped (in_turn turn) (filling_of holes name)
+    → filling_of (all_in_turn turn holes) name ≡ map_option (in_turn turn) (filling_of holes name)
 filling_of-in_turn turn [] name = refl
 filling_of-in_turn turn (hole ∷ holes) name =
-    mapped-if (in_turn turn) (pointwise nat_eq name hole.name) hole.filling (filling_of holes name) _
+    map_option-if (in_turn turn) (pointwise nat_eq name hole.name) hole.filling (filling_of holes name) _
     (filling_of-in_turn turn holes name)
 
-mapped-mapped : {A B C : Type 0} (g : B → C) (f : A → B) (o : Option A)
-    → mapped g (mapped f o) ≡ mapped (λ x. g (f x)) o
-mapped-mapped g f None = refl
-mapped-mapped g f (Some x) = refl
+map_option-map_option : {A B C : Type 0} (g : B → C) (f : A → B) (o : Option A)
+    → map_option g (map_option f o) ≡ map_option (λ x. g (f x)) o
+map_option-map_option g f None = refl
+map_option-map_option g f (Some x) = refl
 
-mapped-itself : {A : Type 0} (o : Option A) → o ≡ mapped (λ x. x) o
-mapped-itself None = refl
-mapped-itself (Some x) = refl
+map_option-itself : {A : Type 0} (o : Option A) → o ≡ map_option (λ x. x) o
+map_option-itself None = refl
+map_option-itself (Some x) = refl
 
 pub filling_in_all : (turns : List ℕ) (holes : List Named) (name : List ℕ)
-    → filling_of (in_all turns holes) name ≡ mapped (after turns) (filling_of holes name)
-filling_in_all [] holes name = mapped-itself (filling_of holes name)
+    → filling_of (in_all turns holes) name ≡ map_option (after turns) (filling_of holes name)
+filling_in_all [] holes name = map_option-itself (filling_of holes name)
 filling_in_all (turn ∷ turns) holes name =
     filling_in_all turns (all_in_turn turn holes) name
-    ∙ (ap (mapped (after turns)) (filling_of-in_turn turn holes name)
-    ∙ mapped-mapped (after turns) (in_turn turn) (filling_of holes name))
+    ∙ (ap (map_option (after turns)) (filling_of-in_turn turn holes name)
+    ∙ map_option-map_option (after turns) (in_turn turn) (filling_of holes name))
 
 pub in_all_more : (turns : List ℕ) (turn : ℕ) (holes : List Named)
     → in_all (turns ++ turn ∷ []) holes ≡ all_in_turn turn (in_all turns holes)
@@ -118,5 +118,5 @@ in_all_more [] turn holes = refl
 in_all_more (t ∷ ts) turn holes = in_all_more ts turn (all_in_turn t holes)
 
 pub filling_begun : (turns : List ℕ) (holes : List Named) (name : List ℕ) (found : Option Filling)
-    → found ≡ filling_of holes name → mapped (after turns) found ≡ filling_of (in_all turns holes) name
-filling_begun turns holes name found is = ap (mapped (after turns)) is ∙ sym (filling_in_all turns holes name)
+    → found ≡ filling_of holes name → map_option (after turns) found ≡ filling_of (in_all turns holes) name
+filling_begun turns holes name found is = ap (map_option (after turns)) is ∙ sym (filling_in_all turns holes name)

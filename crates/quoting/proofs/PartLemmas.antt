@@ -1,24 +1,24 @@
 -- The open lists of `respaced`. Each is the list of the next group in the list around it.
 use Rattle.std.proofs.Common.{◌≡◌, ℕ, ◌+◌, ◌*◌, ◌<◌, Result, Ok, Err, IfOk, List, [], ◌∷◌, ◌++◌, refl, sym, ap, ap₂}
 use Rattle.std.proofs.Common.{subst, ◌∙◌, arith}
-use Rattle.proc_macro2.specs.Forest.{Forest, nil, leaf, group, joined}
+use Rattle.proc_macro2.specs.Forest.{Forest, nil, leaf, group, chain}
 use Rattle.proc_macro2.specs.Trees.{before, forest}
 use Rattle.proc_macro2.specs.Size.{count}
 use Rattle.proc_macro2.specs.WellSpaced.{next_token}
 use Rattle.proc_macro2.specs.declared.Group.{Group as Grouped}
 use Rattle.proc_macro2.specs.declared.TokenTree.{TokenTree}
 use Rattle.proc_macro2.specs.declared.TokenTree.TheVariants.{Group, Ident, Punct, Literal}
-use Rattle.quoting.specs.Part.{Adds, IsOpen, Part, enclosed, ended, others, respaced_alone}
-use Rattle.quoting.specs.Respaced.{respaced}
+use Rattle.quoting.specs.Part.{Adds, IsOpen, Part, first_group, part_result, others, respaced_alone}
+use Rattle.quoting.specs.Respaced.{respace_marks}
 
 -- ---- joined forests
 
-pub joined_nil : (f : Forest) → joined f nil ≡ f
+pub joined_nil : (f : Forest) → chain f nil ≡ f
 joined_nil nil = refl
 joined_nil (leaf t lo hi f) = ap (leaf t lo hi) (joined_nil f)
 joined_nil (group d lo hi f g) = ap (group d lo hi f) (joined_nil g)
 
-pub joined_assoc : (f g h : Forest) → joined (joined f g) h ≡ joined f (joined g h)
+pub joined_assoc : (f g h : Forest) → chain (chain f g) h ≡ chain f (chain g h)
 joined_assoc nil g h = refl
 joined_assoc (leaf t lo hi f) g h = ap (leaf t lo hi) (joined_assoc f g h)
 joined_assoc (group d lo hi f k) g h = ap (group d lo hi f) (joined_assoc k g h)
@@ -26,13 +26,14 @@ joined_assoc (group d lo hi f k) g h = ap (group d lo hi f) (joined_assoc k g h)
 -- ---- the outer lists
 
 -- the whole list after respacing, if its next group has the given contents
-abbrev pub closed : Part → Forest → Forest
-closed part inside = joined part.done (joined (enclosed part.left inside) (respaced (forest (others part.left))))
+abbrev pub part_closed : Part → Forest → Forest
+part_closed part inside = chain part.done
+    (chain (first_group part.left inside) (respace_marks (forest (others part.left))))
 
 -- the outermost list after respacing, if the innermost list becomes the given trees
 abbrev pub unwound : List Part → Forest → Forest
 unwound [] inside = inside
-unwound (part ∷ parts) inside = closed part (unwound parts inside)
+unwound (part ∷ parts) inside = part_closed part (unwound parts inside)
 
 -- the trees of the first list before respacing, or else the given trees
 abbrev pub first_whole : List Part → Forest → Forest
@@ -53,9 +54,9 @@ abbrev pub left_count : Part → List Part → ℕ
 left_count here outer = 2 * count (forest here.left) + outer_count outer
 
 unwound-push : (outer : List Part) (part : Part) (inside : Forest)
-    → unwound (outer ++ part ∷ []) inside ≡ unwound outer (closed part inside)
+    → unwound (outer ++ part ∷ []) inside ≡ unwound outer (part_closed part inside)
 unwound-push [] part inside = refl
-unwound-push (p ∷ outer) part inside = ap (closed p) (unwound-push outer part inside)
+unwound-push (p ∷ outer) part inside = ap (part_closed p) (unwound-push outer part inside)
 
 outer_count-push : (outer : List Part) (part : Part)
     → outer_count (outer ++ part ∷ []) ≡ 1 + 2 * count (forest (others part.left)) + outer_count outer
@@ -86,16 +87,16 @@ linked_pop (p ∷ outer) part whole h =
 
 -- the state leads to the result, and each list is that of the next group in the list around it
 pub record IsOnTheWay (here : Part) (outer : List Part) (answer : Forest) : Type 0 where
-  pub answer_is : unwound outer (ended here) ≡ answer
+  pub answer_is : unwound outer (part_result here) ≡ answer
   pub linked : Linked outer here.whole
 
 -- the state at the start, when no tree is done
-pub begun : (here : Part) (outer : List Part) (f : Forest) → here.done ≡ nil → forest here.left ≡ f → outer ≡ []
-    → IsOnTheWay here outer (respaced f)
-begun here outer f done left none = record {
+pub begin_parts : (here : Part) (outer : List Part) (f : Forest) → here.done ≡ nil → forest here.left ≡ f → outer ≡ []
+    → IsOnTheWay here outer (respace_marks f)
+begin_parts here outer f done left none = record {
   answer_is =
-      ap (λ o. unwound o (ended here)) none
-      ∙ (ap (λ x. joined x (respaced (forest here.left))) done ∙ ap respaced left);
+      ap (λ o. unwound o (part_result here)) none
+      ∙ (ap (λ x. chain x (respace_marks (forest here.left))) done ∙ ap respace_marks left);
   linked = subst (λ o. Linked o here.whole) (sym none) tt;
 }
 
@@ -107,16 +108,17 @@ pub open_group : (here new : Part) (outer more : List Part) (t : TokenTree) (aft
     → more ≡ outer ++ here ∷ [] → IsOnTheWay here outer answer → IsOnTheWay new more answer
 open_group here new outer more t after g answer left is whole done inside push was =
     let first : here.left ≡ Group g ∷ after = left ∙ ap (λ u. u ∷ after) is in
-    let inner : ended new ≡ respaced g.stream =
-    ap (λ x. joined x (respaced (forest new.left))) done ∙ ap respaced inside in
-    let same : closed here (ended new) ≡ ended here =
-    ap (closed here) inner
-    ∙ (ap (λ ts. joined here.done (joined (enclosed ts (respaced g.stream)) (respaced (forest (others ts))))) first
-    ∙ ap (λ ts. joined here.done (respaced (forest ts))) (sym first)) in
+    let inner : part_result new ≡ respace_marks g.stream =
+    ap (λ x. chain x (respace_marks (forest new.left))) done ∙ ap respace_marks inside in
+    let same : part_closed here (part_result new) ≡ part_result here =
+    ap (part_closed here) inner
+    ∙ (ap (λ ts. chain here.done (chain (first_group ts (respace_marks g.stream)) (respace_marks (forest (others ts)))))
+    first
+    ∙ ap (λ ts. chain here.done (respace_marks (forest ts))) (sym first)) in
     record {
       answer_is =
-          ap (λ o. unwound o (ended new)) push
-          ∙ (unwound-push outer here (ended new) ∙ (ap (unwound outer) same ∙ was.answer_is));
+          ap (λ o. unwound o (part_result new)) push
+          ∙ (unwound-push outer here (part_result new) ∙ (ap (unwound outer) same ∙ was.answer_is));
       linked =
           subst (λ o. Linked o new.whole) (sym push)
           (linked_push outer here new.whole was.linked
@@ -135,7 +137,7 @@ open_less here new outer more t after g left is inside push =
 -- ---- a step at another tree
 
 respaced-before : (t : TokenTree) (rest : Forest) → ((g : Grouped) → t ≡ Group g → ⊥)
-    → respaced (before t rest) ≡ joined (respaced_alone t (next_token rest)) (respaced rest)
+    → respace_marks (before t rest) ≡ chain (respaced_alone t (next_token rest)) (respace_marks rest)
 respaced-before (Group g) rest other = absurd (other g refl)
 respaced-before (Ident i) rest other = refl
 respaced-before (Punct p) rest other = refl
@@ -148,10 +150,11 @@ pub step_token : (here new : Part) (outer : List Part) (t : TokenTree) (after : 
 step_token here new outer t after answer left other adds was =
     let first = respaced_alone t (next_token (forest after)) in
     let rest : new.left ≡ after = adds.left ∙ ap others left in
-    let same : ended new ≡ ended here =
-    ap₂ (λ x ts. joined x (respaced (forest ts))) adds.done rest
-    ∙ (joined_assoc here.done first (respaced (forest after))
-    ∙ ap (joined here.done) (sym (respaced-before t (forest after) other) ∙ ap (λ ts. respaced (forest ts)) (sym left)))
+    let same : part_result new ≡ part_result here =
+    ap₂ (λ x ts. chain x (respace_marks (forest ts))) adds.done rest
+    ∙ (joined_assoc here.done first (respace_marks (forest after))
+    ∙ ap (chain here.done) (sym (respaced-before t (forest after) other)
+    ∙ ap (λ ts. respace_marks (forest ts)) (sym left)))
     in
     record {
       answer_is = ap (unwound outer) same ∙ was.answer_is;
@@ -172,8 +175,8 @@ step_less here new outer t after first left adds =
 
 -- ---- a step at the end of a list
 
-ended_here : (here : Part) → here.left ≡ [] → ended here ≡ here.done
-ended_here here none = ap (λ ts. joined here.done (respaced (forest ts))) none ∙ joined_nil here.done
+ended_here : (here : Part) → here.left ≡ [] → part_result here ≡ here.done
+ended_here here none = ap (λ ts. chain here.done (respace_marks (forest ts))) none ∙ joined_nil here.done
 
 pub is_open : (here part : Part) (outer more : List Part) (answer : Forest) → outer ≡ more ++ part ∷ []
     → IsOnTheWay here outer answer → IsOpen part.left here.whole
@@ -181,17 +184,18 @@ is_open here part outer more answer pop was =
     (linked_pop more part here.whole (subst (λ o. Linked o here.whole) pop was.linked)).1
 
 pub close_group : (here part new : Part) (outer more : List Part) (answer : Forest) → here.left ≡ []
-    → outer ≡ more ++ part ∷ [] → Adds part (enclosed part.left here.done) new → IsOnTheWay here outer answer
+    → outer ≡ more ++ part ∷ [] → Adds part (first_group part.left here.done) new → IsOnTheWay here outer answer
     → IsOnTheWay new more answer
 close_group here part new outer more answer none pop adds was =
-    let same : ended new ≡ closed part (ended here) =
-    ap₂ (λ x ts. joined x (respaced (forest ts))) adds.done adds.left
-    ∙ (joined_assoc part.done (enclosed part.left here.done) (respaced (forest (others part.left)))
-    ∙ ap (closed part) (sym (ended_here here none))) in
+    let same : part_result new ≡ part_closed part (part_result here) =
+    ap₂ (λ x ts. chain x (respace_marks (forest ts))) adds.done adds.left
+    ∙ (joined_assoc part.done (first_group part.left here.done) (respace_marks (forest (others part.left)))
+    ∙ ap (part_closed part) (sym (ended_here here none))) in
     record {
       answer_is =
           ap (unwound more) same
-          ∙ (sym (unwound-push more part (ended here)) ∙ (ap (λ o. unwound o (ended here)) (sym pop) ∙ was.answer_is));
+          ∙ (sym (unwound-push more part (part_result here))
+          ∙ (ap (λ o. unwound o (part_result here)) (sym pop) ∙ was.answer_is));
       linked =
           subst (Linked more) (sym adds.whole)
           (linked_pop more part here.whole (subst (λ o. Linked o here.whole) pop was.linked)).0;
@@ -205,7 +209,7 @@ close_less here part new outer more first pop adds =
 pub all_done : (here : Part) (outer : List Part) (answer : Forest) → here.left ≡ [] → outer ≡ []
     → IsOnTheWay here outer answer → here.done ≡ answer
 all_done here outer answer none end was =
-    sym (ended_here here none) ∙ (ap (λ o. unwound o (ended here)) (sym end) ∙ was.answer_is)
+    sym (ended_here here none) ∙ (ap (λ o. unwound o (part_result here)) (sym end) ∙ was.answer_is)
 
 pub result_is : {E : Type 0} (r : Result Forest E) (done answer : Forest) → IfOk r (λ f. f ≡ done) → done ≡ answer
     → IfOk r (λ f. f ≡ answer)

@@ -2,8 +2,8 @@
 use Rattle.std.proofs.Common.{◌≡◌, List, [], ◌∷◌, ◌++◌, Option, Some, Result, Ok, Err, OnOk, OnErr, MatchResult, length}
 use Rattle.std.proofs.Common.{length-append, refl, sym, ap, ◌∙◌, arith}
 use Rattle.std.specs.Iterator.{Drains, Yields}
-use Rattle.proc_macro2.specs.Building.{PutsIn, gathered}
-use Rattle.proc_macro2.specs.Forest.{Forest, joined}
+use Rattle.proc_macro2.specs.Building.{PutsIn, trees_of_all}
+use Rattle.proc_macro2.specs.Forest.{Forest, chain}
 use Rattle.quoting.proofs.PartLemmas.{joined_nil}
 
 -- the items that the iterator has left, by single steps and as a whole
@@ -27,13 +27,13 @@ pub put_one : {S A E : Type 0} (Begins : S → Type 0) (steps : S → Option A �
     → ((it : S) × (xs : List A) × Begins it × PutsIn trees was xs new
     × MatchResult r (λ _. Drains steps it xs) (λ _. (now : S) × Yields steps it xs now))
     → ((it : S) → Begins it → left it ≡ item ∷ [])
-    → OnOk r (new ≡ joined old (trees item))
+    → OnOk r (new ≡ chain old (trees item))
 put_one Begins steps left trees item was old new (Err e) same lists ran one = tt
 put_one Begins steps left trees item was old new (Ok u) same lists ran one =
     let items : ran.1 ≡ item ∷ [] = lists.all ran.0 ran.1 ran.4 ∙ one ran.0 ran.2 in
     ran.3
-    ∙ (ap (λ xs. joined was (gathered trees xs)) items
-    ∙ (ap (joined was) (joined_nil (trees item)) ∙ ap (λ f. joined f (trees item)) same))
+    ∙ (ap (λ xs. chain was (trees_of_all trees xs)) items
+    ∙ (ap (chain was) (joined_nil (trees item)) ∙ ap (λ f. chain f (trees item)) same))
 
 -- after an error nothing is added
 pub refuse_one : {S A E : Type 0} (Begins : S → Type 0) (steps : S → Option A → S → Type 0) (left : S → List A)
@@ -49,4 +49,4 @@ refuse_one Begins steps left trees item was old new (Err e) same lists
     sym (yields_front steps left lists it now items yields ∙ ap (λ xs. items ++ xs) (lists.each now rest last step))
     ∙ one it is in
     let none : items ≡ [] = none_before items (left rest) item last whole in
-    puts ∙ (ap (λ xs. joined was (gathered trees xs)) none ∙ (joined_nil was ∙ same))
+    puts ∙ (ap (λ xs. chain was (trees_of_all trees xs)) none ∙ (joined_nil was ∙ same))

@@ -5,7 +5,7 @@ use Rattle.std.proofs.Math.Seq.{take-add}
 use Rattle.std.proofs.lemmas.List as takes
 use Rattle.std.proofs.lemmas.List.{drop-drop, take-append-drop}
 use Rattle.std.proofs.lemmas.List.Elements.{All-drop, All-get_or, All-head}
-use Rattle.proc_macro2.specs.Forest.{Forest, joined}
+use Rattle.proc_macro2.specs.Forest.{Forest, chain}
 use Rattle.proc_macro2.specs.Trees.{GoesInside, alone, before, forest}
 use Rattle.proc_macro2.specs.declared.TokenTree.{TokenTree}
 use Rattle.proc_macro2.specs.declared.TokenTree.TheVariants.{Group, Ident, Punct, Literal}
@@ -16,14 +16,14 @@ abbrev pub part_of : Forest → Option Forest → ℕ → List TokenTree → Par
 part_of whole changed count trees =
     record { whole = whole; done = done_of changed count trees; left = drop count trees }
 
-joined-before : (t : TokenTree) (f k : Forest) → joined (before t f) k ≡ before t (joined f k)
+joined-before : (t : TokenTree) (f k : Forest) → chain (before t f) k ≡ before t (chain f k)
 joined-before (Group g) f k = refl
 joined-before (Ident i) f k = refl
 joined-before (Punct p) f k = refl
 joined-before (Literal l) f k = refl
 
 -- a list with one more tree at the end
-pub forest-push : (ts : List TokenTree) (t : TokenTree) → forest (ts ++ t ∷ []) ≡ joined (forest ts) (alone t)
+pub forest-push : (ts : List TokenTree) (t : TokenTree) → forest (ts ++ t ∷ []) ≡ chain (forest ts) (alone t)
 forest-push [] t = refl
 forest-push (u ∷ ts) t = ap (before u) (forest-push ts t) ∙ sym (joined-before u (forest ts) (alone t))
 
@@ -48,18 +48,18 @@ adds_kept whole n trees t old same first =
       whole = ap (λ (p : Part). p.whole) same;
       done =
           ap forest (take_more n trees (others old.left) t here)
-          ∙ (forest-push (take n trees) t ∙ ap (λ (p : Part). joined p.done (alone t)) same);
+          ∙ (forest-push (take n trees) t ∙ ap (λ (p : Part). chain p.done (alone t)) same);
       left = drop_more n trees ∙ ap (λ (p : Part). others p.left) same;
     }
 
 -- the first tree that is left is replaced by other trees
 pub adds_put : (whole : Forest) (changed : Option Forest) (n : ℕ) (trees : List TokenTree) (was now first : Forest)
     (old : Part)
-    → part_of whole changed n trees ≡ old → was ≡ done_of changed n trees → now ≡ joined was first
+    → part_of whole changed n trees ≡ old → was ≡ done_of changed n trees → now ≡ chain was first
     → Adds old first (part_of whole (Some now) (n + 1) trees)
 adds_put whole changed n trees was now first old same copied put = record {
   whole = ap (λ (p : Part). p.whole) same;
-  done = put ∙ (ap (λ f. joined f first) copied ∙ ap (λ (p : Part). joined p.done first) same);
+  done = put ∙ (ap (λ f. chain f first) copied ∙ ap (λ (p : Part). chain p.done first) same);
   left = drop_more n trees ∙ ap (λ (p : Part). others p.left) same;
 }
 
@@ -74,13 +74,14 @@ first_goes_inside whole changed n trees t copy old all same first cloned =
     (All-head GoesInside t (others old.left) (subst (All GoesInside) here (All-drop GoesInside n trees all)))
 
 -- all trees are done, and none of them was changed
-pub finished : {E : Type 0} (Refused : E → Type 0) (whole : Forest) (n : ℕ) (trees : List TokenTree) (old : Part)
+pub finish_unchanged : {E : Type 0} (Refused : E → Type 0) (whole : Forest) (n : ℕ) (trees : List TokenTree)
+    (old : Part)
     (r : Result Forest E)
     → part_of whole None n trees ≡ old → forest trees ≡ whole → old.left ≡ []
     → MatchResult r (λ copy. copy ≡ whole) Refused
     → IfOk r (λ copy. copy ≡ old.done)
-finished Refused whole n trees old (Err e) same is none copied = tt
-finished Refused whole n trees old (Ok f) same is none copied =
+finish_unchanged Refused whole n trees old (Err e) same is none copied = tt
+finish_unchanged Refused whole n trees old (Ok f) same is none copied =
     let all : take n trees ≡ trees =
     sym (append-nil (take n trees))
     ∙ (ap (λ xs. take n trees ++ xs) (sym (ap (λ (p : Part). p.left) same ∙ none)) ∙ take-append-drop n trees) in
@@ -88,11 +89,11 @@ finished Refused whole n trees old (Ok f) same is none copied =
 
 -- one more copy of a tree
 pub copied_more : (trees : List TokenTree) (n : ℕ) (t copy : TokenTree) (was now : Forest) → n < length trees
-    → t ≡ get_or trees n t → copy ≡ t → was ≡ forest (take n trees) → now ≡ joined was (alone copy)
+    → t ≡ get_or trees n t → copy ≡ t → was ≡ forest (take n trees) → now ≡ chain was (alone copy)
     → now ≡ forest (take (n + 1) trees)
 copied_more trees n t copy was now within is cloned so_far put =
     put
-    ∙ (ap₂ (λ f u. joined f (alone u)) so_far (cloned ∙ is)
+    ∙ (ap₂ (λ f u. chain f (alone u)) so_far (cloned ∙ is)
     ∙ (sym (forest-push (take n trees) (get_or trees n t)) ∙ ap forest (sym (takes.take_more trees n t within))))
 
 pub copy_goes_inside : (trees : List TokenTree) (n : ℕ) (t copy : TokenTree) → n < length trees

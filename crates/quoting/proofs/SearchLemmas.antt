@@ -8,15 +8,16 @@ or_else None later = later
 or_else (Some found) later = Some found
 
 -- the result of the first step that has one
-abbrev pub found : {A : Type 0} → (Step → Option A) → List Step → Option A
-found look [] = None
-found look (step ∷ steps) = or_else (look step) (found look steps)
+abbrev pub first_found : {A : Type 0} → (Step → Option A) → List Step → Option A
+first_found look [] = None
+first_found look (step ∷ steps) = or_else (look step) (first_found look steps)
 
 pub found_here : {A : Type 0} (look : Step → Option A) (old new : List Step) (step : Step) (x : A)
-    → old ≡ step ∷ new → look step ≡ Some x → found look old ≡ Some x
-found_here look old new step x first here = ap (found look) first ∙ ap (λ f. or_else f (found look new)) here
+    → old ≡ step ∷ new → look step ≡ Some x → first_found look old ≡ Some x
+found_here look old new step x first here =
+    ap (first_found look) first ∙ ap (λ f. or_else f (first_found look new)) here
 
 pub found_later : {A : Type 0} (look : Step → Option A) (old new : List Step) (step : Step)
-    → old ≡ step ∷ new → look step ≡ None → found look new ≡ found look old
+    → old ≡ step ∷ new → look step ≡ None → first_found look new ≡ first_found look old
 found_later look old new step first here =
-    sym (ap (found look) first ∙ ap (λ f. or_else f (found look new)) here)
+    sym (ap (first_found look) first ∙ ap (λ f. or_else f (first_found look new)) here)

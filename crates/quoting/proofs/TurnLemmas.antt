@@ -3,7 +3,7 @@ use Rattle.std.proofs.Common.{◌≡◌, Bor, ℕ, zero, suc, ◌+◌, ◌-◌, 
 use Rattle.std.proofs.Common.{if◌then◌else◌, Option, Some, None, Ok, Err, List, [], ◌∷◌, length, length-append}
 use Rattle.std.proofs.Common.{refl, sym, ap, ap₂, subst, ◌∙◌, arith}
 use Rattle.proc_macro2.specs.Extent.{Extent}
-use Rattle.proc_macro2.specs.Forest.{Forest, nil, leaf, group, joined}
+use Rattle.proc_macro2.specs.Forest.{Forest, nil, leaf, group, chain}
 use Rattle.proc_macro2.specs.declared.ParseError.{ParseError}
 use Rattle.proc_macro2.specs.Leaf.{Mark}
 use Rattle.proc_macro2.specs.InOrder.{token_tree}
@@ -11,14 +11,14 @@ use Rattle.proc_macro2.specs.Steps.{Step, Leave, steps, steps_onto}
 use Rattle.proc_macro2.specs.Token as tokens
 use Rattle.proc_macro2.specs.Token.{Token, Name}
 use Rattle.proc_macro2.specs.declared.Group.{Group as Grouped}
-use Rattle.quoting.specs.Filled.{before_turn, comes, depth_limit, filled_by, followed, repeated, turns_from}
+use Rattle.quoting.specs.Filled.{before_turn, comes, depth_limit, filled_by, then_outcome, turns_outcome, turns_from}
 use Rattle.quoting.specs.Filled.{unless_fault}
 use Rattle.quoting.specs.Given.{UnlessMemory, gives, in_turns, repeats_of, separator_of, interpolation_of}
 use Rattle.quoting.specs.Given.{named_all}
 use Rattle.quoting.specs.Holes.{Named, Outcome, all_in_turn, filling_of, list_length}
 use Rattle.quoting.specs.Items.{Filling}
 use Rattle.quoting.specs.Interpolation.{Interpolation, Names, Repeats, interpolation}
-use Rattle.quoting.specs.Turns.{Check, and_then, checked, interpolation_checked, length_checked, name_checked}
+use Rattle.quoting.specs.Turns.{Check, and_then, check_turns, interpolation_checked, length_checked, name_checked}
 use Rattle.quoting.specs.Turns.{named_length, or_else, turns_of, turns_or}
 use Rattle.quoting.specs.Searched.{step_turns}
 use Rattle.quoting.specs.declared.errors.TemplateError.{TemplateError}
@@ -28,7 +28,7 @@ use Rattle.quoting.specs.declared.holes.Hole.{Hole}
 use Rattle.quoting.specs.declared.interpolation.Repetition.{Repetition}
 use Rattle.quoting.proofs.ItemLemmas.{in_all_more}
 use Rattle.quoting.proofs.SearchLemmas as search
-use Rattle.quoting.proofs.SearchLemmas.{found}
+use Rattle.quoting.proofs.SearchLemmas.{first_found}
 use Rattle.quoting.proofs.PartLemmas.{joined_assoc, joined_nil}
 use Rattle.quoting.proofs.FillLemmas.{followed_more}
 
@@ -36,7 +36,7 @@ use Rattle.quoting.proofs.FillLemmas.{followed_more}
 
 -- the number of turns by the steps that are left
 abbrev pub left_turns : List Named → List Step → Option ℕ
-left_turns holes = found (step_turns holes)
+left_turns holes = first_found (step_turns holes)
 
 token_interpolation : (token : Token) (lo hi : ℕ) (rest : Forest)
     → interpolation_of (token_tree token lo hi) rest ≡ interpolation token rest
@@ -68,45 +68,46 @@ left_turns-steps holes f = left_turns-onto holes f []
 
 -- the outcome of all turns is the trees so far, followed by the turns from the given one on
 abbrev pub TurnsOn : (ℕ → Outcome) → Forest → Outcome → Forest → ℕ → ℕ → Type 0
-TurnsOn given between all out turn end = all ≡ followed (Ok out) (turns_from given between turn (end - turn))
+TurnsOn given between all out turn end = all ≡ then_outcome (Ok out) (turns_from given between turn (end - turn))
 
 pub turns_begun : (given : ℕ → Outcome) (between out : Forest) (end : ℕ)
-    → TurnsOn given between (followed (Ok out) (turns_from given between 0 end)) out 0 end
+    → TurnsOn given between (then_outcome (Ok out) (turns_from given between 0 end)) out 0 end
 turns_begun given between out end =
     let all : end ≡ end - 0 = omega arith in
-    ap (λ n. followed (Ok out) (turns_from given between 0 n)) all
+    ap (λ n. then_outcome (Ok out) (turns_from given between 0 n)) all
 
 one_more : (turn end : ℕ) → turn < end → end - turn ≡ suc (end - suc turn)
 one_more turn end within = omega (arith, within)
 
 pub turn_more : (given : ℕ → Outcome) (between : Forest) (all : Outcome) (out new part : Forest) (turn end : ℕ)
     → TurnsOn given between all out turn end → turn < end → given turn ≡ Ok part
-    → new ≡ joined (joined out (before_turn between turn)) part → TurnsOn given between all new (turn + 1) end
+    → new ≡ chain (chain out (before_turn between turn)) part → TurnsOn given between all new (turn + 1) end
 turn_more given between all out new part turn end so_far within gives put =
     let later = turns_from given between (suc turn) (end - suc turn) in
     let next : suc turn ≡ turn + 1 = omega arith in
     subst (λ n. TurnsOn given between all new n end) next
     (so_far
-    ∙ (ap (λ n. followed (Ok out) (turns_from given between turn n)) (one_more turn end within)
-    ∙ (ap (λ o. followed (Ok out) (followed (followed (Ok (before_turn between turn)) o) later)) gives
-    ∙ (followed_more out (joined (before_turn between turn) part) later
-    ∙ ap (λ f. followed (Ok f) later) (sym (joined_assoc out (before_turn between turn) part) ∙ sym put)))))
+    ∙ (ap (λ n. then_outcome (Ok out) (turns_from given between turn n)) (one_more turn end within)
+    ∙ (ap (λ o. then_outcome (Ok out) (then_outcome (then_outcome (Ok (before_turn between turn)) o) later)) gives
+    ∙ (followed_more out (chain (before_turn between turn) part) later
+    ∙ ap (λ f. then_outcome (Ok f) later) (sym (joined_assoc out (before_turn between turn) part) ∙ sym put)))))
 
 pub turn_fault : (given : ℕ → Outcome) (between : Forest) (all : Outcome) (out : Forest) (fault : TemplateError)
     (turn end : ℕ)
     → TurnsOn given between all out turn end → turn < end → given turn ≡ Err fault → all ≡ Err fault
 turn_fault given between all out fault turn end so_far within gives =
     so_far
-    ∙ (ap (λ n. followed (Ok out) (turns_from given between turn n)) (one_more turn end within)
-    ∙ ap (λ o. followed (Ok out)
-    (followed (followed (Ok (before_turn between turn)) o) (turns_from given between (suc turn) (end - suc turn))))
+    ∙ (ap (λ n. then_outcome (Ok out) (turns_from given between turn n)) (one_more turn end within)
+    ∙ ap (λ o. then_outcome (Ok out)
+    (then_outcome (then_outcome (Ok (before_turn between turn)) o)
+    (turns_from given between (suc turn) (end - suc turn))))
     gives)
 
 pub turns_ended : (given : ℕ → Outcome) (between : Forest) (all : Outcome) (out : Forest) (turn end : ℕ)
     → TurnsOn given between all out turn end → turn ≡ end → all ≡ Ok out
 turns_ended given between all out turn end so_far same =
     let none : end - turn ≡ 0 = omega (arith, same) in
-    so_far ∙ (ap (λ n. followed (Ok out) (turns_from given between turn n)) none ∙ ap Ok (joined_nil out))
+    so_far ∙ (ap (λ n. then_outcome (Ok out) (turns_from given between turn n)) none ∙ ap Ok (joined_nil out))
 
 -- ---- repetitions
 
@@ -120,15 +121,15 @@ before_none (suc turn) = refl
 
 -- before the first turn, or without a separator, nothing is added
 pub nothing_between : (stream between : Forest) (turn : ℕ) → turn ≡ 0
-    → stream ≡ joined stream (before_turn between turn)
+    → stream ≡ chain stream (before_turn between turn)
 nothing_between stream between zero none = sym (joined_nil stream)
 nothing_between stream between (suc turn) none = absurd (omega (arith, none))
 
 pub no_separator : (stream : Forest) (separator : Option (Bor Mark)) (turn : ℕ) → separator ≡ None
-    → stream ≡ joined stream (before_turn (separator_of separator) turn)
+    → stream ≡ chain stream (before_turn (separator_of separator) turn)
 no_separator stream separator turn none =
-    sym (ap (λ s. joined stream (before_turn (separator_of s) turn)) none
-    ∙ (ap (joined stream) (before_none turn) ∙ joined_nil stream))
+    sym (ap (λ s. chain stream (before_turn (separator_of s) turn)) none
+    ∙ (ap (chain stream) (before_none turn) ∙ joined_nil stream))
 
 -- `gives` inside one more repetition, in a turn of it
 turn_given : (holes : List Hole) (turns : List ℕ) (turn : ℕ) → length turns < depth_limit
@@ -148,7 +149,7 @@ checked_turns : (holes : List Hole) (turns : List ℕ) (depth inner count : ℕ)
     → turns_of (in_turns holes turns) trees ≡ Some count
     → gives holes turns depth (repeats_of repetition)
     ≡ unless_fault (turn_of holes turns inner repetition.body.now.stream) (separator_of repetition.separator) count
-    (checked (in_turns holes turns) inner count trees)
+    (check_turns (in_turns holes turns) inner count trees)
 checked_turns holes turns depth inner count repetition trees few deep whole counts =
     let body = repetition.body.now in
     let between = separator_of repetition.separator in
@@ -157,15 +158,15 @@ checked_turns holes turns depth inner count repetition trees few deep whole coun
     let more = depth_limit - suc (length turns) in
     let plain : ℕ → Outcome = λ turn. filled_by (comes more (all_in_turn turn here)) inner 0 body.stream in
     ap₂ (λ n d. comes n here d (repeats_of repetition)) (limit_left (length turns) room) deep
-    ∙ (ap (repeated here plain inner body.stream body.span between)
+    ∙ (ap (turns_outcome here plain inner body.stream body.span between)
     (ap (turns_of here) (sym whole) ∙ counts)
-    ∙ (ap (λ f. unless_fault plain between count (checked here inner count f)) (sym whole)
-    ∙ ap (λ (f : ℕ → Outcome). unless_fault f between count (checked here inner count trees))
+    ∙ (ap (λ f. unless_fault plain between count (check_turns here inner count f)) (sym whole)
+    ∙ ap (λ (f : ℕ → Outcome). unless_fault f between count (check_turns here inner count trees))
     (λ i turn. filled_by (sym (turn_given holes turns turn room) i) inner 0 body.stream)))
 
 pub all_turns : (holes : List Hole) (turns : List ℕ) (depth inner count : ℕ) (repetition : Repetition) (trees : Forest)
     → length turns + depth ≤ depth_limit → depth ≡ suc inner → trees ≡ repetition.body.now.stream
-    → turns_of (in_turns holes turns) trees ≡ Some count → checked (in_turns holes turns) inner count trees ≡ Ok tt
+    → turns_of (in_turns holes turns) trees ≡ Some count → check_turns (in_turns holes turns) inner count trees ≡ Ok tt
     → gives holes turns depth (repeats_of repetition)
     ≡ turns_from (turn_of holes turns inner repetition.body.now.stream) (separator_of repetition.separator) 0 count
 all_turns holes turns depth inner count repetition trees few deep whole counts checks =
@@ -186,7 +187,7 @@ no_list holes turns depth inner repetition trees few deep whole counts =
     let more = depth_limit - suc (length turns) in
     let plain : ℕ → Outcome = λ turn. filled_by (comes more (all_in_turn turn here)) inner 0 body.stream in
     ap₂ (λ n d. comes n here d (repeats_of repetition)) (limit_left (length turns) room) deep
-    ∙ ap (repeated here plain inner body.stream body.span between) (ap (turns_of here) (sym whole) ∙ counts)
+    ∙ ap (turns_outcome here plain inner body.stream body.span between) (ap (turns_of here) (sym whole) ∙ counts)
 
 too_deep_by : (more : ℕ) (here : List Named) (repetition : Repetition)
     → comes more here 0 (repeats_of repetition) ≡ Err (TooDeep repetition.body.now.span)
@@ -232,15 +233,15 @@ both_parse (Err fault) more error first_parses more_parses h = first_parses h
 both_parse (Ok done) more error first_parses more_parses h = more_parses h
 
 body_parses : (holes : List Named) (depth turns : ℕ) (body : Forest) (error : ParseError)
-    → checked holes depth turns body ≡ Err (Parse error) → ⊥
+    → check_turns holes depth turns body ≡ Err (Parse error) → ⊥
 body_parses holes depth turns nil error h = absurd (cc)
 body_parses holes depth turns (leaf token lo hi rest) error h =
-    both_parse (interpolation_checked holes turns (interpolation token rest)) (checked holes depth turns rest) error
+    both_parse (interpolation_checked holes turns (interpolation token rest)) (check_turns holes depth turns rest) error
     (interpolation_parses holes turns (interpolation token rest) error)
     (body_parses holes depth turns rest error) h
 body_parses holes zero turns (group d lo hi inside rest) error h = absurd (cc)
 body_parses holes (suc depth) turns (group d lo hi inside rest) error h =
-    both_parse (checked holes depth turns inside) (checked holes (suc depth) turns rest) error
+    both_parse (check_turns holes depth turns inside) (check_turns holes (suc depth) turns rest) error
     (body_parses holes depth turns inside error) (body_parses holes (suc depth) turns rest error) h
 
 of_template : (fault : TemplateError) (P : Type 0) → ((error : ParseError) → fault ≡ Parse error → ⊥) → P
@@ -258,7 +259,8 @@ of_template (Memory error) P other h = tt
 pub checked_fault : (holes : List Hole) (turns : List ℕ) (depth inner count : ℕ) (repetition : Repetition)
     (trees : Forest) (fault : TemplateError)
     → length turns + depth ≤ depth_limit → depth ≡ suc inner → trees ≡ repetition.body.now.stream
-    → turns_of (in_turns holes turns) trees ≡ Some count → checked (in_turns holes turns) inner count trees ≡ Err fault
+    → turns_of (in_turns holes turns) trees ≡ Some count
+    → check_turns (in_turns holes turns) inner count trees ≡ Err fault
     → UnlessMemory fault (gives holes turns depth (repeats_of repetition) ≡ Err fault)
 checked_fault holes turns depth inner count repetition trees fault few deep whole counts checks =
     of_template fault _ (λ error is. body_parses (in_turns holes turns) inner count trees error (checks ∙ ap Err is))

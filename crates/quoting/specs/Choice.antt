@@ -13,14 +13,14 @@ unspaced_token (Mark c joint) = Mark c false
 unspaced_token (Literal text) = Literal text
 
 -- the stream, in which each mark at any depth is Alone
-abbrev pub unspaced : Forest → Forest
-unspaced nil = nil
-unspaced (leaf token lo hi rest) = leaf (unspaced_token token) lo hi (unspaced rest)
-unspaced (group d lo hi inside rest) = group d lo hi (unspaced inside) (unspaced rest)
+abbrev pub all_alone : Forest → Forest
+all_alone nil = nil
+all_alone (leaf token lo hi rest) = leaf (unspaced_token token) lo hi (all_alone rest)
+all_alone (group d lo hi inside rest) = group d lo hi (all_alone inside) (all_alone rest)
 
 -- whether both streams have the same trees with the same spans, spacings of marks aside
 abbrev pub IsChoiceFor : Forest → Forest → Type 0
-IsChoiceFor stream chosen = unspaced chosen ≡ unspaced stream
+IsChoiceFor stream chosen = all_alone chosen ≡ all_alone stream
 
 -- whether no choice of spacings makes the stream well spaced
 abbrev pub IsHopeless : Forest → Type 0

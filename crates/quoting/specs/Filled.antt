@@ -1,19 +1,19 @@
 -- What a template becomes when its holes are filled.
 use Rattle.std.specs.Prelude.{ℕ, Bool, true, false, zero, suc, List, Option, Some, None, Ok, Err}
 use Rattle.proc_macro2.specs.Extent.{Extent}
-use Rattle.proc_macro2.specs.Forest.{Forest, nil, leaf, group, joined}
+use Rattle.proc_macro2.specs.Forest.{Forest, nil, leaf, group, chain}
 use Rattle.proc_macro2.specs.Token.{Token, Name, Mark, Literal}
 use Rattle.proc_macro2.specs.declared.Delimiter.{Delimiter}
 use Rattle.quoting.specs.Holes.{Named, Outcome, all_in_turn, filling_of, put_in}
-use Rattle.quoting.specs.Interpolation.{Interpolation, Names, Repeats, interpolation, taken}
-use Rattle.quoting.specs.Turns.{Check, checked, turns_of}
+use Rattle.quoting.specs.Interpolation.{Interpolation, Names, Repeats, interpolation, tree_count}
+use Rattle.quoting.specs.Turns.{Check, check_turns, turns_of}
 use Rattle.quoting.specs.declared.errors.TemplateError.TheVariants.{NoList, TooDeep}
 
 -- two outcomes one after the other. An error of the first comes before one of the second
-abbrev pub followed : Outcome → Outcome → Outcome
-followed (Err fault) more = Err fault
-followed (Ok stream) (Err fault) = Err fault
-followed (Ok stream) (Ok more) = Ok (joined stream more)
+abbrev pub then_outcome : Outcome → Outcome → Outcome
+then_outcome (Err fault) more = Err fault
+then_outcome (Ok stream) (Err fault) = Err fault
+then_outcome (Ok stream) (Ok more) = Ok (chain stream more)
 
 -- a group of the outcome, or its error
 abbrev pub enclosed_in : Delimiter → ℕ → ℕ → Outcome → Outcome
@@ -21,9 +21,9 @@ enclosed_in d lo hi (Err fault) = Err fault
 enclosed_in d lo hi (Ok inside) = Ok (group d lo hi inside nil)
 
 -- the token, or the trees that replace the hole or repetition that it begins
-abbrev pub replaced : (Interpolation → Outcome) → Token → ℕ → ℕ → Option Interpolation → Outcome
-replaced gives token lo hi None = Ok (leaf token lo hi nil)
-replaced gives token lo hi (Some found) = gives found
+abbrev pub replacement : (Interpolation → Outcome) → Token → ℕ → ℕ → Option Interpolation → Outcome
+replacement gives token lo hi None = Ok (leaf token lo hi nil)
+replacement gives token lo hi (Some found) = gives found
 
 -- whether a hole or a repetition was found
 abbrev pub is_found : Option Interpolation → Bool
@@ -48,13 +48,13 @@ set_apart true (Literal text) = Literal text
 abbrev pub filled_by : (ℕ → Interpolation → Outcome) → ℕ → ℕ → Forest → Outcome
 filled_by gives depth passed nil = Ok nil
 filled_by gives depth zero (leaf token lo hi rest) =
-    followed (replaced (gives depth) (set_apart (has_meaning rest) token) lo hi (interpolation token rest))
-    (filled_by gives depth (taken (interpolation token rest)) rest)
+    then_outcome (replacement (gives depth) (set_apart (has_meaning rest) token) lo hi (interpolation token rest))
+    (filled_by gives depth (tree_count (interpolation token rest)) rest)
 filled_by gives depth (suc passed) (leaf token lo hi rest) = filled_by gives depth passed rest
 filled_by gives depth (suc passed) (group d lo hi inside rest) = filled_by gives depth passed rest
 filled_by gives zero zero (group d lo hi inside rest) = Err (TooDeep (record { lo = lo; hi = hi }))
 filled_by gives (suc depth) zero (group d lo hi inside rest) =
-    followed (enclosed_in d lo hi (filled_by gives depth 0 inside)) (filled_by gives (suc depth) 0 rest)
+    then_outcome (enclosed_in d lo hi (filled_by gives depth 0 inside)) (filled_by gives (suc depth) 0 rest)
 
 -- the separator before a turn. The first turn has none
 abbrev pub before_turn : Forest → ℕ → Forest
@@ -65,7 +65,7 @@ before_turn between (suc turn) = between
 abbrev pub turns_from : (ℕ → Outcome) → Forest → ℕ → ℕ → Outcome
 turns_from gives between turn zero = Ok nil
 turns_from gives between turn (suc more) =
-    followed (followed (Ok (before_turn between turn)) (gives turn)) (turns_from gives between (suc turn) more)
+    then_outcome (then_outcome (Ok (before_turn between turn)) (gives turn)) (turns_from gives between (suc turn) more)
 
 -- a repetition of the given number of turns, or the error of the names inside
 abbrev pub unless_fault : (ℕ → Outcome) → Forest → ℕ → Check → Outcome
@@ -73,10 +73,10 @@ unless_fault gives between turns (Err fault) = Err fault
 unless_fault gives between turns (Ok done) = turns_from gives between 0 turns
 
 -- a repetition of the given number of turns, or `NoList` if it names no list. `NoList` comes before errors inside
-abbrev pub repeated : List Named → (ℕ → Outcome) → ℕ → Forest → Extent → Forest → Option ℕ → Outcome
-repeated holes gives depth body span between None = Err (NoList span)
-repeated holes gives depth body span between (Some turns) =
-    unless_fault gives between turns (checked holes depth turns body)
+abbrev pub turns_outcome : List Named → (ℕ → Outcome) → ℕ → Forest → Extent → Forest → Option ℕ → Outcome
+turns_outcome holes gives depth body span between None = Err (NoList span)
+turns_outcome holes gives depth body span between (Some turns) =
+    unless_fault gives between turns (check_turns holes depth turns body)
 
 -- the trees that replace a hole or a repetition. Repetitions may nest up to `more` deep, and groups up to `depth` deep.
 -- In a turn of a repetition every list is its value for the turn, also in the repetitions inside. So a list is used up
@@ -86,7 +86,7 @@ comes more holes depth (Names name span) = put_in span (filling_of holes name)
 comes zero holes depth (Repeats body span between) = Err (TooDeep span)
 comes (suc more) holes zero (Repeats body span between) = Err (TooDeep span)
 comes (suc more) holes (suc depth) (Repeats body span between) =
-    repeated holes (λ turn. filled_by (comes more (all_in_turn turn holes)) depth 0 body) depth body span between
+    turns_outcome holes (λ turn. filled_by (comes more (all_in_turn turn holes)) depth 0 body) depth body span between
     (turns_of holes body)
 
 -- the number of groups that may be nested in a template, and so of repetitions
@@ -96,5 +96,5 @@ depth_limit = 64
 -- `filled`: the template with its holes filled, or its first error in reading order, where a group comes before its
 -- contents. So `NoList` comes before any error inside the repetition. At one pair of parentheses `TooDeep` comes before
 -- `NoList`. In a repetition the errors of the names come first, and then those of its turns in order
-abbrev pub filled : List Named → Forest → Outcome
-filled holes template = filled_by (comes depth_limit holes) depth_limit 0 template
+abbrev pub fill_template : List Named → Forest → Outcome
+fill_template holes template = filled_by (comes depth_limit holes) depth_limit 0 template

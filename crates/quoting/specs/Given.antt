@@ -31,11 +31,11 @@ use Rattle.quoting.specs.declared.holes.Filling.{Filling as Filler}
 use Rattle.quoting.specs.declared.holes.Filling.TheVariants.{One as OneStream, Each as EachStream, Of as OfValue}
 use Rattle.quoting.specs.declared.holes.Filling.TheVariants.{Tree as OfTree, Ident as OfIdent, Literal as OfLiteral}
 use Rattle.quoting.specs.declared.holes.Filling.TheVariants.{Text as OfText, Item as OfItem}
-use Rattle.quoting.specs.Kept.{kept}
+use Rattle.quoting.specs.Kept.{item_filling}
 use Rattle.quoting.specs.Values.{plain_literal, value_of}
 use Rattle.quoting.specs.declared.holes.Hole.{Hole}
 use Rattle.quoting.specs.declared.holes.HoleName.{HoleName}
-use Rattle.quoting.specs.declared.holes.HoleName.TheVariants.{Word, Digits}
+use Rattle.quoting.specs.declared.holes.HoleName.TheVariants.{IdentName, Digits}
 use Rattle.quoting.specs.declared.interpolation.Repetition.{Repetition}
 use Rattle.quoting.specs.declared.interpolation.FoundInterpolation.{FoundInterpolation as Found}
 use Rattle.quoting.specs.declared.interpolation.FoundInterpolation.TheVariants.{Names as FoundName}
@@ -50,7 +50,7 @@ filling_by (OfTree tree) = One (split tree.now)
 filling_by (OfIdent ident) = One (alone (Ident ident.now))
 filling_by (OfLiteral literal) = One (split (Literal literal.now))
 filling_by (OfText text) = One (plain_literal (string_text (chars text.now)))
-filling_by (OfItem value) = kept value.now
+filling_by (OfItem value) = item_filling value.now
 
 -- the filling that was found, if any
 abbrev pub looked_up : Option Filler → Option Filling
@@ -58,13 +58,13 @@ looked_up None = None
 looked_up (Some filler) = Some (filling_by filler)
 
 -- the hole's name and its filling
-abbrev pub named : Hole → Named
-named hole = record { name = chars hole.name.now; filling = filling_by hole.filling }
+abbrev pub name_and_filling : Hole → Named
+name_and_filling hole = record { name = chars hole.name.now; filling = filling_by hole.filling }
 
 -- the names and the fillings of the holes
 abbrev pub named_all : List Hole → List Named
 named_all [] = []
-named_all (hole ∷ holes) = named hole ∷ named_all holes
+named_all (hole ∷ holes) = name_and_filling hole ∷ named_all holes
 
 -- the holes in the given turns of repetitions, the outermost first
 abbrev pub in_all : List ℕ → List Named → List Named
@@ -77,12 +77,12 @@ in_turns holes turns = in_all turns (named_all holes)
 
 -- the text of a name
 abbrev pub text_of : HoleName → List ℕ
-text_of (Word ident) = token_text (name_token ident.now)
+text_of (IdentName ident) = token_text (name_token ident.now)
 text_of (Digits literal) = literal.now.text
 
 -- the span of a name
 abbrev pub span_of : HoleName → Extent
-span_of (Word ident) = ident.now.span
+span_of (IdentName ident) = ident.now.span
 span_of (Digits literal) = literal.now.span
 
 -- the hole that a name after a `#` stands for
@@ -101,14 +101,14 @@ repeats_of repetition =
     Repeats repetition.body.now.stream repetition.body.now.span (separator_of repetition.separator)
 
 -- a hole or repetition of the code as an `Interpolation`
-abbrev pub seen : Found → Interpolation
-seen (FoundName name rest) = Names (text_of name) (span_of name)
-seen (FoundRepetition repetition rest) = repeats_of repetition
+abbrev pub interpolation_in : Found → Interpolation
+interpolation_in (FoundName name rest) = Names (text_of name) (span_of name)
+interpolation_in (FoundRepetition repetition rest) = repeats_of repetition
 
 -- the `Interpolation` of what was found, if any
 abbrev pub begun_as : Option Found → Option Interpolation
 begun_as None = None
-begun_as (Some found) = Some (seen found)
+begun_as (Some found) = Some (interpolation_in found)
 
 -- the trees after a hole or a repetition
 abbrev pub rest_of : Found → List TokenTree

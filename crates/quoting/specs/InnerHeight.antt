@@ -3,14 +3,14 @@ use Rattle.std.specs.Prelude.{◌≤◌, List, [], ◌∷◌, max}
 use Rattle.std.proofs.Common.{arith}
 use denote.Param.Weighed.{most}
 use Rattle.quoting.specs.Items.{Items, item, height}
-use Rattle.quoting.specs.Kept.{items_of, kept}
+use Rattle.quoting.specs.Kept.{items_of, item_filling}
 use Rattle.quoting.specs.declared.values.Item.{Item}
 use Rattle.quoting.specs.declared.values.Item.TheVariants.{Stream, Tree, NotIdent, NotFinite}
 use Rattle.quoting.specs.declared.values.Item.TheVariants.{List as Listed}
 use Rattle.quoting.specs.declared.values.Values.TheDeep.{deep-Item}
 
 -- the height of a list is at least that of its first value and that of the rest
-pub deep_le : (value : Item) (f : Items) → max (deep-Item value) (height f) ≤ height (item (kept value) f)
+pub deep_le : (value : Item) (f : Items) → max (deep-Item value) (height f) ≤ height (item (item_filling value) f)
 deep_le (Stream stream) f = omega arith
 deep_le (Tree tree) f = omega arith
 deep_le NotIdent f = omega arith

@@ -17,10 +17,10 @@ pub data Interpolation : Type 0 where
   Repeats : Forest → Extent → Forest → Interpolation
 
 -- the number of trees of the hole or repetition after its `#`
-abbrev pub taken : Option Interpolation → ℕ
-taken None = 0
-taken (Some (Names name span)) = 1
-taken (Some (Repeats body span separator)) = 2 + count separator
+abbrev pub tree_count : Option Interpolation → ℕ
+tree_count None = 0
+tree_count (Some (Names name span)) = 1
+tree_count (Some (Repeats body span separator)) = 2 + count separator
 
 -- whether the token is the mark with the given character
 abbrev pub is_mark_of : ℕ → Token → Bool
@@ -29,21 +29,21 @@ is_mark_of c (Mark d joint) = d == c
 is_mark_of c (Literal text) = false
 
 -- whether the trees begin with `*`
-abbrev pub starred : Forest → Bool
-starred nil = false
-starred (leaf token lo hi rest) = is_mark_of 42 token
-starred (group d lo hi inside rest) = false
+abbrev pub begins_star : Forest → Bool
+begins_star nil = false
+begins_star (leaf token lo hi rest) = is_mark_of 42 token
+begins_star (group d lo hi inside rest) = false
 
 -- the token as a separator, if it is a mark before `*`. It is Alone, since the `*` is not part of the result
-abbrev pub separated : Token → ℕ → ℕ → Forest → Option Forest
-separated (Name raw name) lo hi rest = None
-separated (Mark c joint) lo hi rest = if starred rest then Some (leaf (Mark c false) lo hi nil) else None
-separated (Literal text) lo hi rest = None
+abbrev pub separator_trees : Token → ℕ → ℕ → Forest → Option Forest
+separator_trees (Name raw name) lo hi rest = None
+separator_trees (Mark c joint) lo hi rest = if begins_star rest then Some (leaf (Mark c false) lo hi nil) else None
+separator_trees (Literal text) lo hi rest = None
 
 -- the separator at the start of the trees: nothing before `*`, or the mark before a `*`
 abbrev pub separator : Forest → Option Forest
 separator nil = None
-separator (leaf token lo hi rest) = if is_mark_of 42 token then Some nil else separated token lo hi rest
+separator (leaf token lo hi rest) = if is_mark_of 42 token then Some nil else separator_trees token lo hi rest
 separator (group d lo hi inside rest) = None
 
 -- the repetition of the trees in parentheses, if a separator or `*` follows them

@@ -7,12 +7,12 @@ use Rattle.quoting.specs.declared.values.Item.TheVariants.{Stream, Tree, NotIden
 use Rattle.quoting.specs.declared.values.Item.TheVariants.{List as Listed}
 
 -- what a value of a list stands for
-abbrev pub kept : Item → Filling
-kept (Stream stream) = One stream
-kept (Tree tree) = One (split tree)
-kept NotIdent = Unfit no_name
-kept NotFinite = Unfit no_number
-kept (Listed values) = Each values
+abbrev pub item_filling : Item → Filling
+item_filling (Stream stream) = One stream
+item_filling (Tree tree) = One (split tree)
+item_filling NotIdent = Unfit no_name
+item_filling NotFinite = Unfit no_number
+item_filling (Listed values) = Each values
 
 abbrev pub items_of : List Item → Items
-items_of = each_of kept
+items_of = each_of item_filling

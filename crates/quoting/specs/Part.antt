@@ -2,14 +2,14 @@
 use Rattle.std.specs.Prelude.{ℕ, ◌≡◌, refl, List, [], ◌∷◌, Option, Some, None, take}
 use Rattle.std.specs.Coded.{Coded, code_by, coded×, coded_list}
 use Rattle.proc_macro2.specs.Codec.{coded_forest}
-use Rattle.proc_macro2.specs.Forest.{Forest, nil, leaf, group, joined}
+use Rattle.proc_macro2.specs.Forest.{Forest, nil, leaf, group, chain}
 use Rattle.proc_macro2.specs.Leaf.{mark_token}
 use Rattle.proc_macro2.specs.Trees.{alone, forest}
 use Rattle.proc_macro2.specs.Token.{Token}
 use Rattle.proc_macro2.specs.contracts.TokenTree as tree
 use Rattle.proc_macro2.specs.declared.TokenTree.{TokenTree}
 use Rattle.proc_macro2.specs.declared.TokenTree.TheVariants.{Group, Ident, Punct, Literal}
-use Rattle.quoting.specs.Respaced.{respaced, respaced_token}
+use Rattle.quoting.specs.Respaced.{respace_marks, respaced_token}
 
 -- the trees of a list, its first trees after respacing, and the trees that are left
 pub record Part : Type 0 where
@@ -30,8 +30,8 @@ done_of None count trees = forest (take count trees)
 done_of (Some changed) count trees = changed
 
 -- the list when all of it is respaced
-abbrev pub ended : Part → Forest
-ended part = joined part.done (respaced (forest part.left))
+abbrev pub part_result : Part → Forest
+part_result part = chain part.done (respace_marks (forest part.left))
 
 -- the respaced tree, if it is no group
 abbrev pub respaced_alone : TokenTree → Option Token → Forest
@@ -49,12 +49,12 @@ IsOpen (Punct p ∷ after) inside = ⊥
 IsOpen (Literal l ∷ after) inside = ⊥
 
 -- the first tree, which is a group, with the given contents
-abbrev pub enclosed : List TokenTree → Forest → Forest
-enclosed [] inside = nil
-enclosed (Group g ∷ after) inside = group g.delimiter g.span.lo g.span.hi inside nil
-enclosed (Ident i ∷ after) inside = nil
-enclosed (Punct p ∷ after) inside = nil
-enclosed (Literal l ∷ after) inside = nil
+abbrev pub first_group : List TokenTree → Forest → Forest
+first_group [] inside = nil
+first_group (Group g ∷ after) inside = group g.delimiter g.span.lo g.span.hi inside nil
+first_group (Ident i ∷ after) inside = nil
+first_group (Punct p ∷ after) inside = nil
+first_group (Literal l ∷ after) inside = nil
 
 -- the trees after the first
 abbrev pub others : List TokenTree → List TokenTree
@@ -64,5 +64,5 @@ others (tree ∷ trees) = trees
 -- the first tree that was left is done and became the given trees. Nothing else changed
 pub record Adds (old : Part) (first : Forest) (new : Part) : Type 0 where
   pub whole : new.whole ≡ old.whole
-  pub done : new.done ≡ joined old.done first
+  pub done : new.done ≡ chain old.done first
   pub left : new.left ≡ others old.left

@@ -16,7 +16,7 @@ respaced_token (Mark c joint) next = Mark c (is_kept_joint c joint next)
 respaced_token (Literal text) next = Literal text
 
 -- `respaced`: the same trees with the same spans at any depth, in which each mark is respaced
-abbrev pub respaced : Forest → Forest
-respaced nil = nil
-respaced (leaf token lo hi rest) = leaf (respaced_token token (next_token rest)) lo hi (respaced rest)
-respaced (group d lo hi inside rest) = group d lo hi (respaced inside) (respaced rest)
+abbrev pub respace_marks : Forest → Forest
+respace_marks nil = nil
+respace_marks (leaf token lo hi rest) = leaf (respaced_token token (next_token rest)) lo hi (respace_marks rest)
+respace_marks (group d lo hi inside rest) = group d lo hi (respace_marks inside) (respace_marks rest)

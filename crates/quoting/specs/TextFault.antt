@@ -4,7 +4,7 @@ use Rattle.proc_macro2.specs.Files.{Files, with_file}
 use Rattle.proc_macro2.specs.Forest.{Forest}
 use Rattle.proc_macro2.specs.Parsing.{FaultAt, ParsesTo}
 use Rattle.proc_macro2.specs.declared.ParseError.TheVariants.{Lex, MapFull, Memory as NoMemory}
-use Rattle.quoting.specs.Filled.{filled}
+use Rattle.quoting.specs.Filled.{fill_template}
 use Rattle.quoting.specs.Holes.{Named}
 use Rattle.quoting.specs.declared.errors.TemplateError.{TemplateError}
 use Rattle.quoting.specs.declared.errors.TemplateError.TheVariants.{NoHole, LoneList, NoList, UnequalLists}
@@ -13,7 +13,7 @@ use Rattle.quoting.specs.declared.errors.TemplateError.TheVariants.{NotIdent, No
 -- whether the text parses to a template that has the given error
 abbrev pub IsTemplateFault : ℕ → List ℕ → List Named → TemplateError → Type 0
 IsTemplateFault first text holes fault =
-    (template : Forest) × ParsesTo first text template × (filled holes template ≡ Err fault)
+    (template : Forest) × ParsesTo first text template × (fill_template holes template ≡ Err fault)
 
 -- the error is that of the template, or the syntax error of its text. After `Memory` the text parses; after
 -- `Parse(Memory)` nothing is known

@@ -61,10 +61,10 @@ interpolation_checked holes turns (Some (Repeats body span between)) = Ok tt
 
 -- checks the names in the trees of a repetition of `turns` turns, at any depth and also in the repetitions inside it.
 -- Groups may nest up to `depth` deep
-abbrev pub checked : List Named → ℕ → ℕ → Forest → Check
-checked holes depth turns nil = Ok tt
-checked holes depth turns (leaf token lo hi rest) =
-    and_then (interpolation_checked holes turns (interpolation token rest)) (checked holes depth turns rest)
-checked holes zero turns (group d lo hi inside rest) = Err (TooDeep (record { lo = lo; hi = hi }))
-checked holes (suc depth) turns (group d lo hi inside rest) =
-    and_then (checked holes depth turns inside) (checked holes (suc depth) turns rest)
+abbrev pub check_turns : List Named → ℕ → ℕ → Forest → Check
+check_turns holes depth turns nil = Ok tt
+check_turns holes depth turns (leaf token lo hi rest) =
+    and_then (interpolation_checked holes turns (interpolation token rest)) (check_turns holes depth turns rest)
+check_turns holes zero turns (group d lo hi inside rest) = Err (TooDeep (record { lo = lo; hi = hi }))
+check_turns holes (suc depth) turns (group d lo hi inside rest) =
+    and_then (check_turns holes depth turns inside) (check_turns holes (suc depth) turns rest)

@@ -1,7 +1,7 @@
 //! A builder of streams that shares a stream while it is the only one that was added.
 ghost use Rattle.std.specs.Prelude.{◌≡◌, ◌≤◌, ◌<◌, ◌+◌, ◌++◌, ◌∷◌, [], IfOk, OnErr, OnOk, drop, length, take};
 ghost use Rattle.std.specs.Prelude.{vec_capacity, vec_len};
-ghost use Rattle.proc_macro2.specs.Forest.{IsBuilt, joined, nil};
+ghost use Rattle.proc_macro2.specs.Forest.{IsBuilt, chain, nil};
 ghost use Rattle.proc_macro2.specs.Trees.{alone, forest, GoesInside};
 
 use pm_stream::parts;
@@ -87,12 +87,12 @@ impl StreamBuilder {
     #[inline(always)]
     pub(crate) fn put(&mut self, tree: TokenTree, more: usize) -> Result<(), AllocError>
         requires { GoesInside tree }
-        ensures { OnOk result (self.new ≡ joined self.old (alone tree)) }
+        ensures { OnOk result (self.new ≡ chain self.old (alone tree)) }
     {
         match &mut self.trees {
             Trees::Listed(list) => push(list, tree)?,
             Trees::Shared(stream) => {
-                let mut list = listed(self.alloc, stream, more.saturating_add(1))?;
+                let mut list = copy_list(self.alloc, stream, more.saturating_add(1))?;
                 push(&mut list, tree)?;
                 self.trees = Trees::Listed(list);
             }
@@ -104,12 +104,12 @@ impl StreamBuilder {
     #[inline(always)]
     pub(crate) fn put_copy(&mut self, tree: &TokenTree, more: usize) -> Result<(), AllocError>
         requires { GoesInside tree.now }
-        ensures { OnOk result (self.new ≡ joined self.old (alone tree.now)) }
+        ensures { OnOk result (self.new ≡ chain self.old (alone tree.now)) }
     {
         match &mut self.trees {
             Trees::Listed(list) => copy_onto(list, tree)?,
             Trees::Shared(stream) => {
-                let mut list = listed(self.alloc, stream, more.saturating_add(1))?;
+                let mut list = copy_list(self.alloc, stream, more.saturating_add(1))?;
                 copy_onto(&mut list, tree)?;
                 self.trees = Trees::Listed(list);
             }
@@ -121,7 +121,7 @@ impl StreamBuilder {
     #[inline(never)]
     fn copy(&mut self, trees: &[TokenTree], more: usize) -> Result<(), AllocError>
         requires { IsBuilt (forest trees.now) }
-        ensures { OnOk result (self.new ≡ joined self.old (forest trees.now)) }
+        ensures { OnOk result (self.new ≡ chain self.old (forest trees.now)) }
     {
         match &mut self.trees {
             Trees::Listed(list) => {
@@ -130,7 +130,7 @@ impl StreamBuilder {
                 push_copies(list, trees)?;
             }
             Trees::Shared(stream) => {
-                let mut list = listed(self.alloc, stream, more.saturating_add(trees.len()))?;
+                let mut list = copy_list(self.alloc, stream, more.saturating_add(trees.len()))?;
                 push_copies(&mut list, trees)?;
                 self.trees = Trees::Listed(list);
             }
@@ -140,7 +140,7 @@ impl StreamBuilder {
 
     /// Adds the trees of the stream at the end. About `more` trees are expected after them.
     pub(crate) fn append(&mut self, stream: &TokenStream, more: usize) -> Result<(), AllocError>
-        ensures { OnOk result (self.new ≡ joined self.old stream.now) }
+        ensures { OnOk result (self.new ≡ chain self.old stream.now) }
     {
         if let Trees::Shared(first) = &self.trees {
             if first.is_empty() {
@@ -171,7 +171,7 @@ impl StreamBuilder {
 
 /// Returns a list of copies of the stream's trees, with room for `more` trees but at most `MOST_ROOM` in all.
 #[inline(never)]
-fn listed(alloc: Global, stream: &TokenStream, more: usize) -> Result<Vec<TokenTree>, AllocError>
+fn copy_list(alloc: Global, stream: &TokenStream, more: usize) -> Result<Vec<TokenTree>, AllocError>
     ensures ok { IfOk result (λ list. forest list.items ≡ stream.now) }
     ensures built { IfOk result (λ list. IsBuilt (forest list.items)) }
 {
@@ -187,7 +187,7 @@ fn listed(alloc: Global, stream: &TokenStream, more: usize) -> Result<Vec<TokenT
 fn push(list: &mut Vec<TokenTree>, tree: TokenTree) -> Result<(), AllocError>
     requires list { IsBuilt (forest list.old.items) }
     requires tree { GoesInside tree }
-    ensures ok { OnOk result (forest list.new.items ≡ joined (forest list.old.items) (alone tree)) }
+    ensures ok { OnOk result (forest list.new.items ≡ chain (forest list.old.items) (alone tree)) }
     ensures built { IsBuilt (forest list.new.items) }
 {
     // It computes nothing: proofs learn what is true of every tree.
@@ -202,7 +202,7 @@ fn push(list: &mut Vec<TokenTree>, tree: TokenTree) -> Result<(), AllocError>
 fn copy_onto(list: &mut Vec<TokenTree>, tree: &TokenTree) -> Result<(), AllocError>
     requires list { IsBuilt (forest list.old.items) }
     requires tree { GoesInside tree.now }
-    ensures ok { OnOk result (forest list.new.items ≡ joined (forest list.old.items) (alone tree.now)) }
+    ensures ok { OnOk result (forest list.new.items ≡ chain (forest list.old.items) (alone tree.now)) }
     ensures built { IsBuilt (forest list.new.items) }
 {
     // It computes nothing: proofs learn what is true of every tree.
@@ -216,7 +216,7 @@ fn copy_onto(list: &mut Vec<TokenTree>, tree: &TokenTree) -> Result<(), AllocErr
 fn push_copies(list: &mut Vec<TokenTree>, trees: &[TokenTree]) -> Result<(), AllocError>
     requires list { IsBuilt (forest list.old.items) }
     requires trees { IsBuilt (forest trees.now) }
-    ensures ok { OnOk result (forest list.new.items ≡ joined (forest list.old.items) (forest trees.now)) }
+    ensures ok { OnOk result (forest list.new.items ≡ chain (forest list.old.items) (forest trees.now)) }
     ensures built { IsBuilt (forest list.new.items) }
 {
     list.reserve(trees.len())?;

@@ -4,9 +4,9 @@
 //! rejected.
 ghost use Rattle.std.specs.Prelude.{◌≡◌, ◌≤◌, ◌+◌, ◌++◌, ◌∷◌, [], All, IfErr, IfOk, Ok, Err, OnOk, length};
 ghost use Rattle.std.specs.List.{list_all};
-ghost use Rattle.proc_macro2.specs.Forest.{joined};
+ghost use Rattle.proc_macro2.specs.Forest.{chain};
 ghost use Rattle.proc_macro2.specs.Trees.{forest, GoesInside};
-ghost use Rattle.quoting.specs.Filled.{before_turn, depth_limit, followed, has_meaning, filled_by};
+ghost use Rattle.quoting.specs.Filled.{before_turn, depth_limit, then_outcome, has_meaning, filled_by};
 ghost use Rattle.quoting.specs.Given.{UnlessMemory, apart_before, gives, inside_at, is_fixed, repeats_of, separator_of};
 
 use crate::builder::StreamBuilder;
@@ -14,15 +14,15 @@ use crate::errors::TemplateError;
 use crate::holes::Hole;
 use crate::interpolation::{FoundInterpolation, Repetition, interpolation_at};
 use crate::putting::put_name;
-use crate::respace::{regrouped, spaced};
-use crate::turns::{checked, turns_of};
+use crate::respace::{mark_as, with_contents};
+use crate::turns::{check_turns, turns_of};
 use proc_macro2::{Group, Punct, Spacing, TokenStream, TokenTree};
 use std::alloc::{AllocError, Global};
 
 /// Returns the template with its holes filled in these turns of repetitions, the outermost first. Groups may nest up
 /// to `depth` deep.
-#[cycle(filled)]
-pub(crate) fn filled(
+#[cycle(fill_template)]
+pub(crate) fn fill_template(
     alloc: Global,
     template: &TokenStream,
     holes: &[Hole<'_>],
@@ -40,8 +40,8 @@ pub(crate) fn filled(
     Ok(out.finish()?)
 }
 
-/// Adds the trees of the template to the stream, with their holes filled as `filled` does.
-#[cycle(filled)]
+/// Adds the trees of the template to the stream, with their holes filled as `fill_template` does.
+#[cycle(fill_template)]
 fn fill_onto(
     alloc: Global,
     out: &mut StreamBuilder,
@@ -52,7 +52,7 @@ fn fill_onto(
 ) -> Result<(), TemplateError>
     requires inside { All GoesInside template.now }
     requires few { length turns.now + depth ≤ depth_limit }
-    ensures ok { OnOk result (followed (Ok out.old)
+    ensures ok { OnOk result (then_outcome (Ok out.old)
         (filled_by (gives holes.now turns.now) depth 0 (forest template.now)) ≡ Ok out.new) }
     ensures fault { IfErr result (λ fault.
         UnlessMemory fault (filled_by (gives holes.now turns.now) depth 0 (forest template.now) ≡ Err fault)) }
@@ -63,7 +63,7 @@ fn fill_onto(
             None => {
                 if let TokenTree::Group(group) = tree {
                     let inside = filled_inside(alloc, group, holes, turns, depth)?;
-                    out.put(TokenTree::Group(regrouped(group, inside)), after.len())?;
+                    out.put(TokenTree::Group(with_contents(group, inside)), after.len())?;
                 } else {
                     out.put(apart_before(tree, after)?, after.len())?;
                 }
@@ -87,7 +87,7 @@ fn apart_before(tree: &TokenTree, after: &[TokenTree]) -> Result<TokenTree, Allo
     ensures { IfOk result (λ copy. copy ≡ apart_before (forest after.now) tree.now) }
 {
     match tree {
-        TokenTree::Punct(mark) if has_meaning(after) => Ok(TokenTree::Punct(spaced(
+        TokenTree::Punct(mark) if has_meaning(after) => Ok(TokenTree::Punct(mark_as(
             mark,
             Spacing::Alone,
         ))),
@@ -106,7 +106,7 @@ pub(crate) fn has_meaning(trees: &[TokenTree]) -> bool
 }
 
 /// Returns the contents of the group with their holes filled. Groups may nest up to `depth` deep, this group included.
-#[cycle(filled)]
+#[cycle(fill_template)]
 fn filled_inside(
     alloc: Global,
     group: &Group,
@@ -127,7 +127,7 @@ fn filled_inside(
     if are_fixed(template.trees()) {
         return Ok(template.clone()?);
     }
-    filled(alloc, template, holes, turns, inner)
+    fill_template(alloc, template, holes, turns, inner)
 }
 
 /// Returns whether no tree is a group or a `#`, so that filling changes nothing.
@@ -155,7 +155,7 @@ fn is_fixed(tree: &TokenTree) -> bool
 
 /// Adds the turns of a repetition to the stream, with the separator between them. The error `NoList` comes before any
 /// error inside the repetition.
-#[cycle(filled)]
+#[cycle(fill_template)]
 pub(crate) fn repeat_onto(
     alloc: Global,
     out: &mut StreamBuilder,
@@ -165,7 +165,7 @@ pub(crate) fn repeat_onto(
     depth: usize,
 ) -> Result<(), TemplateError>
     requires { length turns.now + depth ≤ depth_limit }
-    ensures ok { OnOk result (followed (Ok out.old)
+    ensures ok { OnOk result (then_outcome (Ok out.old)
         (gives holes.now turns.now depth (repeats_of repetition.now)) ≡ Ok out.new) }
     ensures fault { IfErr result (λ fault.
         UnlessMemory fault (gives holes.now turns.now depth (repeats_of repetition.now) ≡ Err fault)) }
@@ -178,7 +178,7 @@ pub(crate) fn repeat_onto(
     let Some(count) = turns_of(alloc, trees, holes, turns)? else {
         return Err(TemplateError::NoList(body.span()));
     };
-    checked(trees, holes, turns, inner, count)?;
+    check_turns(trees, holes, turns, inner, count)?;
     for turn in 0..count {
         separate(out, repetition.separator, turn, trees.len())?;
         fill_turn(alloc, out, trees, holes, turns, turn, inner)?;
@@ -188,7 +188,7 @@ pub(crate) fn repeat_onto(
 
 /// Adds the trees of one turn of a repetition to the stream, with their holes filled. `turns` are those of the
 /// repetitions around it.
-#[cycle(filled)]
+#[cycle(fill_template)]
 fn fill_turn(
     alloc: Global,
     out: &mut StreamBuilder,
@@ -200,7 +200,7 @@ fn fill_turn(
 ) -> Result<(), TemplateError>
     requires inside { All GoesInside template.now }
     requires few { length turns.now + (1 + depth) ≤ depth_limit }
-    ensures ok { OnOk result (followed (Ok out.old)
+    ensures ok { OnOk result (then_outcome (Ok out.old)
         (filled_by (gives holes.now (turns.now ++ turn ∷ [])) depth 0 (forest template.now)) ≡ Ok out.new) }
     ensures fault { IfErr result (λ fault. UnlessMemory fault
         (filled_by (gives holes.now (turns.now ++ turn ∷ [])) depth 0 (forest template.now) ≡ Err fault)) }
@@ -230,10 +230,10 @@ fn separate(
     turn: usize,
     more: usize,
 ) -> Result<(), AllocError>
-    ensures { OnOk result (out.new ≡ joined out.old (before_turn (separator_of separator.entry) turn)) }
+    ensures { OnOk result (out.new ≡ chain out.old (before_turn (separator_of separator.entry) turn)) }
 {
     match separator {
-        Some(mark) if turn > 0 => out.put(TokenTree::Punct(spaced(mark, Spacing::Alone)), more),
+        Some(mark) if turn > 0 => out.put(TokenTree::Punct(mark_as(mark, Spacing::Alone)), more),
         _ => Ok(()),
     }
 }

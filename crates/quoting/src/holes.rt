@@ -2,11 +2,11 @@
 ghost use Rattle.std.specs.Prelude.{◌≡◌, Some, nat_eq};
 ghost use Rattle.std.specs.Cmp.Lexicographic.{pointwise};
 ghost use Rattle.std.specs.Str.{chars};
-ghost use Rattle.quoting.specs.Given.{filling_by, in_turns, looked_up, named, named_all, span_of, text_of};
+ghost use Rattle.quoting.specs.Given.{filling_by, in_turns, looked_up, name_and_filling, named_all, span_of, text_of};
 ghost use Rattle.quoting.specs.Holes.{filling_of, in_turn, list_length, value_at};
 ghost use Rattle.quoting.specs.Items.{each_of};
 ghost use Rattle.quoting.specs.Items.{One as OneStream, Each as EachStream};
-ghost use Rattle.quoting.specs.Kept.{kept};
+ghost use Rattle.quoting.specs.Kept.{item_filling};
 ghost use Rattle.quoting.specs.Values.{value_of};
 
 use crate::values::{Item, Value};
@@ -41,7 +41,7 @@ impl<'a> Hole<'a> {
     ///
     /// The name is the text of an identifier, or ASCII digits.
     pub fn one(name: &'a str, stream: &'a TokenStream) -> Hole<'a>
-        ensures { named result ≡ record { name = chars name.now; filling = OneStream stream.now } }
+        ensures { name_and_filling result ≡ record { name = chars name.now; filling = OneStream stream.now } }
     {
         Hole {
             name,
@@ -51,7 +51,7 @@ impl<'a> Hole<'a> {
 
     /// Returns a hole whose value is a list of streams: each turn of a repetition takes the next one.
     pub fn each(name: &'a str, streams: &'a [TokenStream]) -> Hole<'a>
-        ensures { named result
+        ensures { name_and_filling result
             ≡ record { name = chars name.now; filling = EachStream (each_of OneStream streams.now) } }
     {
         Hole {
@@ -64,7 +64,7 @@ impl<'a> Hole<'a> {
     ///
     /// With `Value::Number(Number::U8(7))` for `count`, `[0; #count]` is `[0; 7u8]`.
     pub fn of(name: &'a str, value: &'a Value<'a>) -> Hole<'a>
-        ensures { named result ≡ record { name = chars name.now; filling = value_of value.now } }
+        ensures { name_and_filling result ≡ record { name = chars name.now; filling = value_of value.now } }
     {
         Hole {
             name,
@@ -154,7 +154,7 @@ fn list_len(value: &Value<'_>) -> Option<usize>
 
 /// Returns the value of an item for a turn, or `None` if the item is no list or has no such value.
 fn item_value<'a>(item: &'a Item, turn: usize) -> Option<Filling<'a>>
-    ensures { looked_up result ≡ value_at turn (kept item.now) }
+    ensures { looked_up result ≡ value_at turn (item_filling item.now) }
 {
     match item {
         Item::List(values) => Some(Filling::Item(values.get(turn)?)),
@@ -164,7 +164,7 @@ fn item_value<'a>(item: &'a Item, turn: usize) -> Option<Filling<'a>>
 
 /// Returns how many values an item has, if it is a list.
 fn item_len(item: &Item) -> Option<usize>
-    ensures { result ≡ list_length (Some (kept item.now)) }
+    ensures { result ≡ list_length (Some (item_filling item.now)) }
 {
     match item {
         Item::List(values) => Some(values.len()),
@@ -175,7 +175,7 @@ fn item_len(item: &Item) -> Option<usize>
 /// The tree that names a hole in a template.
 #[derive(Clone, Copy)]
 pub(crate) enum HoleName<'a> {
-    Word(&'a Ident),
+    IdentName(&'a Ident),
     Digits(&'a Literal),
 }
 
@@ -185,7 +185,7 @@ impl<'a> HoleName<'a> {
         ensures { result ≡ span_of self.now }
     {
         match self {
-            HoleName::Word(ident) => ident.span(),
+            HoleName::IdentName(ident) => ident.span(),
             HoleName::Digits(literal) => literal.span(),
         }
     }
@@ -195,13 +195,13 @@ impl<'a> HoleName<'a> {
         ensures { result ≡ pointwise nat_eq (text_of self.now) (chars text.now) }
     {
         match self {
-            HoleName::Word(ident) => ident.eq_str(text),
+            HoleName::IdentName(ident) => ident.eq_str(text),
             HoleName::Digits(literal) => literal.text() == text,
         }
     }
 
     /// Returns the value of the first hole of this name.
-    fn found<'h>(&self, holes: &[Hole<'h>]) -> Option<Filling<'h>>
+    fn filling_of_name<'h>(&self, holes: &[Hole<'h>]) -> Option<Filling<'h>>
         ensures { looked_up result ≡ filling_of (named_all holes.now) (text_of self.now) }
     {
         for hole in holes {
@@ -217,7 +217,7 @@ impl<'a> HoleName<'a> {
     pub(crate) fn filling<'h>(&self, holes: &[Hole<'h>], turns: &[usize]) -> Option<Filling<'h>>
         ensures { looked_up result ≡ filling_of (in_turns holes.now turns.now) (text_of self.now) }
     {
-        let mut filling = self.found(holes)?;
+        let mut filling = self.filling_of_name(holes)?;
         for turn in turns {
             filling = filling.in_turn(*turn);
         }

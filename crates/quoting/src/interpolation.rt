@@ -6,7 +6,7 @@ ghost use Rattle.std.specs.Str.{chars};
 ghost use Rattle.proc_macro2.specs.Trees.{forest};
 ghost use Rattle.proc_macro2.specs.declared.TokenTree.TheVariants.{Group as GroupTree};
 ghost use Rattle.quoting.specs.Given.{begun_as, named_by, repeats, rest_of, interpolation_of, tree_is_mark, tree_name};
-ghost use Rattle.quoting.specs.Interpolation.{after_hash, taken};
+ghost use Rattle.quoting.specs.Interpolation.{after_hash, tree_count};
 
 use crate::holes::HoleName;
 use proc_macro2::{Delimiter, Group, Punct, TokenTree};
@@ -34,19 +34,19 @@ pub(crate) fn interpolation_at<'a>(
     after: &'a [TokenTree],
 ) -> Option<FoundInterpolation<'a>>
     ensures found { begun_as result ≡ interpolation_of tree.now (forest after.now) }
-    ensures rest { IfSome result (λ found. rest_of found ≡ drop (taken (begun_as result)) after.now) }
+    ensures rest { IfSome result (λ found. rest_of found ≡ drop (tree_count (begun_as result)) after.now) }
 {
     if !is_mark(tree, '#') {
         return None;
     }
-    begun(after)
+    interpolation_after(after)
 }
 
 /// Returns the hole or the repetition that a `#` before these trees begins.
 #[inline(never)]
-fn begun(after: &[TokenTree]) -> Option<FoundInterpolation<'_>>
+fn interpolation_after(after: &[TokenTree]) -> Option<FoundInterpolation<'_>>
     ensures found { begun_as result ≡ after_hash (forest after.now) }
-    ensures rest { IfSome result (λ found. rest_of found ≡ drop (taken (begun_as result)) after.now) }
+    ensures rest { IfSome result (λ found. rest_of found ≡ drop (tree_count (begun_as result)) after.now) }
 {
     let (first, rest) = after.split_first()?;
     if let TokenTree::Group(body) = first {
@@ -59,7 +59,7 @@ fn begun(after: &[TokenTree]) -> Option<FoundInterpolation<'_>>
 fn repetition_of<'a>(body: &'a Group, after: &'a [TokenTree]) -> Option<FoundInterpolation<'a>>
     ensures found { begun_as result ≡ repeats body.now (forest after.now) }
     ensures rest { IfSome result (λ found.
-        rest_of found ≡ drop (taken (begun_as result)) (GroupTree body.now ∷ after.now)) }
+        rest_of found ≡ drop (tree_count (begun_as result)) (GroupTree body.now ∷ after.now)) }
 {
     if body.delimiter() != Delimiter::Parenthesis {
         return None;
@@ -85,7 +85,7 @@ fn name_of(tree: &TokenTree) -> Option<HoleName<'_>>
     ensures { named_by result ≡ tree_name tree.now }
 {
     match tree {
-        TokenTree::Ident(ident) => Some(HoleName::Word(ident)),
+        TokenTree::Ident(ident) => Some(HoleName::IdentName(ident)),
         TokenTree::Literal(literal) if all_digits(literal.text()) => Some(HoleName::Digits(
             literal,
         )),

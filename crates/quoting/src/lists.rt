@@ -9,7 +9,7 @@ ghost use Rattle.proc_macro2.specs.Leaf as leaves;
 ghost use Rattle.proc_macro2.specs.Trees.{alone};
 ghost use Rattle.proc_macro2.specs.declared.TokenTree.TheVariants.{Ident as IdentTree, Literal as LiteralTree};
 ghost use Rattle.quoting.specs.Items.{One, and_last, each_of, end, item_at, item_count};
-ghost use Rattle.quoting.specs.Kept.{kept};
+ghost use Rattle.quoting.specs.Kept.{item_filling};
 ghost use Rattle.quoting.specs.Values.{name_unless, plain_literal, value_of};
 
 use crate::making::{number_literal, truth_ident};
@@ -37,14 +37,14 @@ impl Values {
         ensures ok { OnOk result (self.new ≡ and_last self.old (value_of value.entry)) }
         ensures err { OnErr result (self.new ≡ self.old) }
     {
-        let item = kept(self.alloc, value)?;
+        let item = item_filling(self.alloc, value)?;
         self.put(item)
     }
 
     /// Adds the item at the end of the list. If that fails, the list is unchanged.
     #[tactic(auto, using(crate::proofs::ItemLemmas::each_push))]
     fn put(&mut self, value: Item) -> Result<(), AllocError>
-        ensures ok { OnOk result (self.new ≡ and_last self.old (kept value)) }
+        ensures ok { OnOk result (self.new ≡ and_last self.old (item_filling value)) }
         ensures err { OnErr result (self.new ≡ self.old) }
     {
         self.list.push(value)?;
@@ -63,15 +63,15 @@ impl Values {
     #[tactic(auto, using(crate::proofs::ItemLemmas::item_at_each))]
     pub(crate) fn get(&self, index: usize) -> Option<&Item>
         ensures { MatchOption result (item_at index self.now ≡ None)
-            (λ value. item_at index self.now ≡ Some (kept value.now)) }
+            (λ value. item_at index self.now ≡ Some (item_filling value.now)) }
     {
         self.list.get(index)
     }
 }
 
 /// Returns a copy of the value for a list, which owns its tokens.
-fn kept(alloc: Global, value: Value<'_>) -> Result<Item, AllocError>
-    ensures { IfOk result (λ item. kept item ≡ value_of value.entry) }
+fn item_filling(alloc: Global, value: Value<'_>) -> Result<Item, AllocError>
+    ensures { IfOk result (λ item. item_filling item ≡ value_of value.entry) }
 {
     match value {
         Value::Nothing => Ok(Item::Stream(TokenStream::new(alloc))),
@@ -100,7 +100,8 @@ fn kept(alloc: Global, value: Value<'_>) -> Result<Item, AllocError>
 
 /// Returns the identifier with this name, or `Item::NotIdent` if no identifier has it.
 fn kept_name(alloc: Global, name: &str) -> Result<Item, AllocError>
-    ensures { IfOk result (λ item. kept item ≡ name_unless (ident_fault false (chars name.now)) (chars name.now)) }
+    ensures { IfOk result (λ item. item_filling item
+        ≡ name_unless (ident_fault false (chars name.now)) (chars name.now)) }
 {
     match Ident::new(alloc, name, Span::call_site()) {
         Ok(ident) => Ok(Item::Tree(TokenTree::Ident(ident))),

@@ -5,7 +5,7 @@
 ghost use Rattle.std.specs.Prelude.{◌≡◌, ◌≤◌, [], IfErr, IfOk, Ok, Err, OnOk};
 ghost use Rattle.proc_macro2.specs.Forest.{Forest, IsBuilt};
 ghost use Rattle.proc_macro2.specs.Trees.{alone, forest, GoesInside};
-ghost use Rattle.quoting.specs.Filled.{depth_limit, followed, filled_by};
+ghost use Rattle.quoting.specs.Filled.{depth_limit, then_outcome, filled_by};
 ghost use Rattle.quoting.specs.Given.{Settles, UnlessMemory, apart, apart_before, gives, inside_at, inside_tree};
 
 use crate::builder::StreamBuilder;
@@ -14,7 +14,7 @@ use crate::fill::{are_fixed, has_meaning, repeat_onto};
 use crate::holes::Hole;
 use crate::interpolation::{FoundInterpolation, interpolation_at};
 use crate::putting::put_name;
-use crate::respace::spaced;
+use crate::respace::mark_as;
 use pm_stream::parts;
 use proc_macro2::{Group, Spacing, TokenStream, TokenTree};
 use std::alloc::Global;
@@ -64,7 +64,7 @@ fn fill_rest(
 ) -> Result<(), TemplateError>
     requires built { IsBuilt (forest rest.items) }
     requires few { depth ≤ depth_limit }
-    ensures ok { OnOk result (followed (Ok out.old)
+    ensures ok { OnOk result (then_outcome (Ok out.old)
         (filled_by (gives holes.now []) depth 0 (forest rest.items)) ≡ Ok out.new) }
     ensures fault { IfErr result (λ fault.
         UnlessMemory fault (filled_by (gives holes.now []) depth 0 (forest rest.items) ≡ Err fault)) }
@@ -141,7 +141,7 @@ fn change(
         TokenTree::Group(group) => fill_group(alloc, group, holes, depth),
         TokenTree::Punct(mark) => {
             if apart {
-                *mark = spaced(mark, Spacing::Alone);
+                *mark = mark_as(mark, Spacing::Alone);
             }
             Ok(())
         }

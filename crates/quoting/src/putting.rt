@@ -3,15 +3,15 @@ ghost use Rattle.std.specs.Prelude.{◌≡◌, false, IfErr, IfOk, Ok, Err, OnOk
 ghost use Rattle.std.specs.Str.{chars};
 ghost use Rattle.proc_macro2.specs.Negative.{has_minus};
 ghost use Rattle.proc_macro2.specs.Building.{split};
-ghost use Rattle.proc_macro2.specs.Forest.{joined};
+ghost use Rattle.proc_macro2.specs.Forest.{chain};
 ghost use Rattle.proc_macro2.specs.IdentFault.{ident_fault};
 ghost use Rattle.proc_macro2.specs.Trees.{alone};
 ghost use Rattle.proc_macro2.specs.declared.TokenTree.TheVariants.{Ident as IdentTree, Literal as LiteralTree};
-ghost use Rattle.quoting.specs.Filled.{followed};
+ghost use Rattle.quoting.specs.Filled.{then_outcome};
 ghost use Rattle.quoting.specs.Given.{UnlessMemory, filling_by, in_turns, span_of, text_of};
 ghost use Rattle.quoting.specs.Holes.{filling_of, put_in};
 ghost use Rattle.quoting.specs.Items.{One};
-ghost use Rattle.quoting.specs.Kept.{kept};
+ghost use Rattle.quoting.specs.Kept.{item_filling};
 ghost use Rattle.quoting.specs.Values.{name_unless, value_of};
 
 use crate::builder::StreamBuilder;
@@ -33,7 +33,7 @@ pub(crate) fn put_name(
     turns: &[usize],
     more: usize,
 ) -> Result<(), TemplateError>
-    ensures ok { OnOk result (followed (Ok out.old) (put_in (span_of name.now)
+    ensures ok { OnOk result (then_outcome (Ok out.old) (put_in (span_of name.now)
         (filling_of (in_turns holes.now turns.now) (text_of name.now))) ≡ Ok out.new) }
     ensures fault { IfErr result (λ fault. UnlessMemory fault (put_in (span_of name.now)
         (filling_of (in_turns holes.now turns.now) (text_of name.now)) ≡ Err fault)) }
@@ -53,7 +53,7 @@ fn put_filling(
     span: Span,
     more: usize,
 ) -> Result<(), TemplateError>
-    ensures ok { OnOk result (followed (Ok out.old) (put_in span (Some (filling_by filling.entry))) ≡ Ok out.new) }
+    ensures ok { OnOk result (then_outcome (Ok out.old) (put_in span (Some (filling_by filling.entry))) ≡ Ok out.new) }
     ensures fault { IfErr result (λ fault.
         UnlessMemory fault (put_in span (Some (filling_by filling.entry)) ≡ Err fault)) }
 {
@@ -77,7 +77,7 @@ fn put_value(
     span: Span,
     more: usize,
 ) -> Result<(), TemplateError>
-    ensures ok { OnOk result (followed (Ok out.old) (put_in span (Some (value_of value.now))) ≡ Ok out.new) }
+    ensures ok { OnOk result (then_outcome (Ok out.old) (put_in span (Some (value_of value.now))) ≡ Ok out.new) }
     ensures fault { IfErr result (λ fault.
         UnlessMemory fault (put_in span (Some (value_of value.now)) ≡ Err fault)) }
 {
@@ -114,9 +114,9 @@ fn put_item(
     span: Span,
     more: usize,
 ) -> Result<(), TemplateError>
-    ensures ok { OnOk result (followed (Ok out.old) (put_in span (Some (kept item.now))) ≡ Ok out.new) }
+    ensures ok { OnOk result (then_outcome (Ok out.old) (put_in span (Some (item_filling item.now))) ≡ Ok out.new) }
     ensures fault { IfErr result (λ fault.
-        UnlessMemory fault (put_in span (Some (kept item.now)) ≡ Err fault)) }
+        UnlessMemory fault (put_in span (Some (item_filling item.now)) ≡ Err fault)) }
 {
     match item {
         Item::Stream(stream) => Ok(out.append(stream, more)?),
@@ -149,7 +149,7 @@ fn put_tree(
     tree: &TokenTree,
     more: usize,
 ) -> Result<(), AllocError>
-    ensures { OnOk result (out.new ≡ joined out.old (split tree.now)) }
+    ensures { OnOk result (out.new ≡ chain out.old (split tree.now)) }
 {
     match tree {
         TokenTree::Literal(literal) => put_literal(alloc, out, literal.clone()?, more),
@@ -164,7 +164,7 @@ fn put_literal(
     literal: Literal,
     more: usize,
 ) -> Result<(), AllocError>
-    ensures { OnOk result (out.new ≡ joined out.old (split (LiteralTree literal))) }
+    ensures { OnOk result (out.new ≡ chain out.old (split (LiteralTree literal))) }
 {
     if has_minus(literal.text()) {
         let mut both = TokenStream::new(alloc);

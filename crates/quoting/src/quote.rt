@@ -1,16 +1,16 @@
 //! The type `Quote`, which builds a stream.
 ghost use Rattle.std.specs.Prelude.{◌≡◌, IfErr, IfOk, None, OnErr, OnOk};
 ghost use Rattle.proc_macro2.specs.Building.{split};
-ghost use Rattle.proc_macro2.specs.Forest.{joined, nil};
+ghost use Rattle.proc_macro2.specs.Forest.{chain, nil};
 ghost use Rattle.proc_macro2.specs.WellSpaced.{IsWellSpaced};
 ghost use Rattle.quoting.specs.Choice.{HopelessIfNamed, KeepsAllItMay};
 ghost use Rattle.quoting.specs.Fault.{IsFaultOf, first_fault};
-ghost use Rattle.quoting.specs.Respaced.{respaced};
+ghost use Rattle.quoting.specs.Respaced.{respace_marks};
 
 use crate::errors::QuoteError;
 use crate::faults::are_well_spaced;
 use crate::laws;
-use crate::respace::respaced;
+use crate::respace::respace_marks;
 use proc_macro2::{TokenStream, TokenTree};
 use std::alloc::{AllocError, Global};
 use std::marker::Model;
@@ -55,7 +55,7 @@ impl Quote {
     ///
     /// The literal `-3i32` is added as the mark `-`, Alone, and the literal `3i32`.
     pub fn push(&mut self, tree: TokenTree) -> Result<(), AllocError>
-        ensures ok { OnOk result (self.new ≡ joined self.old (split tree)) }
+        ensures ok { OnOk result (self.new ≡ chain self.old (split tree)) }
         ensures err { OnErr result (self.new ≡ self.old) }
     {
         self.pushed.extend_trees([tree])
@@ -65,7 +65,7 @@ impl Quote {
     ///
     /// Fails if memory runs out. Then the quote is unchanged.
     pub fn push_stream(&mut self, stream: TokenStream) -> Result<(), AllocError>
-        ensures ok { OnOk result (self.new ≡ joined self.old stream) }
+        ensures ok { OnOk result (self.new ≡ chain self.old stream) }
         ensures err { OnErr result (self.new ≡ self.old) }
     {
         self.pushed.extend_streams([stream])
@@ -97,7 +97,7 @@ impl Quote {
     /// `+` Joint before the identifier `a` would print as `+a` and read back as `+` Alone. So the result is `+` Alone
     /// and `a`.
     pub fn finish(&self) -> Result<TokenStream, QuoteError>
-        ensures ok { IfOk result (λ stream. (stream ≡ respaced self.now) × (first_fault self.now ≡ None)) }
+        ensures ok { IfOk result (λ stream. (stream ≡ respace_marks self.now) × (first_fault self.now ≡ None)) }
         ensures spaced { IfOk result IsWellSpaced }
 
         // A mark keeps its spacing wherever it may. So a stream that was well spaced is unchanged.
@@ -113,6 +113,6 @@ impl Quote {
         if are_well_spaced(self.alloc, self.pushed.trees())? {
             return Ok(self.pushed.clone()?);
         }
-        Ok(respaced(self.alloc, &self.pushed)?)
+        Ok(respace_marks(self.alloc, &self.pushed)?)
     }
 }

@@ -3,12 +3,12 @@
 //! Groups may nest as deep as memory allows. So the lists of open groups are kept in a list and not on the stack. A
 //! list in which nothing changes is not copied. It stays shared with the stream that it comes from.
 ghost use Rattle.std.specs.Prelude.{◌≡◌, ◌<◌, [], ◌∷◌, All, IfOk, MatchOption, OnOk, length};
-ghost use Rattle.proc_macro2.specs.Forest.{joined, nil};
+ghost use Rattle.proc_macro2.specs.Forest.{chain, nil};
 ghost use Rattle.proc_macro2.specs.Leaf.{is_joint, mark_token};
 ghost use Rattle.proc_macro2.specs.Trees.{alone, forest, GoesInside};
 ghost use Rattle.proc_macro2.specs.WellSpaced.{next_token};
-ghost use Rattle.quoting.specs.Part.{Adds, IsOpen, enclosed, others, respaced_alone};
-ghost use Rattle.quoting.specs.Respaced.{is_kept_joint, respaced};
+ghost use Rattle.quoting.specs.Part.{Adds, IsOpen, first_group, others, respaced_alone};
+ghost use Rattle.quoting.specs.Respaced.{is_kept_joint, respace_marks};
 
 use proc_macro2::token_stream::may_be_joint;
 use proc_macro2::{Group, Punct, Spacing, TokenStream, TokenTree, laws};
@@ -16,8 +16,8 @@ use std::alloc::{AllocError, Global};
 use std::marker::Model;
 
 /// Returns the stream with its marks respaced at any depth. Fails if memory runs out.
-pub(crate) fn respaced(alloc: Global, stream: &TokenStream) -> Result<TokenStream, AllocError>
-    ensures { IfOk result (λ new. new ≡ respaced stream.now) }
+pub(crate) fn respace_marks(alloc: Global, stream: &TokenStream) -> Result<TokenStream, AllocError>
+    ensures { IfOk result (λ new. new ≡ respace_marks stream.now) }
 {
     let mut outer: Vec<RespacedList<'_>> = Vec::new(alloc);
     let mut here = RespacedList::new(stream);
@@ -60,14 +60,15 @@ impl<'a> Model for RespacedList<'a> {
 
     ghost coded = { coded_part };
 
-    ghost view = { λ draft. record {
-      whole = draft.stream.now;
-      done = done_of draft.changed draft.done draft.trees.now;
-      left = drop draft.done draft.trees.now;
+    ghost view = { λ respacing_list. record {
+      whole = respacing_list.stream.now;
+      done = done_of respacing_list.changed respacing_list.done respacing_list.trees.now;
+      left = drop respacing_list.done respacing_list.trees.now;
     } };
 
-    ghost invariant = { λ draft. (draft.done ≤ length draft.trees.now) × All GoesInside draft.trees.now
-        × (forest draft.trees.now ≡ draft.stream.now) };
+    ghost invariant = { λ respacing_list. (respacing_list.done ≤ length respacing_list.trees.now)
+        × All GoesInside respacing_list.trees.now
+        × (forest respacing_list.trees.now ≡ respacing_list.stream.now) };
 }
 
 impl<'a> RespacedList<'a> {
@@ -105,7 +106,7 @@ impl<'a> RespacedList<'a> {
         if let TokenTree::Punct(mark) = tree {
             let spacing = kept_spacing(mark, after);
             if spacing != mark.spacing() {
-                return self.replace(alloc, TokenTree::Punct(spaced(mark, spacing)));
+                return self.replace(alloc, TokenTree::Punct(mark_as(mark, spacing)));
             }
         }
         self.keep(tree)
@@ -116,7 +117,7 @@ impl<'a> RespacedList<'a> {
     fn close(&mut self, alloc: Global, inner: RespacedList<'_>) -> Result<(), AllocError>
         requires open { IsOpen self.old.left inner.whole }
         requires all_done { inner.left ≡ [] }
-        ensures { OnOk result (Adds self.old (enclosed self.old.left inner.entry.done) self.new) }
+        ensures { OnOk result (Adds self.old (first_group self.old.left inner.entry.done) self.new) }
     {
         let Some((tree, _)) = self.next() else {
             return Ok(());
@@ -127,7 +128,9 @@ impl<'a> RespacedList<'a> {
         let RespacedList { changed, .. } = inner;
         match changed {
             None => self.keep(tree),
-            Some(changed) => { self.replace(alloc, TokenTree::Group(regrouped(group, changed))) }
+            Some(changed) => {
+                self.replace(alloc, TokenTree::Group(with_contents(group, changed)))
+            }
         }
     }
 
@@ -151,7 +154,7 @@ impl<'a> RespacedList<'a> {
     {
         let mut changed = match self.changed.take() {
             Some(changed) => changed,
-            None => copied(alloc, &self.trees[..self.done])?,
+            None => copy_trees(alloc, &self.trees[..self.done])?,
         };
         put(&mut changed, tree)?;
         self.changed = Some(changed);
@@ -177,7 +180,7 @@ impl<'a> RespacedList<'a> {
 }
 
 /// Returns a stream of copies of the trees. A copy of a group shares its contents.
-fn copied(alloc: Global, trees: &[TokenTree]) -> Result<TokenStream, AllocError>
+fn copy_trees(alloc: Global, trees: &[TokenTree]) -> Result<TokenStream, AllocError>
     requires { All GoesInside trees.now }
     ensures { IfOk result (λ stream. stream ≡ forest trees.now) }
 {
@@ -191,7 +194,7 @@ fn copied(alloc: Global, trees: &[TokenTree]) -> Result<TokenStream, AllocError>
 /// Adds the tree at the end of the stream.
 fn put(stream: &mut TokenStream, tree: TokenTree) -> Result<(), AllocError>
     requires { GoesInside tree }
-    ensures { OnOk result (stream.new ≡ joined stream.old (alone tree)) }
+    ensures { OnOk result (stream.new ≡ chain stream.old (alone tree)) }
 {
     laws::trees_stand_whole();
     stream.extend_trees([tree])
@@ -211,7 +214,7 @@ fn kept_spacing(mark: &Punct, after: &[TokenTree]) -> Spacing
 }
 
 /// Returns the mark with this spacing and the same span.
-pub(crate) fn spaced(mark: &Punct, spacing: Spacing) -> Punct
+pub(crate) fn mark_as(mark: &Punct, spacing: Spacing) -> Punct
     ensures { result ≡ record mark.now { spacing = spacing } }
 {
     let span = mark.span();
@@ -221,7 +224,7 @@ pub(crate) fn spaced(mark: &Punct, spacing: Spacing) -> Punct
 }
 
 /// Returns the group with these contents, and with the same delimiters and span.
-pub(crate) fn regrouped(group: &Group, stream: TokenStream) -> Group
+pub(crate) fn with_contents(group: &Group, stream: TokenStream) -> Group
     ensures { result ≡ record group.now { stream = stream } }
 {
     let mut regrouped = Group::new(group.delimiter(), stream);

@@ -2,14 +2,14 @@
 ghost use Rattle.std.specs.Prelude.{◌≡◌, ◌↔◌, IfErr, Ok, Err, OnErr, OnOk, length};
 ghost use Rattle.std.specs.Str.{chars};
 ghost use Rattle.proc_macro2.specs.Files.{Fits, next_lo};
-ghost use Rattle.proc_macro2.specs.Forest.{Forest, joined};
+ghost use Rattle.proc_macro2.specs.Forest.{Forest, chain};
 ghost use Rattle.proc_macro2.specs.Parsing.{ParsesTo};
-ghost use Rattle.quoting.specs.Filled.{filled};
+ghost use Rattle.quoting.specs.Filled.{fill_template};
 ghost use Rattle.quoting.specs.Given.{UnlessMemory, named_all};
 ghost use Rattle.quoting.specs.TextFault.{IsTextFault, LeavesMap};
 
 use crate::errors::TemplateError;
-use crate::fill::filled;
+use crate::fill::fill_template;
 use crate::holes::Hole;
 use crate::owned::filled_in_place;
 use crate::quote::Quote;
@@ -34,13 +34,13 @@ impl Quote {
     /// With the lists `x` of `a` and `y` of `b`, `#( #x: #y ),*` gives `a : b`. Without a hole `y` the error is
     /// `NoHole` at `y`. Without both holes it is `NoList` at the parentheses.
     pub fn fill(&mut self, template: &TokenStream, holes: &[Hole<'_>]) -> Result<(), TemplateError>
-        ensures ok { OnOk result ((stream : Forest) × (filled (named_all holes.now) template.now ≡ Ok stream)
-            × (self.new ≡ joined self.old stream)) }
+        ensures ok { OnOk result ((stream : Forest) × (fill_template (named_all holes.now) template.now ≡ Ok stream)
+            × (self.new ≡ chain self.old stream)) }
         ensures fault { IfErr result (λ fault.
-            UnlessMemory fault (filled (named_all holes.now) template.now ≡ Err fault)) }
+            UnlessMemory fault (fill_template (named_all holes.now) template.now ≡ Err fault)) }
         ensures kept { OnErr result (self.new ≡ self.old) }
     {
-        let stream = filled(self.alloc(), template, holes, &[], DEPTH_LIMIT)?;
+        let stream = fill_template(self.alloc(), template, holes, &[], DEPTH_LIMIT)?;
         self.push_stream(stream)?;
         Ok(())
     }
@@ -63,7 +63,7 @@ impl Quote {
     ) -> Result<(), TemplateError>
         ensures ok { OnOk result ((trees : Forest) × (stream : Forest)
             × ParsesTo (next_lo map.old) (chars template.now) trees
-            × (filled (named_all holes.now) trees ≡ Ok stream) × (self.new ≡ joined self.old stream)) }
+            × (fill_template (named_all holes.now) trees ≡ Ok stream) × (self.new ≡ chain self.old stream)) }
         ensures fault { IfErr result (IsTextFault (next_lo map.old) (chars template.now) (named_all holes.now)) }
         ensures map_full { (result ≡ Err (TemplateError.Parse ParseError.MapFull))
             ↔ (Fits map.old (length (chars template.now)) → ⊥) }

@@ -5,7 +5,7 @@ ghost use Rattle.proc_macro2.specs.Trees.{forest};
 ghost use Rattle.quoting.specs.Given.{in_turns, span_of, interpolation_of, text_of};
 ghost use Rattle.quoting.specs.Holes.{filling_of};
 ghost use Rattle.quoting.specs.Searched.{step_turns};
-ghost use Rattle.quoting.specs.Turns.{checked, interpolation_checked, name_checked, named_length, turns_of};
+ghost use Rattle.quoting.specs.Turns.{check_turns, interpolation_checked, name_checked, named_length, turns_of};
 
 use crate::errors::TemplateError;
 use crate::holes::{Hole, HoleName};
@@ -62,14 +62,14 @@ fn named_length(
 
 /// Checks the names in a repetition of `count` turns, also in the repetitions inside it. Groups may nest up to `depth`
 /// deep. Fails with the first error in reading order.
-pub(crate) fn checked(
+pub(crate) fn check_turns(
     trees: &[TokenTree],
     holes: &[Hole<'_>],
     turns: &[usize],
     depth: usize,
     count: usize,
 ) -> Result<(), TemplateError>
-    ensures { result ≡ checked (in_turns holes.now turns.now) depth count (forest trees.now) }
+    ensures { result ≡ check_turns (in_turns holes.now turns.now) depth count (forest trees.now) }
 {
     let mut left = trees;
     while let Some((tree, after)) = left.split_first() {
@@ -77,7 +77,7 @@ pub(crate) fn checked(
             let Some(inner) = depth.checked_sub(1) else {
                 return Err(TemplateError::TooDeep(group.span()));
             };
-            checked(group.stream_ref().trees(), holes, turns, inner, count)?;
+            check_turns(group.stream_ref().trees(), holes, turns, inner, count)?;
         } else {
             interpolation_checked(tree, after, holes, turns, count)?;
         }

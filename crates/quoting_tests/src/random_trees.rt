@@ -135,7 +135,7 @@ fn has_a_choice(alloc: Global, case: Case) -> Result<bool, Fail> {
 }
 
 /// Returns the quote of the case with the choice of this number.
-fn quoted(alloc: Global, case: Case, number: u32) -> Result<Quote, Fail> {
+fn quote_with(alloc: Global, case: Case, number: u32) -> Result<Quote, Fail> {
     let mut quote = Quote::new(alloc);
     for tree in trees(alloc, case, choice_of(number))? {
         quote.push(tree)?;
@@ -159,7 +159,7 @@ fn a_stream_is_given_exactly_where_some_choice_is_well_spaced(rt: HostRuntime) -
         let case = random.case();
         let number = random.below(64) as u32;
         let may = has_a_choice(alloc, case)?;
-        match quoted(alloc, case, number)?.finish() {
+        match quote_with(alloc, case, number)?.finish() {
             Ok(stream) => {
                 assert!(rt; may, "of {case:?}");
                 assert!(rt; comes_back(alloc, &stream)?, "of {case:?}");

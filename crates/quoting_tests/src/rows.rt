@@ -1,5 +1,5 @@
 // The printed text of each kind of tree. The text is parsed again and compared.
-use crate::trees::{Inner, Leaf, Tree, quoted};
+use crate::trees::{Inner, Leaf, Tree, quote_with};
 use proc_macro2::{
     Delimiter, Group, ParseError, Punct, SourceMap, Spacing, Span, TokenStream, TokenTree,
 };
@@ -151,7 +151,7 @@ pub fn check_quote(rt: &(impl Abort + AllocGlobal), quote: &Quote, want: &str) -
 
 /// Asserts that the quote of the trees has the printed text, and reads back from it.
 fn check_printed(rt: &(impl Abort + AllocGlobal), trees: &[Tree], want: &str) -> Result<(), Fail> {
-    let quote = quoted(rt, trees)?;
+    let quote = quote_with(rt, trees)?;
     check_quote(rt, &quote, want)
 }
 
@@ -161,7 +161,7 @@ fn check_refused(
     trees: &[Tree],
     is_lone_quote: bool,
 ) -> Result<(), Fail> {
-    let quote = quoted(rt, trees)?;
+    let quote = quote_with(rt, trees)?;
     match quote.finish() {
         Err(QuoteError::LoneQuote) => assert!(rt; is_lone_quote),
         Err(QuoteError::NoneGroup) => assert!(rt; !is_lone_quote),
@@ -179,7 +179,7 @@ fn trees_are_printed_so_that_they_come_back(rt: HostRuntime) -> Result<(), Fail>
 }
 
 #[test]
-fn what_no_spacing_mends_is_told(rt: HostRuntime) -> Result<(), Fail> {
+fn what_no_spacing_mends_is_reported(rt: HostRuntime) -> Result<(), Fail> {
     for &(trees, is_lone_quote) in REFUSED {
         check_refused(&rt, trees, is_lone_quote)?;
     }
@@ -187,15 +187,15 @@ fn what_no_spacing_mends_is_told(rt: HostRuntime) -> Result<(), Fail> {
 }
 
 /// Returns the `Debug` text of the quote's stream.
-fn shown(rt: &(impl Abort + AllocGlobal), trees: &[Tree]) -> Result<String, Fail> {
-    let stream = quoted(rt, trees)?.finish()?;
+fn debug_text(rt: &(impl Abort + AllocGlobal), trees: &[Tree]) -> Result<String, Fail> {
+    let stream = quote_with(rt, trees)?.finish()?;
     Ok(format!(in rt.alloc(); "{stream:?}")?)
 }
 
 #[test]
 fn the_last_mark_is_alone_and_others_stay_joint(rt: HostRuntime) -> Result<(), Fail> {
     let colons = &[Tree::One(Leaf::Joint(':')), Tree::One(Leaf::Joint(':'))];
-    let shown = shown(&rt, colons)?;
+    let shown = debug_text(&rt, colons)?;
     let want =
         "TokenStream [Punct { char: ':', spacing: Joint }, Punct { char: ':', spacing: Alone }]";
     assert_eq!(rt; shown.as_str(), want);
@@ -204,7 +204,7 @@ fn the_last_mark_is_alone_and_others_stay_joint(rt: HostRuntime) -> Result<(), F
 
 #[test]
 fn marks_in_groups_are_respaced_and_the_quote_stays(rt: HostRuntime) -> Result<(), Fail> {
-    let quote = quoted(&rt, NESTED)?;
+    let quote = quote_with(&rt, NESTED)?;
     for _ in 0..2 {
         check_quote(&rt, &quote, "a { (b) [+] -> }")?;
     }
@@ -238,7 +238,7 @@ fn deep_groups_are_respaced_without_a_deep_stack(rt: HostRuntime) -> Result<(), 
 
 /// Returns what a quote has after these were pushed: an Alone quote, the stream in a group without delimiters, and a
 /// Joint mark.
-fn pushed(alloc: Global, stream: TokenStream) -> Result<TokenStream, Fail> {
+fn quote_of_pushes(alloc: Global, stream: TokenStream) -> Result<TokenStream, Fail> {
     let mut quote = Quote::new(alloc);
     quote.push(TokenTree::Punct(Punct::new('\'', Spacing::Alone)))?;
     quote.push(TokenTree::Group(Group::new(Delimiter::None, stream)))?;
@@ -274,7 +274,7 @@ fn text_of(map: &SourceMap, span: Span) -> Option<&str> {
 fn a_stream_has_exactly_what_was_pushed(rt: HostRuntime) -> Result<(), Fail> {
     let mut map = SourceMap::new(rt.alloc());
     let name = TokenStream::from_str("a", &mut map)?;
-    let stream = pushed(rt.alloc(), name)?;
+    let stream = quote_of_pushes(rt.alloc(), name)?;
     let found = match parts_of(&stream) {
         Some((first, delimiter, name, last)) => {
             Some((first, delimiter, text_of(&map, name.span()), last))
@@ -340,7 +340,7 @@ fn forty_thousand_trees_are_finished(rt: HostRuntime) -> Result<(), Fail> {
 
 #[test]
 fn the_trees_of_a_text_go_between_others(rt: HostRuntime) -> Result<(), Fail> {
-    let mut quote = quoted(
+    let mut quote = quote_with(
         &rt,
         &[Tree::One(Leaf::Name("x")), Tree::One(Leaf::Alone(':'))],
     )?;

@@ -21,14 +21,14 @@ struct Fillings {
     lists: Vec<Vec<TokenStream>>,
 }
 
-fn parsed(alloc: Global, text: &str) -> Result<TokenStream, Fail> {
+fn parse_text(alloc: Global, text: &str) -> Result<TokenStream, Fail> {
     Ok(TokenStream::from_str(text, &mut SourceMap::new(alloc))?)
 }
 
 fn parsed_list(alloc: Global, texts: &[&str]) -> Result<Vec<TokenStream>, Fail> {
     let mut streams = Vec::new(alloc);
     for text in texts {
-        streams.push(parsed(alloc, text)?)?;
+        streams.push(parse_text(alloc, text)?)?;
     }
     Ok(streams)
 }
@@ -36,7 +36,7 @@ fn parsed_list(alloc: Global, texts: &[&str]) -> Result<Vec<TokenStream>, Fail> 
 fn parsed_ones(alloc: Global, ones: &[(&str, &str)]) -> Result<Vec<TokenStream>, Fail> {
     let mut streams = Vec::new(alloc);
     for &(_, text) in ones {
-        streams.push(parsed(alloc, text)?)?;
+        streams.push(parse_text(alloc, text)?)?;
     }
     Ok(streams)
 }
@@ -80,7 +80,7 @@ fn filled_by(alloc: Global, template: &str, holes: &[Hole<'_>]) -> Result<String
 }
 
 /// Returns the printed text of the filled template.
-fn filled(alloc: Global, template: &str, given: Given) -> Result<String, Fail> {
+fn filled_text(alloc: Global, template: &str, given: Given) -> Result<String, Fail> {
     let fillings = parsed_holes(alloc, given)?;
     let holes = holes(alloc, given, &fillings)?;
     filled_by(alloc, template, holes.as_slice())
@@ -93,13 +93,13 @@ fn check_filled(
     given: Given,
     want: &str,
 ) -> Result<(), Fail> {
-    let code = filled(rt.alloc(), template, given)?;
+    let code = filled_text(rt.alloc(), template, given)?;
     assert_eq!(rt; code.as_str(), want, "of {template:?}");
     Ok(())
 }
 
 /// Returns the message of the error and the columns of its start and end.
-fn told(
+fn message_of(
     alloc: Global,
     error: &TemplateError,
     map: &SourceMap,
@@ -123,7 +123,7 @@ fn fault(
     let mut quote = Quote::new(alloc);
     match quote.parse(template, &mut map, holes) {
         Ok(()) => Ok(None),
-        Err(error) => told(alloc, &error, &map),
+        Err(error) => message_of(alloc, &error, &map),
     }
 }
 
@@ -431,8 +431,8 @@ fn check_refused(rt: &(impl Abort + AllocGlobal), quote: &mut Quote) {
 
 /// Adds the template `#x;` to the quote, with `a` for its hole.
 fn fill(alloc: Global, quote: &mut Quote) -> Result<(), Fail> {
-    let one = parsed(alloc, "a")?;
-    let template = parsed(alloc, "#x;")?;
+    let one = parse_text(alloc, "a")?;
+    let template = parse_text(alloc, "#x;")?;
     quote.fill(&template, &[Hole::one("x", &one)])?;
     Ok(())
 }

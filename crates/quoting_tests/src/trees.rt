@@ -103,7 +103,7 @@ fn outer_tree(rt: &(impl Abort + AllocGlobal), tree: Tree) -> Result<TokenTree, 
 }
 
 /// Returns a quote of the trees.
-pub fn quoted(rt: &(impl Abort + AllocGlobal), trees: &[Tree]) -> Result<Quote, Fail> {
+pub fn quote_with(rt: &(impl Abort + AllocGlobal), trees: &[Tree]) -> Result<Quote, Fail> {
     let mut quote = Quote::new(rt.alloc());
     for it in trees {
         quote.push(outer_tree(rt, *it)?)?;

@@ -6,7 +6,7 @@ use std::process::Abort;
 use std::test::Fail;
 
 /// Returns the printed text of the template with these holes.
-fn filled(alloc: Global, template: &str, holes: &[Hole<'_>]) -> Result<String, TemplateError> {
+fn filled_text(alloc: Global, template: &str, holes: &[Hole<'_>]) -> Result<String, TemplateError> {
     let mut quote = Quote::new(alloc);
     quote.parse(template, &mut SourceMap::new(alloc), holes)?;
     let stream = quote.into_stream();
@@ -14,20 +14,20 @@ fn filled(alloc: Global, template: &str, holes: &[Hole<'_>]) -> Result<String, T
 }
 
 /// Returns the printed text of the template with this value for `x`.
-fn printed<'a>(
+fn printed_text<'a>(
     alloc: Global,
     template: &str,
     value: &'a Value<'a>,
 ) -> Result<String, TemplateError> {
     let holes = [Hole::of("x", value)];
-    filled(alloc, template, &holes)
+    filled_text(alloc, template, &holes)
 }
 
 /// The error of a template, its column, and the number of trees in the quote after it.
-type Told = (TemplateError, Option<usize>, usize);
+type ErrorCase = (TemplateError, Option<usize>, usize);
 
 /// Returns the error of the template with these holes.
-fn told(alloc: Global, template: &str, holes: &[Hole<'_>]) -> Option<Told> {
+fn message_of(alloc: Global, template: &str, holes: &[Hole<'_>]) -> Option<ErrorCase> {
     let mut quote = Quote::new(alloc);
     let mut map = SourceMap::new(alloc);
     let Err(fault) = quote.parse(template, &mut map, holes) else {
@@ -41,9 +41,9 @@ fn told(alloc: Global, template: &str, holes: &[Hole<'_>]) -> Option<Told> {
 }
 
 /// Returns the error of `a b #x` with this value for `x`.
-fn fault_of<'a>(alloc: Global, value: &'a Value<'a>) -> Option<Told> {
+fn fault_of<'a>(alloc: Global, value: &'a Value<'a>) -> Option<ErrorCase> {
     let holes = [Hole::of("x", value)];
-    told(alloc, "a b #x", &holes)
+    message_of(alloc, "a b #x", &holes)
 }
 
 /// Asserts that a hole with this value is an error at its name, which leaves the quote empty. Returns the error.
@@ -67,7 +67,7 @@ fn check<'a>(
     value: &'a Value<'a>,
     want: &str,
 ) -> Result<(), Fail> {
-    let text = printed(rt.alloc(), template, value)?;
+    let text = printed_text(rt.alloc(), template, value)?;
     assert_eq!(rt; text.as_str(), want, "of {template:?}");
     Ok(())
 }
@@ -150,7 +150,7 @@ fn numbers_have_their_suffix(rt: HostRuntime) -> Result<(), Fail> {
         (Number::Isize(-1), "- 1isize"),
     ];
     for &(number, want) in &rows {
-        let text = printed(rt.alloc(), "#x", &Value::Number(number))?;
+        let text = printed_text(rt.alloc(), "#x", &Value::Number(number))?;
         assert_eq!(rt; text.as_str(), want);
     }
     Ok(())
@@ -252,11 +252,11 @@ fn three_filled<'a>(
         Hole::of("name", names),
         Hole::of("all", all),
     ];
-    filled(alloc, template, &holes)
+    filled_text(alloc, template, &holes)
 }
 
 /// What the template prints with a list of lists for `value`, a list for `name` and a name for `all`.
-fn nested(alloc: Global, template: &str) -> Result<String, TemplateError> {
+fn nested_text(alloc: Global, template: &str) -> Result<String, TemplateError> {
     let values = rows(alloc)?;
     let names = texts(alloc)?;
     three_filled(
@@ -281,11 +281,11 @@ fn repetitions_are_nested(rt: HostRuntime) -> Result<(), Fail> {
         ),
     ];
     for &(template, want) in &templates {
-        let text = nested(rt.alloc(), template)?;
+        let text = nested_text(rt.alloc(), template)?;
         assert_eq!(rt; text.as_str(), want);
     }
     // The innermost repetition has no list left.
-    let fault = nested(rt.alloc(), "#( #( #( #value )* )* )*");
+    let fault = nested_text(rt.alloc(), "#( #( #( #value )* )* )*");
     assert!(rt; matches!(fault, Err(TemplateError::NoList(_))));
     Ok(())
 }

@@ -14,17 +14,18 @@ use Rattle.lexical.specs.Text.{begins_with, first_passes}
 use Rattle.lexical.proofs.CommentKindLemmas.{comment_first, front_is}
 use Rattle.grammar_laws.proofs.StableLemmas.{all_append}
 use Rattle.relayout.specs.Relayout.{Becomes, Spaced, is_line, may_become, pieces_of, white_pieces}
-use Rattle.relayout.specs.Written.{choices_left, ends_line, is_white_gap, line_end, line_ends, next_choice, placed}
-use Rattle.relayout.specs.Written.{repeated, solid_pieces, written}
+use Rattle.relayout.specs.Written.{choices_left, ends_line, is_white_gap, line_end, line_ends, next_choice, replacement}
+use Rattle.relayout.specs.Written.{times, solid_pieces, relayout_text}
 use Rattle.relayout.specs.declared.white.White.{White}
 use Rattle.relayout.specs.declared.white.White.TheVariants.{Kept, Space, Lines}
 use Rattle.relayout.proofs.CoverLemmas.{change, onto_white, still_cover}
 
 -- ---- pieces with the white space before them
 
-abbrev pub spaced : List ℕ → List Piece → List Spaced
-spaced white [] = []
-spaced white (x ∷ ps) = if is_white_gap x then spaced (white ++ x.1) ps else (white, x) ∷ spaced [] ps
+abbrev pub spaced_pieces : List ℕ → List Piece → List Spaced
+spaced_pieces white [] = []
+spaced_pieces white (x ∷ ps) = if is_white_gap x then spaced_pieces (white ++ x.1) ps else (white, x)
+    ∷ spaced_pieces [] ps
 
 abbrev pub last_white : List ℕ → List Piece → List ℕ
 last_white white [] = white
@@ -50,7 +51,7 @@ white_more (d ∷ white) c ps = ap (λ x. (Gap, d ∷ []) ∷ x) (white_more whi
 
 -- pieces that are split into white space and others join to the same pieces again
 pub spaced_is : (first : Bool) (white : List ℕ) (ps : List Piece) → StandBefore first ps []
-    → pieces_of (spaced white ps) (last_white white ps) ≡ white_pieces white ps
+    → pieces_of (spaced_pieces white ps) (last_white white ps) ≡ white_pieces white ps
 spaced_is first white [] stand = refl
 spaced_is first white (x ∷ ps) stand = elim (cases_Bool (is_white_gap x)) [
   | inl gap ↦
@@ -66,33 +67,34 @@ spaced_is first white (x ∷ ps) stand = elim (cases_Bool (is_white_gap x)) [
 
 -- ---- pieces with the chosen white space
 
-abbrev pub chosen : List White → Bool → List Spaced → List Spaced
-chosen choices line [] = []
-chosen choices line (x ∷ xs) =
-    (placed (next_choice choices) line x.0, x.1) ∷ chosen (choices_left choices x.0) (is_line x.1) xs
+abbrev pub chosen_whites : List White → Bool → List Spaced → List Spaced
+chosen_whites choices line [] = []
+chosen_whites choices line (x ∷ xs) =
+    (replacement (next_choice choices) line x.0, x.1) ∷ chosen_whites (choices_left choices x.0) (is_line x.1) xs
 
 abbrev pub chosen_last : List White → Bool → List Spaced → List ℕ → List ℕ
-chosen_last choices line [] last = placed (next_choice choices) line last
+chosen_last choices line [] last = replacement (next_choice choices) line last
 chosen_last choices line (x ∷ xs) last = chosen_last (choices_left choices x.0) (is_line x.1) xs last
 
 abbrev pub chosen_pieces : List White → Bool → List Spaced → List ℕ → List Piece
-chosen_pieces choices line xs last = pieces_of (chosen choices line xs) (chosen_last choices line xs last)
+chosen_pieces choices line xs last = pieces_of (chosen_whites choices line xs) (chosen_last choices line xs last)
 
 -- what is written is the text of the pieces with the chosen white space
 pub written_is : (choices : List White) (line : Bool) (white : List ℕ) (ps : List Piece)
-    → written choices line white ps ≡ onto (chosen_pieces choices line (spaced white ps) (last_white white ps)) []
-written_is choices line white [] = sym (onto_white (placed (next_choice choices) line white) [] [] ∙ append-nil _)
+    → relayout_text choices line white ps
+    ≡ onto (chosen_pieces choices line (spaced_pieces white ps) (last_white white ps)) []
+written_is choices line white [] = sym (onto_white (replacement (next_choice choices) line white) [] [] ∙ append-nil _)
 written_is choices line white (x ∷ ps) = elim (cases_Bool (is_white_gap x)) [
   | inl gap ↦
       cond-true _ _ _ gap
       ∙ (written_is choices line (white ++ x.1) ps
       ∙ sym (ap₂ (λ xs last. onto (chosen_pieces choices line xs last) []) (cond-true _ _ _ gap) (cond-true _ _ _ gap)))
   | inr solid ↦
-      let now = placed (next_choice choices) line white in
+      let now = replacement (next_choice choices) line white in
       let left = choices_left choices white in
       cond-false _ _ _ solid
       ∙ (ap (λ t. now ++ (x.1 ++ t)) (written_is left (is_line x) [] ps)
-      ∙ (sym (onto_white now (x ∷ chosen_pieces left (is_line x) (spaced [] ps) (last_white [] ps)) [])
+      ∙ (sym (onto_white now (x ∷ chosen_pieces left (is_line x) (spaced_pieces [] ps) (last_white [] ps)) [])
       ∙ sym (ap₂ (λ xs last. onto (chosen_pieces choices line xs last) []) (cond-false _ _ _ solid)
       (cond-false _ _ _ solid))))
 ]
@@ -101,13 +103,13 @@ written_is choices line white (x ∷ ps) = elim (cases_Bool (is_white_gap x)) [
 
 may_from : (line : Bool) (c : ℕ) (w : List ℕ) (d : ℕ) (v : List ℕ) → list_all is_white (c ∷ w) ≡ true
     → list_all is_white (d ∷ v) ≡ true → (line ≡ true → d ≡ 10) → may_become line (c ∷ w) (d ∷ v) ≡ true
-may_from line c w d v old new feed = and_from _ _ old (and_from _ _ new (fed line feed))
+may_from line c w d v old new feed = and_from _ _ old (and_from _ _ new (no_line_feed line feed))
   where
-    fed : (line : Bool) → (line ≡ true → d ≡ 10) → (not line || (d == 10)) ≡ true
-    fed true feed = subst (λ x. (x == 10) ≡ true) (sym (feed refl)) refl
-    fed false feed = refl
+    no_line_feed : (line : Bool) → (line ≡ true → d ≡ 10) → (not line || (d == 10)) ≡ true
+    no_line_feed true feed = subst (λ x. (x == 10) ≡ true) (sym (feed refl)) refl
+    no_line_feed false feed = refl
 
-repeated_white : (c n : ℕ) → is_white c ≡ true → list_all is_white (repeated c n) ≡ true
+repeated_white : (c n : ℕ) → is_white c ≡ true → list_all is_white (times c n) ≡ true
 repeated_white c zero is = refl
 repeated_white c (suc n) is = and_from _ _ is (repeated_white c n is)
 
@@ -151,7 +153,7 @@ ends_some returned (c ∷ white) some = elim (cases_Bool (c == 10)) [
 
 may_place : (choice : White) (line : Bool) (white : List ℕ) → list_all is_white white ≡ true
     → (line ≡ true → first_passes (λ c. not (c == 10)) white ≡ false)
-    → may_become line white (placed choice line white) ≡ true
+    → may_become line white (replacement choice line white) ≡ true
 may_place choice line [] all feed = refl
 may_place Kept line (c ∷ white) all feed =
     may_from line c white c white all all (λ l. eqb-true c 10 (not-false _ (feed l)))
@@ -165,11 +167,11 @@ may_place (Lines tabs spaces) line (c ∷ white) all feed = elim (cases_Bool (en
 ]
   where
     indent : List ℕ
-    indent = repeated 9 tabs ++ repeated 32 spaces
+    indent = times 9 tabs ++ times 32 spaces
 
     indent_white : list_all is_white indent ≡ true
     indent_white =
-        all_append is_white (repeated 9 tabs) (repeated 32 spaces) (repeated_white 9 tabs refl)
+        all_append is_white (times 9 tabs) (times 32 spaces) (repeated_white 9 tabs refl)
         (repeated_white 32 spaces refl)
 
     all_white : list_all is_white (line_ends false (c ∷ white) ++ indent) ≡ true
@@ -197,16 +199,16 @@ line_stops : (p r : List ℕ) → Comment p r → begins_with (codes "//") p ≡
 line_stops p r (inl line) begins = line.second.stops
 line_stops p r (inr block) begins = absurd (both_ways _ (ap (begins_with (codes "//")) (front_is block)) begins)
 
-fed : (first : Bool) (x : Piece) (r : List ℕ) → IsPiece first x.0 x.1 r → is_line x ≡ true
+no_line_feed : (first : Bool) (x : Piece) (r : List ℕ) → IsPiece first x.0 x.1 r → is_line x ≡ true
     → first_passes (λ c. not (c == 10)) r ≡ false
-fed first (FrontMark, p) r h e = absurd (both_ways false refl e)
-fed first (Gap, p) r (inl h) e =
+no_line_feed first (FrontMark, p) r h e = absurd (both_ways false refl e)
+no_line_feed first (Gap, p) r (inl h) e =
     absurd (both_ways _ (ap (begins_with (codes "//")) h.1 ∙ and_right (47 == h.0) false refl) e)
-fed first (Gap, p) r (inr h) e = line_stops p r h.0 e
-fed first (Doc inner text, p) r h e = line_stops p r h.comment.0 e
-fed first (Open c, p) r h e = absurd (both_ways false refl e)
-fed first (Close c, p) r h e = absurd (both_ways false refl e)
-fed first (Leaf token, p) r h e = absurd (both_ways false refl e)
+no_line_feed first (Gap, p) r (inr h) e = line_stops p r h.0 e
+no_line_feed first (Doc inner text, p) r h e = line_stops p r h.comment.0 e
+no_line_feed first (Open c, p) r h e = absurd (both_ways false refl e)
+no_line_feed first (Close c, p) r h e = absurd (both_ways false refl e)
+no_line_feed first (Leaf token, p) r h e = absurd (both_ways false refl e)
 
 feed_front : (white r : List ℕ) → first_passes (λ c. not (c == 10)) (white ++ r) ≡ false
     → first_passes (λ c. not (c == 10)) white ≡ false
@@ -218,8 +220,8 @@ feed_front (c ∷ white) r e = e
 pub chosen_becomes : (first : Bool) (choices : List White) (line : Bool) (white : List ℕ) (ps : List Piece)
     → StandBefore first ps [] → list_all is_white white ≡ true
     → (line ≡ true → first_passes (λ c. not (c == 10)) (white ++ onto ps []) ≡ false)
-    → Becomes line (spaced white ps) (last_white white ps) (chosen choices line (spaced white ps))
-    (chosen_last choices line (spaced white ps) (last_white white ps))
+    → Becomes line (spaced_pieces white ps) (last_white white ps) (chosen_whites choices line (spaced_pieces white ps))
+    (chosen_last choices line (spaced_pieces white ps) (last_white white ps))
 chosen_becomes first choices line white [] stand all feed =
     may_place (next_choice choices) line white all (λ l. feed_front white [] (feed l))
 chosen_becomes first choices line white (x ∷ ps) stand all feed = elim (cases_Bool (is_white_gap x)) [
@@ -227,23 +229,23 @@ chosen_becomes first choices line white (x ∷ ps) stand all feed = elim (cases_
       let is = gap_is first x (onto ps []) stand.0 gap in
       let more : list_all is_white (white ++ x.1) ≡ true =
       all_append is_white white x.1 all (ap (λ y. list_all is_white y.1) is.1 ∙ and_from _ _ is.2 refl) in
-      subst (λ (xs : List Spaced × List ℕ). Becomes line xs.0 xs.1 (chosen choices line xs.0)
+      subst (λ (xs : List Spaced × List ℕ). Becomes line xs.0 xs.1 (chosen_whites choices line xs.0)
       (chosen_last choices line xs.0 xs.1))
       (sym (ap₂ (λ xs last. (xs, last))
-      (cond-true (is_white_gap x) (spaced (white ++ x.1) ps) ((white, x) ∷ spaced [] ps) gap)
+      (cond-true (is_white_gap x) (spaced_pieces (white ++ x.1) ps) ((white, x) ∷ spaced_pieces [] ps) gap)
       (cond-true (is_white_gap x) (last_white (white ++ x.1) ps) (last_white [] ps) gap)))
       (chosen_becomes false choices line (white ++ x.1) ps stand.1 more
       (λ l. ap (first_passes (λ c. not (c == 10))) (append_assoc white x.1 (onto ps [])) ∙ feed l))
   | inr solid ↦
-      subst (λ (xs : List Spaced × List ℕ). Becomes line xs.0 xs.1 (chosen choices line xs.0)
+      subst (λ (xs : List Spaced × List ℕ). Becomes line xs.0 xs.1 (chosen_whites choices line xs.0)
       (chosen_last choices line xs.0 xs.1))
       (sym (ap₂ (λ xs last. (xs, last))
-      (cond-false (is_white_gap x) (spaced (white ++ x.1) ps) ((white, x) ∷ spaced [] ps) solid)
+      (cond-false (is_white_gap x) (spaced_pieces (white ++ x.1) ps) ((white, x) ∷ spaced_pieces [] ps) solid)
       (cond-false (is_white_gap x) (last_white (white ++ x.1) ps) (last_white [] ps) solid))) (
         refl,
         may_place (next_choice choices) line white all (λ l. feed_front white (x.1 ++ onto ps []) (feed l)),
         chosen_becomes false (choices_left choices white) (is_line x) [] ps stand.1 refl
-            (fed first x (onto ps []) stand.0),
+            (no_line_feed first x (onto ps []) stand.0),
       )
 ]
 
@@ -294,16 +296,17 @@ becomes_solid line (x ∷ xs) old (y ∷ ys) new h =
 
 -- what is written for pieces that cover a source is covered by the same pieces except for white characters
 pub relaid_cover : (source : List ℕ) (choices : List White) (us : List Piece) → IsCover us source
-    → (vs : List Piece) × IsCover vs (written choices false [] us) × (solid_pieces vs ≡ solid_pieces us)
+    → (vs : List Piece) × IsCover vs (relayout_text choices false [] us) × (solid_pieces vs ≡ solid_pieces us)
 relaid_cover source choices us covers =
-    let xs = spaced [] us in
+    let xs = spaced_pieces [] us in
     let last = last_white [] us in
     let whole : pieces_of xs last ≡ us = spaced_is true [] us covers.stand in
     let becomes = chosen_becomes true choices false [] us covers.stand refl (λ l. absurd (both_ways false refl l)) in
-    let same = becomes_solid false xs last (chosen choices false xs) (chosen_last choices false xs last) becomes in (
+    let same = becomes_solid false xs last (chosen_whites choices false xs) (chosen_last choices false xs last)
+    becomes in (
       chosen_pieces choices false xs last,
       subst (IsCover (chosen_pieces choices false xs last)) (sym (written_is choices false [] us))
-          (still_cover source xs last (chosen choices false xs) (chosen_last choices false xs last)
+          (still_cover source xs last (chosen_whites choices false xs) (chosen_last choices false xs last)
           (subst (λ ps. IsCover ps source) (sym whole) covers) becomes),
       sym same ∙ ap solid_pieces whole,
     )

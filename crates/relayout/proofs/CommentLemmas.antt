@@ -15,7 +15,7 @@ use Rattle.pm_stream.specs.Forest.{Forest, flattening}
 use Rattle.pm_stream.specs.Parsing.{ParsesTo}
 use Rattle.pm_stream.proofs.LawLemmas.{one_cover}
 use Rattle.proc_macro2.specs.Laws.{Gives}
-use Rattle.proc_macro2.proofs.EventSpans.{bare, said, said_onto, said_parsed, same_from_said}
+use Rattle.proc_macro2.proofs.EventSpans.{bare, piece_events, piece_event_onto, events_of_parsed, same_from_events}
 use Rattle.relayout.specs.Commented.{Part, White, Kept, Attribute, comment_front, is_doc_line, is_free}
 use Rattle.relayout.specs.Commented.{may_all, new_pieces, old_pieces}
 use Rattle.relayout.specs.Relayout.{is_line}
@@ -182,12 +182,12 @@ stand_all first free (Attribute false text ∷ ps) may stand =
     )
 
 -- the pieces with comments mean the same tokens
-said_parts : (ps : List Part) → said (new_pieces ps) ≡ said (old_pieces ps)
-said_parts [] = refl
-said_parts (White c ∷ ps) = said_parts ps
-said_parts (Kept x ∷ ps) = ap (said_onto x.0) (said_parts ps)
-said_parts (Attribute true text ∷ ps) = ap (doc_onto 0 0 true text) (said_parts ps)
-said_parts (Attribute false text ∷ ps) = ap (doc_onto 0 0 false text) (said_parts ps)
+events_of_parts : (ps : List Part) → piece_events (new_pieces ps) ≡ piece_events (old_pieces ps)
+events_of_parts [] = refl
+events_of_parts (White c ∷ ps) = events_of_parts ps
+events_of_parts (Kept x ∷ ps) = ap (piece_event_onto x.0) (events_of_parts ps)
+events_of_parts (Attribute true text ∷ ps) = ap (doc_onto 0 0 true text) (events_of_parts ps)
+events_of_parts (Attribute false text ∷ ps) = ap (doc_onto 0 0 false text) (events_of_parts ps)
 
 -- ---- the law
 
@@ -198,10 +198,10 @@ comments_cover source ps covers may = record { whole = refl; stand = stand_all t
 pub comments_keep : (source : List ℕ) (ps : List Part) → IsCover (old_pieces ps) source → may_all true ps ≡ true
     → (base first : ℕ) (stream : Forest) → ParsesTo first source stream → Gives base (onto (new_pieces ps) []) stream
 comments_keep source ps covers may base first stream parses =
-    let says : said (new_pieces ps) ≡ bare (flattening stream) =
-    said_parts ps ∙ (ap said (one_cover source (old_pieces ps) parses.pieces covers parses.covers)
-    ∙ said_parsed first source stream parses) in
-    let x = same_from_said base stream (new_pieces ps) says in
+    let says : piece_events (new_pieces ps) ≡ bare (flattening stream) =
+    events_of_parts ps ∙ (ap piece_events (one_cover source (old_pieces ps) parses.pieces covers parses.covers)
+    ∙ events_of_parsed first source stream parses) in
+    let x = same_from_events base stream (new_pieces ps) says in
     record {
       parsed = x.0;
       parses = record { pieces = new_pieces ps; covers = comments_cover source ps covers may; expands = x.1 };

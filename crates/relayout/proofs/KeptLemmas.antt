@@ -122,28 +122,30 @@ no_hash whole none = no_front whole (λ inner. by_front inner whole none)
     by_front false (c ∷ whole) none = hash_first c (codes "[doc = ") whole none
 
 -- no attribute begins there if no comment can hold its text
-pub no_doc : (whole said rest : List ℕ) (inner : Bool)
-    → whole ≡ attribute_front inner ++ (string_text said ++ (codes "]\n" ++ rest)) → IsText said
-    → is_doc_line inner said ≡ false → HasNoAttribute whole
-no_doc whole said rest inner is all fails =
-    no_line whole (string_text said ++ (codes "]\n" ++ rest)) (string_text said) rest said inner is
-    (string_stands said (10 ∷ rest) all) refl refl all fails
+pub no_doc : (whole doc_body rest : List ℕ) (inner : Bool)
+    → whole ≡ attribute_front inner ++ (string_text doc_body ++ (codes "]\n" ++ rest)) → IsText doc_body
+    → is_doc_line inner doc_body ≡ false → HasNoAttribute whole
+no_doc whole doc_body rest inner is all fails =
+    no_line whole (string_text doc_body ++ (codes "]\n" ++ rest)) (string_text doc_body) rest doc_body inner is
+    (string_stands doc_body (10 ∷ rest) all) refl refl all fails
 
-pub becomes : (kept whole said rest out before front a b c new : List ℕ) (inner : Bool)
-    → whole ≡ attribute_front inner ++ (string_text said ++ (codes "]\n" ++ rest)) → IsText said
-    → is_doc_line inner said ≡ true → ((front : List ℕ) → kept ≡ front ++ whole → before ≡ front)
-    → front ≡ comment_front inner → a ≡ out ++ before → b ≡ a ++ front → c ≡ b ++ said → new ≡ c ++ (10 ∷ [])
+pub becomes : (kept whole doc_body rest out before front a b c new : List ℕ) (inner : Bool)
+    → whole ≡ attribute_front inner ++ (string_text doc_body ++ (codes "]\n" ++ rest)) → IsText doc_body
+    → is_doc_line inner doc_body ≡ true → ((front : List ℕ) → kept ≡ front ++ whole → before ≡ front)
+    → front ≡ comment_front inner → a ≡ out ++ before → b ≡ a ++ front → c ≡ b ++ doc_body → new ≡ c ++ (10 ∷ [])
     → BecomesComment kept whole rest out new
-becomes kept whole said rest out before front a b c new inner is all may stands first keep second third last = record {
-  inner = inner;
-  text = said;
-  all = all;
-  attribute = record { is = is; may = may };
-  writes = λ skipped split.
-      attribute_written a front said b c new inner first second third last
-      ∙ (ap (λ x. x ++ onto (new_part (Attribute inner said)) []) (keep ∙ ap (λ x. out ++ x) (stands skipped split))
-      ∙ append_assoc out skipped (onto (new_part (Attribute inner said)) []));
-}
+becomes kept whole doc_body rest out before front a b c new inner is all may stands first keep second third last =
+    record {
+      inner = inner;
+      text = doc_body;
+      all = all;
+      attribute = record { is = is; may = may };
+      writes = λ skipped split.
+          attribute_written a front doc_body b c new inner first second third last
+          ∙ (ap (λ x. x ++ onto (new_part (Attribute inner doc_body)) [])
+            (keep ∙ ap (λ x. out ++ x) (stands skipped split))
+          ∙ append_assoc out skipped (onto (new_part (Attribute inner doc_body)) []));
+    }
 
 -- an attribute that a comment replaces is the next part, and nothing is kept after it
 pub keeps_comment : (source kept text rest out new : List ℕ) (first free : Bool) → free ≡ true

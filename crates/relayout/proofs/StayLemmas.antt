@@ -16,7 +16,8 @@ use Rattle.lexical.proofs.CommentKindLemmas.{comment_first}
 use Rattle.lexical.proofs.SpacedLemmas.{Covers, gaps, piece_of, next_there, spaced_back, spaced_end, spaced_on}
 use Rattle.lexical.proofs.SpacedLemmas.{spaced_solid, white_back}
 use Rattle.relayout.specs.Relayout.{is_line}
-use Rattle.relayout.specs.Written.{Placed, choices_left, is_white_gap, next_choice, placed, white_text, written}
+use Rattle.relayout.specs.Written.{Placed, choices_left, is_white_gap, next_choice, replacement, white_text}
+use Rattle.relayout.specs.Written.{relayout_text}
 use Rattle.relayout.specs.declared.white.White.{White}
 use Rattle.relayout.specs.declared.white.White.TheVariants.{Kept}
 use Rattle.relayout.proofs.ChoiceLemmas.{white_is_gap}
@@ -37,12 +38,12 @@ solid first (Leaf token, p) r stands other = refl
 
 written_gaps : (choices : List White) (line : Bool) (run white : List ℕ) (ps : List Piece)
     → list_all is_white white ≡ true
-    → written choices line run (gaps white ++ ps) ≡ written choices line (run ++ white) ps
-written_gaps choices line run [] ps each = ap (λ w. written choices line w ps) (sym (append-nil run))
+    → relayout_text choices line run (gaps white ++ ps) ≡ relayout_text choices line (run ++ white) ps
+written_gaps choices line run [] ps each = ap (λ w. relayout_text choices line w ps) (sym (append-nil run))
 written_gaps choices line run (c ∷ white) ps each =
     let parts = and_parts _ _ each in
     cond-true _ _ _ (white_is_gap c parts.0) ∙ (written_gaps choices line (run ++ (c ∷ [])) white ps parts.1
-    ∙ ap (λ w. written choices line w ps) (append_assoc run (c ∷ []) white))
+    ∙ ap (λ w. relayout_text choices line w ps) (append_assoc run (c ∷ []) white))
 
 -- ---- the loop's invariant
 
@@ -53,7 +54,7 @@ pub record Stays (source : List ℕ) (choices left : List White) (line : Bool) (
   pub keeps : kept ≡ front ++ chars at.rest.now
   pub only : (us : List Piece) → IsCover us source → (ps : List Piece) × Covers at ps
   pub all : (ps : List Piece) → Covers at ps → (us : List Piece) × IsCover us source
-      × ((out ++ front) ++ written left line [] ps ≡ written choices false [] us)
+      × ((out ++ front) ++ relayout_text left line [] ps ≡ relayout_text choices false [] us)
 
 pub stays_start : (text : List ℕ) (choices : List White) (at : PieceWalk) (out : List ℕ) → at.rest.now ≡ text
     → at.at_front ≡ true → out ≡ [] → Stays (chars text) choices choices false (chars text) at out
@@ -64,7 +65,7 @@ stays_start text choices at out whole first none = record {
   all = λ ps covers. (
     ps,
     record { whole = rw whole at covers.0; stand = rw first at covers.1 },
-    ap (λ o. o ++ written choices false [] ps) (append-nil out ∙ none),
+    ap (λ o. o ++ relayout_text choices false [] ps) (append-nil out ∙ none),
   );
 }
 
@@ -89,19 +90,19 @@ stays_piece source choices left after line now kept kept_now at next to piece ou
           (more.0, more.1);
       all = λ ps covers.
           let before = so.all (gaps white ++ (piece_of piece ∷ ps)) (spaced_back at next to is piece some ps covers) in
-          let tail : List ℕ = written (choices_left left white) (is_line (piece_of piece)) [] ps in
+          let tail : List ℕ = relayout_text (choices_left left white) (is_line (piece_of piece)) [] ps in
           let none = solid is.here.at_front (piece_of piece) (chars to.rest.now) there.stands
           (spaced_solid at next to is piece some) in
-          let last : written left line [] (gaps white ++ (piece_of piece ∷ ps))
-          ≡ placed (next_choice left) line white ++ (text ++ tail) =
+          let last : relayout_text left line [] (gaps white ++ (piece_of piece ∷ ps))
+          ≡ replacement (next_choice left) line white ++ (text ++ tail) =
           written_gaps left line [] white (piece_of piece ∷ ps) is.passes.splits.stands.each
           ∙ cond-false _ _ _ none in
-          let same : (new ++ (run.front_now ++ text)) ++ written after now [] ps
-          ≡ (out ++ so.front) ++ written left line [] (gaps white ++ (piece_of piece ∷ ps)) =
+          let same : (new ++ (run.front_now ++ text)) ++ relayout_text after now [] ps
+          ≡ (out ++ so.front) ++ relayout_text left line [] (gaps white ++ (piece_of piece ∷ ps)) =
           ap₂ (λ n t. n ++ t) (sym (append_assoc new run.front_now text) ∙ ap (λ f. f ++ text) run.writes)
-          (ap₂ (λ c l. written c l [] ps) run.leaves lines)
-          ∙ (append_assoc ((out ++ so.front) ++ placed (next_choice left) line white) text tail
-          ∙ (append_assoc (out ++ so.front) (placed (next_choice left) line white) (text ++ tail)
+          (ap₂ (λ c l. relayout_text c l [] ps) run.leaves lines)
+          ∙ (append_assoc ((out ++ so.front) ++ replacement (next_choice left) line white) text tail
+          ∙ (append_assoc (out ++ so.front) (replacement (next_choice left) line white) (text ++ tail)
           ∙ ap (λ t. (out ++ so.front) ++ t) (sym last))) in
           (before.0, before.1, same ∙ before.2);
     }
@@ -112,12 +113,12 @@ pub stays_all : (source : List ℕ) (choices left after : List White) (line : Bo
     → chars next.rest.now ≡ [] → (so : Stays source choices left line kept at out)
     → Placed left after line so.front (chars next.white.now) kept_now (chars next.rest.now) out new
     → last ≡ new ++ kept_now
-    → (us : List Piece) × IsCover us source × (last ≡ written choices false [] us)
+    → (us : List Piece) × IsCover us source × (last ≡ relayout_text choices false [] us)
 stays_all source choices left after line kept kept_now at next to out new last is end so run push =
     let white = chars next.white.now in
     let before = so.all (gaps white ++ [])
     (white_back at next.white.now is.here is.passes [] (ap chars (sym is.rest) ∙ end, tt)) in
-    let same : last ≡ (out ++ so.front) ++ written left line [] (gaps white ++ []) =
+    let same : last ≡ (out ++ so.front) ++ relayout_text left line [] (gaps white ++ []) =
     push ∙ (ap (λ k. new ++ k) (run.keeps ∙ (ap (λ r. run.front_now ++ r) end ∙ append-nil run.front_now))
     ∙ (run.writes ∙ ap (λ t. (out ++ so.front) ++ t)
     (sym (written_gaps left line [] white [] is.passes.splits.stands.each)))) in
@@ -151,12 +152,14 @@ places_kept choices left line kept from to out run since (c, more, some) stays l
 })
 
 -- a run that changes is written after the text that was kept before it
-pub places_changed : (choices left : List White) (choice : White) (line : Bool) (kept from to out written new : List ℕ)
+pub places_changed : (choices left : List White) (choice : White) (line : Bool)
+    (kept from to out relayout_text new : List ℕ)
     (front_text run : List ℕ) → ((front : List ℕ) → kept ≡ front ++ from → front_text ≡ front)
     → ((c : ℕ) × (more : List ℕ) × (run ≡ c ∷ more)) → choices ≡ choice ∷ left
-    → written ≡ out ++ front_text → new ≡ written ++ white_text choice line run
+    → relayout_text ≡ out ++ front_text → new ≡ relayout_text ++ white_text choice line run
     → (front : List ℕ) → kept ≡ front ++ from → Placed choices left line front run to to out new
-places_changed choices left choice line kept from to out written new front_text run before (c, more, is) some fill push
+places_changed choices left choice line kept from to out relayout_text new front_text run before (c, more, is) some fill
+    push
     front keeps =
     rw (is, some) (record {
       front_now = [];

@@ -3,7 +3,7 @@ use Rattle.std.specs.Prelude.{ℕ, ◌≡◌, false, List, []}
 use Rattle.lexical.specs.Cover.{IsCover}
 use Rattle.lexical.specs.Piece.{Piece}
 use Rattle.relayout.specs.Laws.{KeepsTokens}
-use Rattle.relayout.specs.Written.{solid_pieces, written}
+use Rattle.relayout.specs.Written.{solid_pieces, relayout_text}
 use Rattle.relayout.specs.declared.errors.RelayoutError.{RelayoutError}
 use Rattle.relayout.specs.declared.errors.RelayoutError.TheVariants.{NoPiece, Memory}
 use Rattle.relayout.specs.declared.white.White.{White}
@@ -17,7 +17,7 @@ HasNoCover source = (all : List Piece) → IsCover all source → ⊥
 pub record IsRelaid (choices : List White) (source text : List ℕ) : Type 0 where
   pub pieces : List Piece
   pub covers : IsCover pieces source
-  pub is : text ≡ written choices false [] pieces
+  pub is : text ≡ relayout_text choices false [] pieces
   pub pieces_now : List Piece
   pub covers_now : IsCover pieces_now text
   pub same : solid_pieces pieces_now ≡ solid_pieces pieces

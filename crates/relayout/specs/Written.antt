@@ -12,9 +12,9 @@ use Rattle.relayout.specs.declared.white.White.TheVariants.{Kept, Space, Lines}
 -- ---- white space
 
 -- the character `n` times
-abbrev pub repeated : ℕ → ℕ → List ℕ
-repeated c zero = []
-repeated c (suc n) = c ∷ repeated c n
+abbrev pub times : ℕ → ℕ → List ℕ
+times c zero = []
+times c (suc n) = c ∷ times c n
 
 -- whether there is an LF in the white space
 abbrev pub ends_line : List ℕ → Bool
@@ -34,12 +34,12 @@ abbrev pub white_text : White → Bool → List ℕ → List ℕ
 white_text Kept line white = white
 white_text Space line white = if line then codes "\n" else codes " "
 white_text (Lines tabs spaces) line white =
-    if ends_line white then line_ends false white ++ (repeated 9 tabs ++ repeated 32 spaces) else white
+    if ends_line white then line_ends false white ++ (times 9 tabs ++ times 32 spaces) else white
 
 -- what replaces a run: nothing if the run is empty
-abbrev pub placed : White → Bool → List ℕ → List ℕ
-placed choice line [] = []
-placed choice line (c ∷ white) = white_text choice line (c ∷ white)
+abbrev pub replacement : White → Bool → List ℕ → List ℕ
+replacement choice line [] = []
+replacement choice line (c ∷ white) = white_text choice line (c ∷ white)
 
 -- ---- the choices, one for each run of white characters
 
@@ -59,7 +59,7 @@ choices_left (choice ∷ choices) (c ∷ white) = choices
 pub record Placed (choices left : List White) (line : Bool) (front run kept rest old new : List ℕ) : Type 0 where
   pub front_now : List ℕ
   pub keeps : kept ≡ front_now ++ rest
-  pub writes : new ++ front_now ≡ (old ++ front) ++ placed (next_choice choices) line run
+  pub writes : new ++ front_now ≡ (old ++ front) ++ replacement (next_choice choices) line run
   pub leaves : left ≡ choices_left choices run
 
 -- ---- the whole text
@@ -70,12 +70,12 @@ is_white_gap (pieces.Gap, text) = not (begins_with (codes "/") text)
 is_white_gap (_, text) = false
 
 -- what is written for the pieces after the white space `white`; `line` says whether a line comment precedes that
-abbrev pub written : List White → Bool → List ℕ → List Piece → List ℕ
-written choices line white [] = placed (next_choice choices) line white
-written choices line white (piece ∷ more) =
-    if is_white_gap piece then written choices line (white ++ piece.1) more
-    else (placed (next_choice choices) line white
-    ++ (piece.1 ++ written (choices_left choices white) (is_line piece) [] more))
+abbrev pub relayout_text : List White → Bool → List ℕ → List Piece → List ℕ
+relayout_text choices line white [] = replacement (next_choice choices) line white
+relayout_text choices line white (piece ∷ more) =
+    if is_white_gap piece then relayout_text choices line (white ++ piece.1) more
+    else (replacement (next_choice choices) line white
+    ++ (piece.1 ++ relayout_text (choices_left choices white) (is_line piece) [] more))
 
 -- the pieces that are not white characters
 abbrev pub solid_pieces : List Piece → List Piece

@@ -19,7 +19,7 @@ ghost use Rattle.relayout.specs.Written.{ends_line, is_white_gap};
 
 use crate::errors::RelayoutError;
 use crate::literals::{escaped_text, plain_front, strip};
-use lexical::parts::{Cursor, before, begins, skip_to_either};
+use lexical::parts::{TextCursor, before, begins, skip_to_either};
 use lexical::{PieceKind, literal_at, past_white, piece_at};
 use pm_token::parts::{TextBuilder, string_literal};
 use pm_token::{ConversionErrorKind, Literal};
@@ -140,43 +140,43 @@ fn push_attribute<'a>(
         if let Some(rest) = strip(more, "\"]\n") {
             return push_doc(out, kept, text, inner, front, rest);
         }
-        if let Some((said, rest)) = escaped_text(alloc, front, more)? {
-            return push_doc(out, kept, text, inner, said.as_str(), rest);
+        if let Some((doc_body, rest)) = escaped_text(alloc, front, more)? {
+            return push_doc(out, kept, text, inner, doc_body.as_str(), rest);
         }
     }
     let Some((literal, rest)) = split_literal(after) else {
         return Ok(None);
     };
-    let Some(said) = text_of(alloc, literal)? else {
+    let Some(doc_body) = text_of(alloc, literal)? else {
         return Ok(None);
     };
-    push_doc(out, kept, text, inner, said.as_str(), rest)
+    push_doc(out, kept, text, inner, doc_body.as_str(), rest)
 }
 
-/// Writes the comment for an attribute whose text is `said`, if a one-line comment can hold that text, and returns
+/// Writes the comment for an attribute whose text is `doc_body`, if a one-line comment can hold that text, and returns
 /// `rest`, which follows the attribute's line. Otherwise it returns `None` and writes nothing.
 fn push_doc<'a>(
     out: &mut TextBuilder,
     kept: &str,
     text: &str,
     inner: bool,
-    said: &str,
+    doc_body: &str,
     rest: &'a str,
 ) -> Result<Option<&'a str>, AllocError>
     requires kept { (front : List ℕ) × (chars kept.now ≡ front ++ chars text.now) }
     requires is { chars text.now
-        ≡ attribute_front inner ++ (string_text (chars said.now) ++ (codes "]\n" ++ chars rest.now)) }
+        ≡ attribute_front inner ++ (string_text (chars doc_body.now) ++ (codes "]\n" ++ chars rest.now)) }
     ensures found { IfOk result (λ found. MatchOption found
         (HasNoAttribute (chars text.now) × (out.new ≡ out.old))
         (λ rest. BecomesComment (chars kept.now) (chars text.now) (chars rest.now) out.old out.new)) }
     ensures utf8 { IfOk result (λ found. IfSome found (λ rest. IsUtf8 rest.now)) }
 {
-    if !is_doc_line(inner, said) {
+    if !is_doc_line(inner, doc_body) {
         return Ok(None);
     }
     out.push_text(before(kept, text))?;
     out.push_text(front_of(inner))?;
-    out.push_text(said)?;
+    out.push_text(doc_body)?;
     out.push('\n')?;
     Ok(Some(rest))
 }
@@ -302,7 +302,7 @@ fn is_doc_line(inner: bool, text: &str) -> bool
 fn is_in_line(text: &str) -> bool
     ensures { result ≡ list_all in_line (chars text.now) }
 {
-    skip_to_either(Cursor::new(text), b'\n', b'\r')
+    skip_to_either(TextCursor::new(text), b'\n', b'\r')
         .rest
         .is_empty()
 }

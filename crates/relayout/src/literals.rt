@@ -7,7 +7,7 @@ ghost use Rattle.lexical.specs.Ascii.{all_ascii};
 ghost use Rattle.lexical.specs.Character.{backslash, double_quote};
 ghost use Rattle.lexical.specs.Finder.{while_front};
 ghost use Rattle.lexical.specs.Text.{begins_with};
-ghost use Rattle.pm_token.specs.Escaped.{is_plain_ascii, string_text, written, written_char};
+ghost use Rattle.pm_token.specs.Escaped.{is_plain_ascii, string_text, char_text, written_char};
 
 use pm_token::parts::{TextBuilder, is_bare};
 use std::alloc::{AllocError, Global};
@@ -44,19 +44,19 @@ pub(crate) fn escaped_text<'a>(
         return Ok(None);
     }
     // No text is longer than the content of its literal.
-    let mut said = TextBuilder::with_room(alloc, front.len() + size)?;
-    said.push_text(front)?;
+    let mut doc_body = TextBuilder::with_room(alloc, front.len() + size)?;
+    doc_body.push_text(front)?;
     let mut rest = after;
     while !rest.is_empty() {
-        if let Some(behind) = strip(rest, "\"]\n") {
-            return Ok(Some((said.into_string(), behind)));
+        if let Some(after_unit) = strip(rest, "\"]\n") {
+            return Ok(Some((doc_body.into_string(), after_unit)));
         }
-        let Some((c, behind)) = split_unit(rest) else {
+        let Some((c, after_unit)) = split_unit(rest) else {
             return Ok(None);
         };
-        said.push(c)?;
-        let (plain, left) = split_plain(behind);
-        said.push_text(plain)?;
+        doc_body.push(c)?;
+        let (plain, left) = split_plain(after_unit);
+        doc_body.push_text(plain)?;
         rest = left;
     }
     Ok(None)
@@ -133,7 +133,7 @@ fn is_letter(byte: u8) -> bool {
 /// Splits off the first character, if it needs no escape and is past ASCII, or is written with a short escape.
 fn split_unit(text: &str) -> Option<(char, &str)>
     ensures found { IfSome result (λ x. (unit : List ℕ) × (chars text.now ≡ unit ++ chars x.1.now)
-        × ((more : List ℕ) → written double_quote written_char x.0 more ≡ unit)) }
+        × ((more : List ℕ) → char_text double_quote written_char x.0 more ≡ unit)) }
     ensures shorter { IfSome result (λ x. length (chars x.1.now) < length (chars text.now)) }
     ensures utf8 { IfSome result (λ x. IsUtf8 x.1.now) }
 {
@@ -145,8 +145,8 @@ fn split_unit(text: &str) -> Option<(char, &str)>
             None
         };
     }
-    let (letter, behind) = split_first(after)?;
-    Some((meaning(letter)?, behind))
+    let (letter, after_unit) = split_first(after)?;
+    Some((meaning(letter)?, after_unit))
 }
 
 /// The first character of a text, and the text after it.
@@ -162,7 +162,7 @@ fn split_first(text: &str) -> Option<(char, &str)>
 
 /// Whether the character is past ASCII and needs no escape.
 fn stands_past_ascii(c: char) -> bool
-    ensures { IsTrue result → (more : List ℕ) → written double_quote written_char c more ≡ c ∷ [] }
+    ensures { IsTrue result → (more : List ℕ) → char_text double_quote written_char c more ≡ c ∷ [] }
 {
     !c.is_ascii() && is_bare(c)
 }
@@ -170,7 +170,7 @@ fn stands_past_ascii(c: char) -> bool
 /// Returns the character that the escape of this letter means, if `Literal::string` writes it with that escape.
 fn meaning(letter: char) -> Option<char>
     ensures { IfSome result (λ c. (more : List ℕ)
-        → written double_quote written_char c more ≡ backslash ∷ letter ∷ []) }
+        → char_text double_quote written_char c more ≡ backslash ∷ letter ∷ []) }
 {
     match letter {
         '\\' => Some('\\'),

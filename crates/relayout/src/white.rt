@@ -1,7 +1,7 @@
 //! White space, and what replaces it.
 ghost use Rattle.std.specs.Prelude.{◌≡◌, ◌++◌, IfOk, OnOk, false};
 ghost use Rattle.std.specs.Str.{chars};
-ghost use Rattle.relayout.specs.Written.{ends_line, line_end, line_ends, repeated, white_text};
+ghost use Rattle.relayout.specs.Written.{ends_line, line_end, line_ends, times, white_text};
 
 use pm_token::parts::TextBuilder;
 use std::alloc::AllocError;
@@ -87,7 +87,7 @@ fn push_line_end(out: &mut TextBuilder, returned: bool, c: char) -> Result<(), A
 
 /// Writes the character `count` times.
 fn push_times(out: &mut TextBuilder, c: char, count: usize) -> Result<(), AllocError>
-    ensures { OnOk result (out.new ≡ out.old ++ repeated c count) }
+    ensures { OnOk result (out.new ≡ out.old ++ times c count) }
 {
     let mut left = count;
     while left > 0 {

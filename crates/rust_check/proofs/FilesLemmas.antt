@@ -6,46 +6,46 @@ use Rattle.std.specs.declared.alloc.Global.{Global}
 use Rattle.std.proofs.Math.Seq.{drop-cons}
 use Rattle.std.proofs.Math.ListN.{drop_of_length-le}
 use Rattle.rust_check.specs.Answer.{TellsAll}
-use Rattle.rust_check.specs.Files.{AllTold, Outcome, counted}
+use Rattle.rust_check.specs.Files.{AllReport, Outcome, count_outcome}
 use Rattle.rust_check.specs.declared.options.Form.{Form}
 use Rattle.rust_check.specs.declared.tally.Tally.{Tally}
 
 -- if the file was read, everything found in it is written
-abbrev pub Told : Form → Bool → List ℕ → Outcome → Option (List ℕ) → Option (List ℕ) → Type 0
-Told form hidden path outcome old new =
+abbrev pub Reports : Form → Bool → List ℕ → Outcome → Option (List ℕ) → Option (List ℕ) → Type 0
+Reports form hidden path outcome old new =
     IfOk outcome (λ faulty. (text : List ℕ) × TellsAll form hidden path text old new faulty)
 
-told_cons : (form : Form) (hidden : Bool) (path : List ℕ) (paths : List (List ℕ)) (outcome : Outcome)
+report_cons : (form : Form) (hidden : Bool) (path : List ℕ) (paths : List (List ℕ)) (outcome : Outcome)
     (more : List Outcome) (old between new : Option (List ℕ))
-    → Told form hidden path outcome old between → AllTold form hidden paths more between new
-    → AllTold form hidden (path ∷ paths) (outcome ∷ more) old new
-told_cons form hidden path paths (Ok faulty) more old between new told rest = (told.0, between, told.1, rest)
-told_cons form hidden path paths (Err failure) more old between new told rest = (between, rest)
+    → Reports form hidden path outcome old between → AllReport form hidden paths more between new
+    → AllReport form hidden (path ∷ paths) (outcome ∷ more) old new
+report_cons form hidden path paths (Ok faulty) more old between new report rest = (report.0, between, report.1, rest)
+report_cons form hidden path paths (Err failure) more old between new report rest = (between, rest)
 
 -- the outcome of one file, before those of the files that are left
-pub told_one : (form : Form) (hidden : Bool) (paths : List (String Global)) (k : ℕ) (path : String Global)
+pub report_one : (form : Form) (hidden : Bool) (paths : List (String Global)) (k : ℕ) (path : String Global)
     (outcome : Outcome) (more : List Outcome) (old between new : Option (List ℕ))
     → k < length paths → path ≡ get_or paths k path
-    → Told form hidden (string_bytes path) outcome old between
-    → AllTold form hidden (map string_bytes (drop (k + 1) paths)) more between new
-    → AllTold form hidden (map string_bytes (drop k paths)) (outcome ∷ more) old new
-told_one form hidden paths k path outcome more old between new within is told rest =
+    → Reports form hidden (string_bytes path) outcome old between
+    → AllReport form hidden (map string_bytes (drop (k + 1) paths)) more between new
+    → AllReport form hidden (map string_bytes (drop k paths)) (outcome ∷ more) old new
+report_one form hidden paths k path outcome more old between new within is report rest =
     let next : suc k ≡ k + 1 = omega arith in
     let split : drop k paths ≡ path ∷ drop (k + 1) paths =
     drop-cons paths k path within ∙ (ap (λ x. x ∷ drop (suc k) paths) (sym is)
     ∙ ap (λ n. path ∷ drop n paths) next) in
-    subst (λ l. AllTold form hidden (map string_bytes l) (outcome ∷ more) old new) (sym split)
-    (told_cons form hidden (string_bytes path) _ outcome more old between new told rest)
+    subst (λ l. AllReport form hidden (map string_bytes l) (outcome ∷ more) old new) (sym split)
+    (report_cons form hidden (string_bytes path) _ outcome more old between new report rest)
 
 -- no files are left once the index is past the last
-pub told_none : (form : Form) (hidden : Bool) (paths : List (String Global)) (k : ℕ) (known : Option (List ℕ))
-    → length paths ≤ k → AllTold form hidden (map string_bytes (drop k paths)) [] known known
-told_none form hidden paths k known past =
-    subst (λ l. AllTold form hidden (map string_bytes l) [] known known) (sym (drop_of_length-le paths past)) refl
+pub report_none : (form : Form) (hidden : Bool) (paths : List (String Global)) (k : ℕ) (known : Option (List ℕ))
+    → length paths ≤ k → AllReport form hidden (map string_bytes (drop k paths)) [] known known
+report_none form hidden paths k known past =
+    subst (λ l. AllReport form hidden (map string_bytes l) [] known known) (sym (drop_of_length-le paths past)) refl
 
 -- one outcome adds at most 1 to each count
 pub counted_most : (tally : Tally) (outcome : Outcome) (most : ℕ) → tally.faulty ≤ most → tally.unread ≤ most
-    → ((counted tally outcome).faulty ≤ most + 1) × ((counted tally outcome).unread ≤ most + 1)
+    → ((count_outcome tally outcome).faulty ≤ most + 1) × ((count_outcome tally outcome).unread ≤ most + 1)
 counted_most tally (Ok true) most f u = (omega arith, omega arith)
 counted_most tally (Ok false) most f u = (omega arith, omega arith)
 counted_most tally (Err failure) most f u = (omega arith, omega arith)

@@ -1,7 +1,7 @@
 pub mod PlaceLemmas
 pub mod ShownLemmas
 pub mod FilesLemmas
-pub mod ToldLemmas
+pub mod ReportLemmas
 pub mod EndsLemmas
 pub mod TurnsLemmas
 pub mod PieceLemmas

@@ -34,11 +34,11 @@ module _ {A B S : Type 0} (map : HashMap (String A) (String B) S) (names : List 
       by None e is = absurd is
       by (Some f) e is = (f, e, is)
 
-  pub other_told : (first : String B) (bytes : List ℕ) (is : Bool)
+  pub other_report : (first : String B) (bytes : List ℕ) (is : Bool)
       → get_by_text map (encode_utf8_all (nfkc name)) ≡ Some first → bytes ≡ encode_utf8_all name
       → is ≡ not (bytes_eq (string_bytes first) bytes)
       → (is ≡ is_other name names) × AreFirst map (name ∷ names)
-  other_told first bytes is found spelled tells =
+  other_report first bytes is found spelled tells =
       let k = known first found in (
         tells ∙ ap not (ap (bytes_eq (string_bytes first)) spelled
             ∙ (ap (λ b. bytes_eq b (encode_utf8_all name)) k.2 ∙ bytes_tell k.0 name))
@@ -64,13 +64,13 @@ module _ {A B S : Type 0} (map : HashMap (String A) (String B) S) (names : List 
       step form f has None e h =
           by_same form f has e h (is_same_text (nfkc name) form) refl
 
-  pub new_told : (new : HashMap (String A) (String B) S) (stored : String B)
+  pub new_report : (new : HashMap (String A) (String B) S) (stored : String B)
       → get_by_text map (encode_utf8_all (nfkc name)) ≡ None
       → string_bytes stored ≡ encode_utf8_all name
       → ((form : List ℕ) → get_by_text new (encode_utf8_all form)
       ≡ update bytes_eq (get_by_text map) (encode_utf8_all (nfkc name)) (Some stored) (encode_utf8_all form))
       → (false ≡ is_other name names) × AreFirst new (name ∷ names)
-  new_told new stored lacks spelled updates =
+  new_report new stored lacks spelled updates =
       let none = unknown (first_named (nfkc name) names) (subst (λ o. IsText o (first_named (nfkc name) names)) lacks
       (are (nfkc name))) in
       (ap (is_other_than name) (sym none), λ form. step form none)

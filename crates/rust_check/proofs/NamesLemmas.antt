@@ -8,9 +8,9 @@ use Rattle.rust_check.specs.LineEnds.{odd}
 use Rattle.rust_check.specs.Message.{Found}
 use Rattle.rust_check.specs.NameForms.{is_other}
 use Rattle.rust_check.specs.Telling.{Tells}
-use Rattle.rust_check.specs.declared.finding.Place.{Place}
+use Rattle.rust_check.specs.declared.finding.TextPosition.{TextPosition}
 use Rattle.rust_check.specs.declared.options.Form.{Form}
-use Rattle.rust_check.proofs.ToldLemmas.{tells_more, tells_same}
+use Rattle.rust_check.proofs.ReportLemmas.{tells_more, tells_same}
 use Rattle.std.specs.Str.{chars, IsUtf8}
 use Rattle.std.proofs.lemmas.List.{nil_from_length}
 use Rattle.std.proofs.lemmas.Str.{chars-nil, chars_past_char, IsUtf8-past_char}
@@ -46,7 +46,7 @@ not_cases true x y = refl
 not_cases false x y = refl
 
 -- the three tests of a name together report all that is odd about it
-pub name_told : (form : Form) (path : List ℕ) (place : Place) (name text : List ℕ) (good apart other : Bool)
+pub name_report : (form : Form) (path : List ℕ) (place : TextPosition) (name text : List ℕ) (good apart other : Bool)
     (first second third : Found) (names : List (List ℕ))
     (old between later new : Option (List ℕ)) (before so_far by_now after : Bool) → (IsTrue good ↔ IsInForm Nfc name)
     → apart ≡ is_mixed name → other ≡ is_other name names
@@ -58,8 +58,9 @@ pub name_told : (form : Form) (path : List ℕ) (place : Place) (name text : Lis
     → Tells form path (if apart then second ∷ [] else []) between later so_far by_now
     → Tells form path (if other then third ∷ [] else []) later new by_now after
     → Tells form path (found_in_name place names name text) old new before after
-name_told form path place name text good apart other first second third names old between later new before so_far by_now
-    after answer parts likes one two three told mixed like =
+name_report form path place name text good apart other first second third names old between later new before so_far
+    by_now
+    after answer parts likes one two three report mixed like =
     let same : good ≡ is_nfc name = same_from_decides good (is_nfc name) answer (bytes_eq-Decides (nfc name) name) in
     let front : (if not good then first ∷ [] else [])
     ≡ (if is_nfc name then []
@@ -78,7 +79,7 @@ name_told form path place name text good apart other first second third names ol
     else []) =
     ap (λ b. if b then third ∷ [] else []) likes ∙ ap (λ x. if is_other name names then x ∷ [] else []) three in
     tells_more form path _ _ old between new before so_far after
-    (tells_same form path _ _ old between before so_far front told)
+    (tells_same form path _ _ old between before so_far front report)
     (tells_more form path _ _ between later new so_far by_now after
     (tells_same form path _ _ between later so_far by_now back mixed)
     (tells_same form path _ _ later new by_now after last like))

@@ -10,9 +10,9 @@ use Rattle.lexical.specs.declared.walk.PieceWalk.{PieceWalk}
 use Rattle.pm_stream.specs.Parsing.{is_first}
 use Rattle.rust_check.specs.Message.{Found}
 use Rattle.rust_check.specs.Names.{found_by_kind, names_after}
-use Rattle.rust_check.specs.Place.{front, places_after}
-use Rattle.rust_check.specs.Told.{ArePieces, found_in_piece, found_in_pieces, is_literal}
-use Rattle.rust_check.specs.declared.finding.Place.{Place}
+use Rattle.rust_check.specs.TextPosition.{front, places_after}
+use Rattle.rust_check.specs.Report.{ArePieces, found_in_piece, found_in_pieces, is_literal}
+use Rattle.rust_check.specs.declared.finding.TextPosition.{TextPosition}
 
 -- whether the text after these pieces is the start of the source
 abbrev pub first_past : Bool → List Piece → Bool
@@ -35,10 +35,10 @@ left_before at next to more rest step left = record {
   stand = (
     subst (IsPiece at.at_front (kind_of next.piece.kind (chars next.text.now)) (chars next.text.now)) left.whole
         step.stands,
-    subst (λ first. StandBefore first more rest) step.behind left.stand,
+    subst (λ first. StandBefore first more rest) step.front_after left.stand,
   );
   none = subst (λ first. HasNoPiece first rest)
-      (ap (λ first. first_past first more) step.behind ∙ past_false more) left.none;
+      (ap (λ first. first_past first more) step.front_after ∙ past_false more) left.none;
 }
   where
     past_false : (more : List Piece) → first_past false more ≡ false
@@ -57,7 +57,8 @@ all_left text all rest left = record {
 }
 
 -- what is found in a piece, and then in the pieces after it, is found in all of them
-pub pieces_step : (done : List Found) (place after : Place) (before : List (List ℕ)) (kind : Kind) (words : List ℕ)
+pub pieces_step : (done : List Found) (place after : TextPosition) (before : List (List ℕ)) (kind : Kind)
+    (words : List ℕ)
     (literal : Bool) (more : List Piece) (rest : List ℕ) → literal ≡ is_literal kind → after ≡ places_after place words
     → (done ++ (found_by_kind place before kind words ++ found_in_piece literal place words))
     ++ found_in_pieces after (names_after before kind) more rest
@@ -72,14 +73,16 @@ pieces_step done place after before kind words literal more rest is past =
     ∙ (append_assoc done (here ++ inside) tail ∙ ap (λ l. done ++ l) (append_assoc here inside tail)))
 
 -- what is found so far, with what is found in the pieces that are left, is all that is found in the text's pieces
-pub record GoesOn (done : List Found) (place : Place) (before : List (List ℕ)) (text : List ℕ) (more : List Piece)
+pub record GoesOn (done : List Found) (place : TextPosition) (before : List (List ℕ)) (text : List ℕ)
+    (more : List Piece)
     (rest : List ℕ) : Type 0 where
   pub pieces : List Piece
   pub are : ArePieces pieces text rest
   pub all : done ++ found_in_pieces place before more rest ≡ found_in_pieces front [] pieces rest
 
 -- at the start of the text nothing is found yet
-pub front_on : (first : Bool) (words text : List ℕ) (place : Place) (more : List Piece) (rest : List ℕ) → first ≡ true
+pub front_on : (first : Bool) (words text : List ℕ) (place : TextPosition) (more : List Piece) (rest : List ℕ)
+    → first ≡ true
     → words ≡ text → place ≡ front → AreLeft first words more rest → GoesOn [] place [] text more rest
 front_on first words text place more rest at is stands left = record {
   pieces = more;
@@ -89,7 +92,8 @@ front_on first words text place more rest at is stands left = record {
 }
 
 -- one more piece keeps the invariant
-pub piece_on : (done : List Found) (place after : Place) (before : List (List ℕ)) (text : List ℕ) (at : PieceWalk)
+pub piece_on : (done : List Found) (place after : TextPosition) (before : List (List ℕ)) (text : List ℕ)
+    (at : PieceWalk)
     (next : PlacedPiece) (to : PieceWalk) (literal : Bool) (more : List Piece) (rest : List ℕ) → IsNext at next to
     → literal ≡ is_literal (kind_of next.piece.kind (chars next.text.now))
     → after ≡ places_after place (chars next.text.now)

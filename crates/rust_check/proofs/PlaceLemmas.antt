@@ -9,7 +9,7 @@ use Rattle.std.proofs.lemmas.Str.{chars-nil, chars_past_char, IsUtf8-past_char}
 use Rattle.std.proofs.lemmas.List.Sums.{count_by-le-length, sum_by-append, take_while-cons}
 use Rattle.pm_span.proofs.AsciiLemmas.{length_chars_le}
 use Rattle.pm_span.specs.CharOffset.{is_line_feed}
-use Rattle.rust_check.specs.Place.{ends_line, first_line, last_line, last_number}
+use Rattle.rust_check.specs.TextPosition.{ends_line, first_line, last_line, last_number}
 
 -- the part of the text before `rest` is read, and the line that is reached has this number and begins with `front`
 pub record IsAt (text front rest : List ℕ) (number : ℕ) : Type 0 where

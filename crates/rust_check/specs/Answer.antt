@@ -16,8 +16,8 @@ use Rattle.explain.specs.declared.reason.Reason.TheVariants.{MismatchedCloser}
 use Rattle.pm_span.specs.Files.{new_map, next_lo}
 use Rattle.rust_check.specs.Colours.{Codes, plain, terminal}
 use Rattle.rust_check.specs.Message.{Found, excerpt, message}
-use Rattle.rust_check.specs.Place.{last_line, last_number}
-use Rattle.rust_check.specs.Told.{TellsHidden}
+use Rattle.rust_check.specs.TextPosition.{last_line, last_number}
+use Rattle.rust_check.specs.Report.{TellsHidden}
 use Rattle.explain.specs.Words.{name_of, sentence_of}
 use Rattle.rust_check.specs.declared.options.Form.{Form}
 use Rattle.rust_check.specs.declared.options.Form.TheVariants.{Short, Long, Coloured, Json}
@@ -49,11 +49,12 @@ abbrev pub fault : List ℕ → Explained → Found
 fault text x = found_at (name_of x.reason) (sentence_of x.reason) text x.at.span.lo x.at.span.hi
 
 -- a note with the part of the source that it is about
-abbrev pub noted : Codes → List ℕ → List ℕ → Found → List ℕ
-noted k path says x = k.strong ++ (codes "note" ++ (k.off ++ (codes ": " ++ (says ++ codes "\n")))) ++ excerpt k path x
+abbrev pub note_message : Codes → List ℕ → List ℕ → Found → List ℕ
+note_message k path says x = k.strong ++ (codes "note" ++ (k.off ++ (codes ": " ++ (says ++ codes "\n"))))
+    ++ excerpt k path x
 
 abbrev pub noted_at : Codes → List ℕ → List ℕ → List ℕ → Stretch → List ℕ
-noted_at k path says text at = noted k path says (found_at [] [] text at.span.lo at.span.hi)
+noted_at k path says text at = note_message k path says (found_at [] [] text at.span.lo at.span.hi)
 
 -- the note that shows the opener that waits for another closer
 abbrev pub waiting_note : Codes → List ℕ → List ℕ → Option Opener → List ℕ
@@ -93,9 +94,9 @@ note Short path text x hint = []
 note Json path text x hint = []
 
 -- the message about the error and the notes below it; nothing for a text that parses
-abbrev pub said : Form → List ℕ → List ℕ → Option Explained → Option Hint → List ℕ
-said form path text None hint = []
-said form path text (Some x) hint = message form path (fault text x) ++ note form path text x hint
+abbrev pub message_and_notes : Form → List ℕ → List ℕ → Option Explained → Option Hint → List ℕ
+message_and_notes form path text None hint = []
+message_and_notes form path text (Some x) hint = message form path (fault text x) ++ note form path text x hint
 
 -- the text is explained, with a hint if there is one; all of that is written, and the result is whether the text has an
 -- error
@@ -103,12 +104,12 @@ abbrev pub Tells : Form → List ℕ → List ℕ → Option (List ℕ) → Opti
 Tells form path text old new faulty =
     (answer : Option Explained) × (hint : Option Hint)
     × MatchOption answer (Parses first text) (λ x. IsExplained first text x × IsHint first text x hint)
-    × (faulty ≡ is_some answer) × Appends old new (said form path text answer hint)
+    × (faulty ≡ is_some answer) × Appends old new (message_and_notes form path text answer hint)
 
 -- the text's error is written, and then its hidden characters if `hidden` is true; the result is whether anything was
 -- found
 abbrev pub TellsAll : Form → Bool → List ℕ → List ℕ → Option (List ℕ) → Option (List ℕ) → Bool → Type 0
 TellsAll form false path text old new found = Tells form path text old new found
 TellsAll form true path text old new found =
-    (faulty : Bool) × (told : Bool) × (between : Option (List ℕ)) × Tells form path text old between faulty
-    × TellsHidden form path text between new told × (found ≡ (faulty || told))
+    (faulty : Bool) × (report : Bool) × (between : Option (List ℕ)) × Tells form path text old between faulty
+    × TellsHidden form path text between new report × (found ≡ (faulty || report))

@@ -12,25 +12,25 @@ abbrev pub Outcome : Type 0
 Outcome = Result Bool Failure
 
 -- the files are checked in order and have these outcomes; for each file that was read, everything found is written
-abbrev pub AllTold : Form → Bool → List (List ℕ) → List Outcome → Option (List ℕ) → Option (List ℕ) → Type 0
-AllTold form hidden [] [] old new = old ≡ new
-AllTold form hidden [] (outcome ∷ outcomes) old new = ⊥
-AllTold form hidden (path ∷ paths) [] old new = ⊥
-AllTold form hidden (path ∷ paths) (Ok faulty ∷ outcomes) old new =
+abbrev pub AllReport : Form → Bool → List (List ℕ) → List Outcome → Option (List ℕ) → Option (List ℕ) → Type 0
+AllReport form hidden [] [] old new = old ≡ new
+AllReport form hidden [] (outcome ∷ outcomes) old new = ⊥
+AllReport form hidden (path ∷ paths) [] old new = ⊥
+AllReport form hidden (path ∷ paths) (Ok faulty ∷ outcomes) old new =
     (text : List ℕ) × (between : Option (List ℕ)) × TellsAll form hidden path text old between faulty
-    × AllTold form hidden paths outcomes between new
-AllTold form hidden (path ∷ paths) (Err failure ∷ outcomes) old new =
-    (between : Option (List ℕ)) × AllTold form hidden paths outcomes between new
+    × AllReport form hidden paths outcomes between new
+AllReport form hidden (path ∷ paths) (Err failure ∷ outcomes) old new =
+    (between : Option (List ℕ)) × AllReport form hidden paths outcomes between new
 
 -- the counts with one more outcome
-abbrev pub counted : Tally → Outcome → Tally
-counted tally (Ok true) = record { faulty = tally.faulty + 1; unread = tally.unread }
-counted tally (Ok false) = tally
-counted tally (Err failure) = record { faulty = tally.faulty; unread = tally.unread + 1 }
+abbrev pub count_outcome : Tally → Outcome → Tally
+count_outcome tally (Ok true) = record { faulty = tally.faulty + 1; unread = tally.unread }
+count_outcome tally (Ok false) = tally
+count_outcome tally (Err failure) = record { faulty = tally.faulty; unread = tally.unread + 1 }
 
 abbrev pub all_counted : Tally → List Outcome → Tally
 all_counted tally [] = tally
-all_counted tally (outcome ∷ outcomes) = all_counted (counted tally outcome) outcomes
+all_counted tally (outcome ∷ outcomes) = all_counted (count_outcome tally outcome) outcomes
 
 abbrev pub nothing : Tally
 nothing = record { faulty = 0; unread = 0 }

@@ -1,4 +1,4 @@
-pub mod Place
+pub mod TextPosition
 pub mod Hidden
 pub mod Shown
 pub mod Colours
@@ -8,7 +8,7 @@ pub mod Telling
 pub mod LineEnds
 pub mod NameForms
 pub mod Names
-pub mod Told
+pub mod Report
 pub mod Answer
 pub mod Files
 pub mod Options

@@ -6,7 +6,7 @@ use Rattle.rust_check.specs.Telling.{found_along}
 use Rattle.rust_check.specs.declared.ends.LineEnds.{LineEnds}
 use Rattle.rust_check.specs.declared.ends.Style.{Style}
 use Rattle.rust_check.specs.declared.ends.Style.TheVariants.{Unknown, Feed, Return, Mixed}
-use Rattle.rust_check.specs.declared.finding.Place.{Place}
+use Rattle.rust_check.specs.declared.finding.TextPosition.{TextPosition}
 
 -- whether a line that ends with LF here ends differently from the lines before it, which all end alike
 abbrev pub is_unlike : Style → Bool → Bool
@@ -25,13 +25,13 @@ with_end Feed after_return = if after_return then Mixed else Feed
 with_end Return after_return = if after_return then Return else Mixed
 with_end Mixed after_return = Mixed
 
-abbrev pub joined : LineEnds → Style
-joined ends = with_end ends.style ends.after_return
+abbrev pub joint_style : LineEnds → Style
+joint_style ends = with_end ends.style ends.after_return
 
 -- what is known about the line ends after the character, where LF is 10 and CR is 13
 abbrev pub ends_after : LineEnds → ℕ → LineEnds
 ends_after ends c = record {
-  style = if c == 10 then joined ends else ends.style;
+  style = if c == 10 then joint_style ends else ends.style;
   after_return = c == 13;
 }
 
@@ -39,7 +39,7 @@ abbrev pub begins_feed : List ℕ → Bool
 begins_feed [] = false
 begins_feed (c ∷ rest) = c == 10
 
-abbrev pub odd : List ℕ → List ℕ → List ℕ → Place → Found
+abbrev pub odd : List ℕ → List ℕ → List ℕ → TextPosition → Found
 odd name says here place = record {
   name = name;
   says = says;
@@ -53,7 +53,7 @@ odd name says here place = record {
 
 -- what is odd at this character: CR before anything but LF, or LF that ends its line differently from the lines before
 -- it
-abbrev pub found_at_end : LineEnds → Place → ℕ → List ℕ → List Found
+abbrev pub found_at_end : LineEnds → TextPosition → ℕ → List ℕ → List Found
 found_at_end ends place c rest =
     if (c == 13) && not (begins_feed rest)
     then odd (codes "bare-return") (codes "CR that no LF follows") (13 ∷ []) place ∷ []
@@ -62,7 +62,7 @@ found_at_end ends place c rest =
     else [])
 
 -- what is odd about the line ends of a text that begins at this place
-abbrev pub found_in_ends : Place → List ℕ → List Found
+abbrev pub found_in_ends : TextPosition → List ℕ → List Found
 found_in_ends place text =
     found_along found_at_end (λ ends c rest. ends_after ends c) (record { style = Unknown; after_return = false }) place
     text

@@ -3,10 +3,10 @@ use Rattle.std.specs.Prelude.{ℕ, ◌+◌, ◌-◌, ◌==◌, List, [], ◌∷�
 use Rattle.std.specs.Prelude.{if◌then◌else◌}
 use Rattle.std.specs.Str.{chars, encode_utf8_all}
 use Rattle.messages.specs.Each.{each}
-use Rattle.messages.specs.Json.{escaped}
+use Rattle.messages.specs.Json.{json_escape}
 use Rattle.rust_check.specs.Colours.{Codes, plain, terminal}
-use Rattle.rust_check.specs.Place.{first_line}
-use Rattle.rust_check.specs.Shown.{carets, filled, shown, times}
+use Rattle.rust_check.specs.TextPosition.{first_line}
+use Rattle.rust_check.specs.Shown.{carets, fill_columns, visible_char, times}
 use Rattle.rust_check.specs.declared.finding.Finding.{Finding}
 use Rattle.rust_check.specs.declared.options.Form.{Form}
 use Rattle.rust_check.specs.declared.options.Form.TheVariants.{Short, Long, Coloured, Json}
@@ -25,8 +25,8 @@ pub record Found : Type 0 where
   pub rest : List ℕ
 
 -- the finding of the program's record
-abbrev pub seen : Finding → Found
-seen x = record {
+abbrev pub finding_of : Finding → Found
+finding_of x = record {
   name = x.name.now;
   says = x.says.now;
   line = x.place.line;
@@ -49,11 +49,11 @@ short path x =
 
 -- the line of the source, as it is shown
 abbrev pub source_line : Found → List ℕ
-source_line x = each shown x.front ++ each shown (first_line x.rest)
+source_line x = each visible_char x.front ++ each visible_char (first_line x.rest)
 
 -- the carets below the line of the source
 abbrev pub underline : Found → List ℕ
-underline x = filled (codes " ") x.front ++ carets (first_line x.here)
+underline x = fill_columns (codes " ") x.front ++ carets (first_line x.here)
 
 -- spaces for the width of the line number
 abbrev pub gutter : Found → List ℕ
@@ -80,8 +80,8 @@ long k path x = headline k x ++ excerpt k path x
 -- the first part of the JSON object: the file and what is wrong
 abbrev pub json_what : List ℕ → Found → List ℕ
 json_what path x =
-    codes "{\"file\":\"" ++ (escaped path ++ (codes "\",\"reason\":\"" ++ (x.name ++ (codes "\",\"message\":\""
-    ++ (escaped x.says ++ codes "\",")))))
+    codes "{\"file\":\"" ++ (json_escape path ++ (codes "\",\"reason\":\"" ++ (x.name ++ (codes "\",\"message\":\""
+    ++ (json_escape x.says ++ codes "\",")))))
 
 -- the second part of the JSON object: where the finding is
 abbrev pub json_where : Found → List ℕ

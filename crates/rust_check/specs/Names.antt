@@ -11,7 +11,7 @@ use Rattle.unicode_normalization.specs.Forms.{is_nfc}
 use Rattle.rust_check.specs.LineEnds.{odd}
 use Rattle.rust_check.specs.Message.{Found}
 use Rattle.rust_check.specs.NameForms.{is_other}
-use Rattle.rust_check.specs.declared.finding.Place.{Place}
+use Rattle.rust_check.specs.declared.finding.TextPosition.{TextPosition}
 use Rattle.rust_check.specs.declared.names.Writing.{Writing}
 use Rattle.rust_check.specs.declared.names.Writing.TheVariants.{Open, Han, Japanese, One, Mixed}
 
@@ -66,7 +66,7 @@ abbrev pub is_mixed : List ℕ → Bool
 is_mixed name = are_apart (all_written Open name)
 
 -- what is odd about a name whose piece has this text and begins at this place; `before` has the names before it
-abbrev pub found_in_name : Place → List (List ℕ) → List ℕ → List ℕ → List Found
+abbrev pub found_in_name : TextPosition → List (List ℕ) → List ℕ → List ℕ → List Found
 found_in_name place before name text =
     (if is_nfc name then []
     else odd (codes "name-not-in-nfc") (codes "a name that is not in the form NFC") text place ∷ [])
@@ -79,7 +79,7 @@ found_in_name place before name text =
     else []))
 
 -- what is odd about a piece of this kind: only names can be odd
-abbrev pub found_by_kind : Place → List (List ℕ) → Kind → List ℕ → List Found
+abbrev pub found_by_kind : TextPosition → List (List ℕ) → Kind → List ℕ → List Found
 found_by_kind place before (pieces.Leaf (tokens.Name raw name)) text = found_in_name place before name text
 found_by_kind place before (pieces.Leaf (tokens.Mark c joint)) text = []
 found_by_kind place before (pieces.Leaf (tokens.Literal whole)) text = []

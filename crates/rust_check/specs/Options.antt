@@ -10,8 +10,8 @@ use Rattle.rust_check.specs.declared.options.Form.TheVariants.{Short, Long, Colo
 use Rattle.rust_check.specs.declared.options.Options.{Options}
 use Rattle.rust_check.specs.declared.options.Request.{Request}
 use Rattle.rust_check.specs.declared.options.Request.TheVariants as requests
-use Rattle.rust_check.specs.declared.options.Word.{Word}
-use Rattle.rust_check.specs.declared.options.Word.TheVariants as words
+use Rattle.rust_check.specs.declared.options.ArgumentKind.{ArgumentKind}
+use Rattle.rust_check.specs.declared.options.ArgumentKind.TheVariants as words
 
 -- ---- one word
 
@@ -19,10 +19,10 @@ abbrev pub is_same : List ℕ → List ℕ → Bool
 is_same a b = pointwise nat_eq a b
 
 -- a word that is no known option: a path, or an unknown option if it begins with `-` (45) and is not `-` alone
-abbrev pub other_word : List ℕ → Word
+abbrev pub other_word : List ℕ → ArgumentKind
 other_word word = if (slice_index word 0 == 45) && not (length word == 1) then words.Unknown else words.Path
 
-abbrev pub word_of : List ℕ → Word
+abbrev pub word_of : List ℕ → ArgumentKind
 word_of word =
     if is_same word (codes "--short") then words.Short
     else (if is_same word (codes "--json") then words.Json
@@ -52,8 +52,8 @@ pub data Asked : Type 0 where
 abbrev pub no_wish : Wishes
 no_wish = record { form = Long; coloured = false; hidden = false; paths = [] }
 
--- the options with one more word, which means `Word`
-abbrev pub with_word : Word → List ℕ → Wishes → Wishes
+-- the options with one more word, which means `ArgumentKind`
+abbrev pub with_word : ArgumentKind → List ℕ → Wishes → Wishes
 with_word words.Short word w = record { form = Short; coloured = w.coloured; hidden = w.hidden; paths = w.paths }
 with_word words.Json word w = record { form = Json; coloured = w.coloured; hidden = w.hidden; paths = w.paths }
 with_word words.Hidden word w = record { form = w.form; coloured = w.coloured; hidden = true; paths = w.paths }
@@ -73,7 +73,7 @@ abbrev pub or_input : Wishes → Wishes
 or_input w = record { form = w.form; coloured = w.coloured; hidden = w.hidden; paths = or_dash w.paths }
 
 -- the first word that demands a text or is an unknown option decides; the other words do not
-abbrev pub unless_decided : Word → Asked → Asked
+abbrev pub unless_decided : ArgumentKind → Asked → Asked
 unless_decided words.Short next = next
 unless_decided words.Json next = next
 unless_decided words.Hidden next = next

@@ -11,8 +11,8 @@ times zero text = []
 times (suc n) text = text ++ times n text
 
 -- a character as it is shown: a tab as four spaces, CR and hidden characters as U+FFFD
-abbrev pub shown : ℕ → List ℕ
-shown c =
+abbrev pub visible_char : ℕ → List ℕ
+visible_char c =
     if c == 9 then codes "    " else (if (c == 13) || is_hidden c then encode_utf8 0xFFFD else encode_utf8 c)
 
 abbrev pub or_none : Option ℕ → ℕ
@@ -24,9 +24,9 @@ abbrev pub columns : ℕ → ℕ
 columns c = if c == 9 then 4 else (if (c == 13) || is_hidden c then 1 else or_none (char_width false c))
 
 -- `fill` once for each column of the text
-abbrev pub filled : List ℕ → List ℕ → List ℕ
-filled fill text = each (λ c. times (columns c) fill) text
+abbrev pub fill_columns : List ℕ → List ℕ → List ℕ
+fill_columns fill text = each (λ c. times (columns c) fill) text
 
 -- a caret for each column of the text, but at least one
 abbrev pub carets : List ℕ → List ℕ
-carets text = if length (filled (codes "^") text) == 0 then codes "^" else filled (codes "^") text
+carets text = if length (fill_columns (codes "^") text) == 0 then codes "^" else fill_columns (codes "^") text

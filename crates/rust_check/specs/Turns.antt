@@ -20,18 +20,18 @@ is_same false b = not b
 
 -- what is open after a part is closed, the innermost first; None if the innermost open part is another one or nothing
 -- is open
-abbrev pub closed : Bool → List Bool → Option (List Bool)
-closed apart [] = None
-closed apart (innermost ∷ opened) = if is_same innermost apart then Some opened else None
+abbrev pub close_part : Bool → List Bool → Option (List Bool)
+close_part apart [] = None
+close_part apart (innermost ∷ opened) = if is_same innermost apart then Some opened else None
 
-abbrev pub turned : Turn → List Bool → Option (List Bool)
-turned Stays opened = Some opened
-turned (Opens apart) opened = Some (apart ∷ opened)
-turned (Closes apart) opened = closed apart opened
+abbrev pub parts_after : Turn → List Bool → Option (List Bool)
+parts_after Stays opened = Some opened
+parts_after (Opens apart) opened = Some (apart ∷ opened)
+parts_after (Closes apart) opened = close_part apart opened
 
 abbrev pub open_after : Option (List Bool) → ℕ → Option (List Bool)
 open_after None c = None
-open_after (Some opened) c = turned (turn_of c) opened
+open_after (Some opened) c = parts_after (turn_of c) opened
 
 abbrev pub all_open : Option (List Bool) → List ℕ → Option (List Bool)
 all_open opened [] = opened

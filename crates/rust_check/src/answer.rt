@@ -3,15 +3,15 @@ ghost use Rattle.std.specs.Prelude.{◌≡◌, ◌++◌, IfOk, OnOk, Some};
 ghost use Rattle.std.specs.Io.KnownBytes.{Appends};
 ghost use Rattle.std.specs.Str.{chars};
 ghost use Rattle.rust_check.specs.Answer.{Tells, TellsAll, closed_note, depth_note, fault, found_at, hint_note};
-ghost use Rattle.rust_check.specs.Answer.{note, note_of, noted_at, notes, said};
+ghost use Rattle.rust_check.specs.Answer.{note, note_of, noted_at, notes, message_and_notes};
 ghost use Rattle.rust_check.specs.Colours.{codes_of};
-ghost use Rattle.rust_check.specs.Message.{seen};
+ghost use Rattle.rust_check.specs.Message.{finding_of};
 
 use crate::colours::Colours;
-use crate::finding::{Finding, Place};
+use crate::finding::{Finding, TextPosition};
 use crate::options::Form;
-use crate::place::{byte_count, last_line, split_chars};
-use crate::told::tell_hidden;
+use crate::report::tell_hidden;
+use crate::text_position::{byte_count, last_line, split_chars};
 use crate::writing::{write_excerpt, write_message};
 use explain::{ExplainError, Explained, Hint, Reason, Stretch, advice, explain};
 use messages::Failure;
@@ -38,8 +38,8 @@ pub fn check_all<W: Write>(
     if !hidden {
         return Ok(faulty);
     }
-    let told = tell_hidden(alloc, form, path, text, writer)?;
-    Ok(faulty || told)
+    let report = tell_hidden(alloc, form, path, text, writer)?;
+    Ok(faulty || report)
 }
 
 /// Writes why the text of the file at this path doesn't parse, and returns whether it has an error. Nothing is written
@@ -68,7 +68,7 @@ fn check_text<W: Write>(
 
 /// Returns the finding for the text's error.
 fn fault<'a>(text: &'a str, explained: &Explained) -> Finding<'a>
-    ensures { seen result ≡ fault (chars text.now) explained.now }
+    ensures { finding_of result ≡ fault (chars text.now) explained.now }
 {
     let reason = &explained.reason;
     found_at(reason.name(), reason.message(), text, explained.at.span)
@@ -85,7 +85,7 @@ fn write_fault<W: Write>(
     writer: &mut W,
 ) -> io::Result<()>
     ensures { OnOk result (Appends (W.contents writer.old) (W.contents writer.new)
-        (said form path.now (chars text.now) (Some explained.now) hint.now)) }
+        (message_and_notes form path.now (chars text.now) (Some explained.now) hint.now)) }
 {
     write_message(alloc, form, path, &fault(text, explained), writer)?;
     write_note(alloc, form, path, text, explained, hint, writer)
@@ -270,13 +270,13 @@ fn write_place<W: Write>(
 
 /// Returns the finding for the part of the text that the span covers.
 fn found_at<'a>(name: &'static str, says: &'static str, text: &'a str, span: Span) -> Finding<'a>
-    ensures { seen result ≡ found_at name.now says.now (chars text.now) span.lo span.hi }
+    ensures { finding_of result ≡ found_at name.now says.now (chars text.now) span.lo span.hi }
 {
     let (lo, hi) = bounds(span);
     let (before, rest) = split_chars(text, lo.saturating_sub(FIRST));
     let (here, _) = split_chars(rest, hi - lo);
     let line = last_line(before);
-    let place = Place {
+    let place = TextPosition {
         line: line.number,
         column: char_count(line.text),
         begin: byte_count(before),

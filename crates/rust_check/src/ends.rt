@@ -1,13 +1,14 @@
 //! What is odd about the line ends of a text.
 ghost use Rattle.std.specs.Prelude.{◌≡◌, OnOk};
 ghost use Rattle.std.specs.Str.{chars};
-ghost use Rattle.rust_check.specs.LineEnds.{begins_feed, ends_after, found_at_end, found_in_ends, is_other, joined};
+ghost use Rattle.rust_check.specs.LineEnds.{begins_feed, ends_after, found_at_end, found_in_ends, is_other};
+ghost use Rattle.rust_check.specs.LineEnds.{joint_style};
 ghost use Rattle.rust_check.specs.LineEnds.{odd};
-ghost use Rattle.rust_check.specs.Message.{seen};
-ghost use Rattle.rust_check.specs.Place.{front};
+ghost use Rattle.rust_check.specs.Message.{finding_of};
+ghost use Rattle.rust_check.specs.TextPosition.{front};
 ghost use Rattle.rust_check.specs.Telling.{Tells};
 
-use crate::finding::{Finding, Place};
+use crate::finding::{Finding, TextPosition};
 use crate::options::Form;
 use crate::writing::write_line;
 use std::alloc::Global;
@@ -48,7 +49,7 @@ pub fn tell_line_ends<W: Write>(
     ensures { OnOk result (Tells form path.now (found_in_ends front (chars text.now)) (W.contents writer.old)
         (W.contents writer.new) found.old found.new) }
 {
-    let mut place = Place::front();
+    let mut place = TextPosition::front();
     let mut ends = LineEnds {
         style: Style::Unknown,
         after_return: false,
@@ -78,7 +79,7 @@ fn tell_end<W: Write>(
     form: Form,
     path: &str,
     ends: LineEnds,
-    place: Place,
+    place: TextPosition,
     c: char,
     rest: &str,
     found: &mut bool,
@@ -102,8 +103,13 @@ fn tell_end<W: Write>(
 }
 
 /// Returns the finding for something odd at this place. It has no line of the source.
-pub fn odd<'a>(name: &'static str, says: &'static str, here: &'a str, place: Place) -> Finding<'a>
-    ensures { seen result ≡ odd name.now says.now (chars here.now) place }
+pub fn odd<'a>(
+    name: &'static str,
+    says: &'static str,
+    here: &'a str,
+    place: TextPosition,
+) -> Finding<'a>
+    ensures { finding_of result ≡ odd name.now says.now (chars here.now) place }
 {
     Finding {
         name,
@@ -131,14 +137,18 @@ impl LineEnds {
         ensures { result ≡ ends_after self c }
     {
         LineEnds {
-            style: if c == '\n' { self.joined() } else { self.style },
+            style: if c == '\n' {
+                self.joint_style()
+            } else {
+                self.style
+            },
             after_return: c == '\r',
         }
     }
 
     /// Returns how lines end once LF is read here.
-    fn joined(self) -> Style
-        ensures { result ≡ joined self }
+    fn joint_style(self) -> Style
+        ensures { result ≡ joint_style self }
     {
         match self.style {
             Style::Unknown if self.after_return => Style::Return,

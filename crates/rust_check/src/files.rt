@@ -1,7 +1,7 @@
 //! Checks files one after the other.
 ghost use Rattle.std.specs.Prelude.{◌≡◌, ℕ, List, IfOk, map, string_bytes};
 ghost use Rattle.rust_check.specs.Answer.{TellsAll};
-ghost use Rattle.rust_check.specs.Files.{AllTold, Outcome, all_counted, nothing};
+ghost use Rattle.rust_check.specs.Files.{AllReport, Outcome, all_counted, nothing};
 ghost use Rattle.rust_check.specs.Options.{form_of};
 
 use crate::answer::check_all;
@@ -22,7 +22,7 @@ pub fn check_files<W: Write, E: Write>(
     errors: &mut E,
 ) -> Result<Tally, Failure>
     ensures { IfOk result (λ tally. (outcomes : List Outcome)
-        × AllTold (form_of options.now) options.now.hidden (map string_bytes options.now.paths.items) outcomes
+        × AllReport (form_of options.now) options.now.hidden (map string_bytes options.now.paths.items) outcomes
         (W.contents writer.old) (W.contents writer.new)
         × (tally ≡ all_counted nothing outcomes)) }
 {

@@ -1,10 +1,10 @@
 //! Findings: what is reported about a text, and where.
 ghost use Rattle.std.specs.Prelude.{◌≡◌, ◌+◌, ◌<◌, ◌^◌, encode_utf8, length};
-ghost use Rattle.rust_check.specs.Place.{front, place_after};
+ghost use Rattle.rust_check.specs.TextPosition.{front, place_after};
 
 /// A position in a text.
 #[derive(Clone, Copy, Debug, PartialEq, Eq)]
-pub struct Place {
+pub struct TextPosition {
     /// The line, counted from 1.
     pub line: usize,
     /// The number of characters before it on its line.
@@ -13,12 +13,12 @@ pub struct Place {
     pub begin: usize,
 }
 
-impl Place {
+impl TextPosition {
     /// Returns the position at which a text begins.
-    pub fn front() -> Place
+    pub fn front() -> TextPosition
         ensures { result ≡ front }
     {
-        Place {
+        TextPosition {
             line: 1,
             column: 0,
             begin: 0,
@@ -26,7 +26,7 @@ impl Place {
     }
 
     /// Returns the position after the character `c`, if `c` is at this position. A new line begins after LF.
-    pub fn after(self, c: char) -> Place
+    pub fn after(self, c: char) -> TextPosition
         requires line { self.line + 1 < 2 ^ 64 }
         requires column { self.column + 1 < 2 ^ 64 }
         requires begin { self.begin + length (encode_utf8 c) < 2 ^ 64 }
@@ -34,13 +34,13 @@ impl Place {
     {
         let begin = self.begin + c.len_utf8();
         if c == '\n' {
-            Place {
+            TextPosition {
                 line: self.line + 1,
                 column: 0,
                 begin,
             }
         } else {
-            Place {
+            TextPosition {
                 line: self.line,
                 column: self.column + 1,
                 begin,
@@ -57,7 +57,7 @@ pub struct Finding<'a> {
     /// What it is, in a few words.
     pub says: &'static str,
     /// Where it begins.
-    pub place: Place,
+    pub place: TextPosition,
     /// The text before it on its line.
     pub front: &'a str,
     /// The text that it is about.

@@ -16,10 +16,10 @@ mod hidden;
 mod name_forms;
 mod names;
 mod options;
-mod place;
+mod report;
 mod shown;
 mod tally;
-mod told;
+mod text_position;
 mod turns;
 mod writing;
 

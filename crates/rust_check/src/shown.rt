@@ -2,7 +2,7 @@
 ghost use Rattle.std.specs.Prelude.{◌≡◌, ◌++◌, IfOk, OnOk, codes, string_bytes};
 ghost use Rattle.std.specs.Str.{chars};
 ghost use Rattle.messages.specs.Each.{each};
-ghost use Rattle.rust_check.specs.Shown.{carets, columns, filled, shown, times};
+ghost use Rattle.rust_check.specs.Shown.{carets, columns, fill_columns, visible_char, times};
 
 use crate::hidden::is_hidden;
 use std::alloc::{AllocError, Global};
@@ -11,7 +11,7 @@ use unicode_width::UnicodeWidthChar;
 /// Returns the two parts of a line as they are shown: a tab as four spaces, CR and hidden characters as U+FFFD.
 pub fn shown_line(alloc: Global, front: &str, rest: &str) -> Result<String, AllocError>
     ensures { IfOk result (λ out. string_bytes out
-        ≡ each shown (chars front.now) ++ each shown (chars rest.now)) }
+        ≡ each visible_char (chars front.now) ++ each visible_char (chars rest.now)) }
 {
     let mut out = String::new(alloc);
     push_shown(&mut out, front)?;
@@ -23,7 +23,7 @@ pub fn shown_line(alloc: Global, front: &str, rest: &str) -> Result<String, Allo
 /// precedes it.
 pub fn underline(alloc: Global, front: &str, part: &str) -> Result<String, AllocError>
     ensures { IfOk result (λ out. string_bytes out
-        ≡ filled (codes " ") (chars front.now) ++ carets (chars part.now)) }
+        ≡ fill_columns (codes " ") (chars front.now) ++ carets (chars part.now)) }
 {
     let mut out = String::new(alloc);
     push_filled(&mut out, " ", front)?;
@@ -46,7 +46,7 @@ pub fn spaces(alloc: Global, count: usize) -> Result<String, AllocError>
 
 /// Appends a text as it is shown.
 fn push_shown(out: &mut String, text: &str) -> Result<(), AllocError>
-    ensures { OnOk result (string_bytes out.new ≡ string_bytes out.old ++ each shown (chars text.now)) }
+    ensures { OnOk result (string_bytes out.new ≡ string_bytes out.old ++ each visible_char (chars text.now)) }
 {
     for c in text.chars() {
         push_character(out, c)?;
@@ -56,7 +56,7 @@ fn push_shown(out: &mut String, text: &str) -> Result<(), AllocError>
 
 /// Appends a character as it is shown.
 fn push_character(out: &mut String, c: char) -> Result<(), AllocError>
-    ensures { OnOk result (string_bytes out.new ≡ string_bytes out.old ++ shown c) }
+    ensures { OnOk result (string_bytes out.new ≡ string_bytes out.old ++ visible_char c) }
 {
     match c {
         '\t' => out.push_str("    "),
@@ -68,7 +68,7 @@ fn push_character(out: &mut String, c: char) -> Result<(), AllocError>
 
 /// Appends `fill` once for each column of the text.
 fn push_filled(out: &mut String, fill: &str, text: &str) -> Result<(), AllocError>
-    ensures { OnOk result (string_bytes out.new ≡ string_bytes out.old ++ filled fill.now (chars text.now)) }
+    ensures { OnOk result (string_bytes out.new ≡ string_bytes out.old ++ fill_columns fill.now (chars text.now)) }
 {
     for c in text.chars() {
         push_times(out, columns(c), fill)?;

@@ -1,7 +1,7 @@
 //! Counts the files with an error and the files that were not read, for the exit status.
 ghost use Rattle.std.specs.Prelude.{◌≡◌, ◌+◌, ◌<◌, ◌^◌, OnOk};
 ghost use Rattle.std.specs.Io.KnownBytes.{Appends};
-ghost use Rattle.rust_check.specs.Files.{counted, nothing, status_of, summary};
+ghost use Rattle.rust_check.specs.Files.{count_outcome, nothing, status_of, summary};
 
 use messages::Failure;
 use std::io;
@@ -31,7 +31,7 @@ impl Tally {
     pub fn with(self, outcome: &Result<bool, Failure>) -> Tally
         requires faulty { self.faulty + 1 < 2 ^ 64 }
         requires unread { self.unread + 1 < 2 ^ 64 }
-        ensures { result ≡ counted self outcome.now }
+        ensures { result ≡ count_outcome self outcome.now }
     {
         match outcome {
             Ok(true) => Tally {

@@ -3,14 +3,14 @@ ghost use Rattle.std.specs.Prelude.{OnOk};
 ghost use Rattle.std.specs.Io.KnownBytes.{Appends};
 ghost use Rattle.rust_check.specs.Colours.{codes_of};
 ghost use Rattle.rust_check.specs.Message.{excerpt, headline, json, json_what, json_where, line_message, long, message};
-ghost use Rattle.rust_check.specs.Message.{seen, short};
+ghost use Rattle.rust_check.specs.Message.{finding_of, short};
 
 use crate::colours::Colours;
-use crate::finding::{Finding, Place};
+use crate::finding::{Finding, TextPosition};
 use crate::options::Form;
-use crate::place::{byte_count, first_line};
 use crate::shown::{shown_line, spaces, underline};
-use messages::escaped;
+use crate::text_position::{byte_count, first_line};
+use messages::json_escape;
 use std::alloc::Global;
 use std::io;
 use std::io::Write;
@@ -24,7 +24,7 @@ pub fn write_message<W: Write>(
     writer: &mut W,
 ) -> io::Result<()>
     ensures { OnOk result (Appends (W.contents writer.old) (W.contents writer.new)
-        (message form path.now (seen finding.now))) }
+        (message form path.now (finding_of finding.now))) }
 {
     match form {
         Form::Short => write_short(path, finding, writer),
@@ -43,7 +43,7 @@ pub fn write_line<W: Write>(
     writer: &mut W,
 ) -> io::Result<()>
     ensures { OnOk result (Appends (W.contents writer.old) (W.contents writer.new)
-        (line_message form path.now (seen finding.now))) }
+        (line_message form path.now (finding_of finding.now))) }
 {
     match form {
         Form::Json => write_json(alloc, path, finding, writer),
@@ -54,7 +54,7 @@ pub fn write_line<W: Write>(
 /// Writes a finding on one line, as `FILE:L:C: error: what`. Line and column count from 1, and columns are characters.
 fn write_short<W: Write>(path: &str, finding: &Finding<'_>, writer: &mut W) -> io::Result<()>
     ensures { OnOk result (Appends (W.contents writer.old) (W.contents writer.new)
-        (short path.now (seen finding.now))) }
+        (short path.now (finding_of finding.now))) }
 {
     let line = finding.place.line;
     // The column may be the largest `usize`, so the sum needs more bits.
@@ -72,7 +72,7 @@ fn write_long<W: Write>(
     writer: &mut W,
 ) -> io::Result<()>
     ensures { OnOk result (Appends (W.contents writer.old) (W.contents writer.new)
-        (long (codes_of colours) path.now (seen finding.now))) }
+        (long (codes_of colours) path.now (finding_of finding.now))) }
 {
     write_headline(colours, finding, writer)?;
     write_excerpt(alloc, colours, path, finding, writer)
@@ -85,7 +85,7 @@ fn write_headline<W: Write>(
     writer: &mut W,
 ) -> io::Result<()>
     ensures { OnOk result (Appends (W.contents writer.old) (W.contents writer.new)
-        (headline (codes_of colours) (seen finding.now))) }
+        (headline (codes_of colours) (finding_of finding.now))) }
 {
     let Colours {
         fault,
@@ -107,7 +107,7 @@ pub fn write_excerpt<W: Write>(
     writer: &mut W,
 ) -> io::Result<()>
     ensures { OnOk result (Appends (W.contents writer.old) (W.contents writer.new)
-        (excerpt (codes_of colours) path.now (seen finding.now))) }
+        (excerpt (codes_of colours) path.now (finding_of finding.now))) }
 {
     let Colours {
         fault,
@@ -135,7 +135,8 @@ fn write_json<W: Write>(
     finding: &Finding<'_>,
     writer: &mut W,
 ) -> io::Result<()>
-    ensures { OnOk result (Appends (W.contents writer.old) (W.contents writer.new) (json path.now (seen finding.now))) }
+    ensures { OnOk result (Appends (W.contents writer.old) (W.contents writer.new)
+        (json path.now (finding_of finding.now))) }
 {
     write_json_what(alloc, path, finding, writer)?;
     write_json_where(finding, writer)
@@ -149,11 +150,11 @@ fn write_json_what<W: Write>(
     writer: &mut W,
 ) -> io::Result<()>
     ensures { OnOk result (Appends (W.contents writer.old) (W.contents writer.new)
-        (json_what path.now (seen finding.now))) }
+        (json_what path.now (finding_of finding.now))) }
 {
-    let file = escaped(alloc, path)?;
+    let file = json_escape(alloc, path)?;
     let name = finding.name;
-    let says = escaped(alloc, finding.says)?;
+    let says = json_escape(alloc, finding.says)?;
     write!(
         writer,
         "{{\"file\":\"{file}\",\"reason\":\"{name}\",\"message\":\"{says}\","
@@ -162,9 +163,10 @@ fn write_json_what<W: Write>(
 
 /// Writes the second part of the JSON object: where the finding is.
 fn write_json_where<W: Write>(finding: &Finding<'_>, writer: &mut W) -> io::Result<()>
-    ensures { OnOk result (Appends (W.contents writer.old) (W.contents writer.new) (json_where (seen finding.now))) }
+    ensures { OnOk result (Appends (W.contents writer.old) (W.contents writer.new)
+        (json_where (finding_of finding.now))) }
 {
-    let Place {
+    let TextPosition {
         line,
         column,
         begin,

@@ -6,12 +6,12 @@ use Rattle.std.proofs.lemmas.Bool.{both_ways}
 use Rattle.std.proofs.lemmas.List.{append_cancel_left}
 use Rattle.same.specs.Answer.{AreSame}
 use Rattle.same.specs.Difference.{DifferAt, bare, first_word}
-use Rattle.same.specs.Said.{Placed, Word}
+use Rattle.same.specs.SourceWord.{Placed, WordValue}
 use Rattle.same.specs.Same.{ComparesTexts}
 use Rattle.same.proofs.ComparingLemmas.{bare-append}
 use Rattle.same.proofs.TokenLemmas.{same_trees}
 
-abbrev head : List Word → Option Word
+abbrev head : List WordValue → Option WordValue
 head [] = None
 head (w ∷ ws) = Some w
 

@@ -18,10 +18,10 @@ use Rattle.pm_stream.specs.Events.{One}
 use Rattle.lexical.specs.Cover.{StandBefore, IsCover}
 use Rattle.lexical.specs.Piece.{Piece}
 use Rattle.same.specs.Difference.{SoFar, bare}
-use Rattle.same.specs.Said.{Comment, Placed, Token, doc_left, word_of}
+use Rattle.same.specs.SourceWord.{Comment, Placed, Token, doc_left, word_of}
 use Rattle.same.specs.Words.{ComesFirst, Covers, placed_onto, words, words_left}
 use Rattle.same.specs.declared.words.Words.{Words}
-use Rattle.same.specs.declared.said.Said.{Said}
+use Rattle.same.specs.declared.source_word.SourceWord.{SourceWord}
 
 -- ---- texts
 
@@ -125,7 +125,7 @@ goes_start comments first second ones others rest front kept none other_rest oth
     }
 
 -- the second text has this next word, or ends
-abbrev pub Next : Words → Option Said → Words → Type 0
+abbrev pub Next : Words → Option SourceWord → Words → Type 0
 Next others (Some other) after = (ys : List Piece) → Covers others.walk ys → ComesFirst others other after ys
 Next others None after =
     (ys : List Piece) → Covers others.walk ys → (words_left others ys ≡ []) × (chars after.here.now ≡ [])
@@ -143,8 +143,8 @@ so_more xs ys more others x y left right so is other_is same = record {
 }
 
 -- if both have the same next word, they still have the same words so far
-pub goes_on : (comments : Bool) (first second : List ℕ) (ones ones_now others others_now : Words) (one : Said)
-    (other : Option Said) → Goes comments first second ones others
+pub goes_on : (comments : Bool) (first second : List ℕ) (ones ones_now others others_now : Words) (one : SourceWord)
+    (other : Option SourceWord) → Goes comments first second ones others
     → ((xs : List Piece) → Covers ones.walk xs → ComesFirst ones one ones_now xs) → Next others other others_now
     → Some (word_of one) ≡ option_map word_of other → Goes comments first second ones_now others_now
 goes_on comments first second ones ones_now others others_now one None so comes next same =
@@ -180,8 +180,8 @@ all_same comments first second ones ones_now others others_now so ends next us v
     ∙ sym (ap bare (so_far.second ∙ ap (λ l. so_far.other_front ++ l) yours)))))
 
 -- the call for the next word gives it, or the end
-pub next_of : (others after : Words) (other : Option Said)
-    → IfSome other (λ said. (ys : List Piece) → Covers others.walk ys → ComesFirst others said after ys)
+pub next_of : (others after : Words) (other : Option SourceWord)
+    → IfSome other (λ source_word. (ys : List Piece) → Covers others.walk ys → ComesFirst others source_word after ys)
     → IfNone other ((ys : List Piece) → Covers others.walk ys
     → (words_left others ys ≡ []) × (chars after.here.now ≡ []))
     → Next others other after

@@ -12,11 +12,11 @@ use Rattle.lexical.specs.declared.walk.PlacedPiece.{PlacedPiece}
 use Rattle.lexical.specs.declared.walk.PieceWalk.{PieceWalk}
 use Rattle.lexical.specs.declared.walk.Spaced.{Spaced}
 use Rattle.lexical.proofs.SpacedLemmas.{gaps, next_there, piece_of, spaced_end, spaced_on, spaced_shorter}
-use Rattle.same.specs.Said.{Placed, doc_left, step_after, steps_left, word_of}
+use Rattle.same.specs.SourceWord.{Placed, doc_left, step_after, steps_left, word_of}
 use Rattle.same.specs.Words.{ComesFirst, Covers, piece_words, placed_onto, size, words, words_left}
-use Rattle.same.specs.declared.said.DocStep.{DocStep}
-use Rattle.same.specs.declared.said.DocStep.TheVariants as steps
-use Rattle.same.specs.declared.said.Said.{Said}
+use Rattle.same.specs.declared.source_word.DocStep.{DocStep}
+use Rattle.same.specs.declared.source_word.DocStep.TheVariants as steps
+use Rattle.same.specs.declared.source_word.SourceWord.{SourceWord}
 use Rattle.same.specs.declared.words.Words.{Words}
 
 -- ---- white characters
@@ -129,19 +129,20 @@ module _ (old left new : Words) (next : Spaced) (to : PieceWalk) (piece : Placed
   }
 
   -- a piece with words gives its first word
-  pub follows_word : (said : Said) → new.here ≡ next.rest
+  pub follows_word : (source_word : SourceWord) → new.here ≡ next.rest
       → ((here : List ℕ) (more : List Placed)
       → piece_words left.comments (piece_of piece).0 (piece_of piece).1 here more
-      ≡ (word_of said, here) ∷ placed_onto (doc_left new.step (chars new.doc.now)) here more)
-      → (xs : List Piece) → Covers old.walk xs → ComesFirst old said new xs
-  follows_word said here begins xs covers =
+      ≡ (word_of source_word, here) ∷ placed_onto (doc_left new.step (chars new.doc.now)) here more)
+      → (xs : List Piece) → Covers old.walk xs → ComesFirst old source_word new xs
+  follows_word source_word here begins xs covers =
       let first = first_words xs covers in
       record {
         more = first.0;
         covers = first.1;
         first =
             first.2 ∙ (begins (onto (piece_of piece ∷ first.0) []) (words old.comments first.0)
-            ∙ ap₂ (λ h b. (word_of said, h) ∷ placed_onto (doc_left new.step (chars new.doc.now)) h (words b first.0))
+            ∙ ap₂ (λ h b. (word_of source_word, h)
+            ∷ placed_onto (doc_left new.step (chars new.doc.now)) h (words b first.0))
             (first.3 ∙ ap (λ text. chars text.now) (sym here)) (sym (same ∙ so.comments)));
       }
 
@@ -169,18 +170,18 @@ follows_none old left next to so is none xs covers =
     )
 
 -- a doc comment gives its next token
-pub step_first : (old new : Words) (step : DocStep) (said : Said) → old.step ≡ Some step
+pub step_first : (old new : Words) (step : DocStep) (source_word : SourceWord) → old.step ≡ Some step
     → ((here : List ℕ) (more : List Placed) → placed_onto (doc_left (Some step) (chars old.doc.now)) here more
-    ≡ (word_of said, here) ∷ placed_onto (doc_left new.step (chars new.doc.now)) here more)
+    ≡ (word_of source_word, here) ∷ placed_onto (doc_left new.step (chars new.doc.now)) here more)
     → new.walk ≡ old.walk → new.comments ≡ old.comments → new.here ≡ old.here
-    → (xs : List Piece) → Covers old.walk xs → ComesFirst old said new xs
-step_first old new step said is first walk comments here xs covers = record {
+    → (xs : List Piece) → Covers old.walk xs → ComesFirst old source_word new xs
+step_first old new step source_word is first walk comments here xs covers = record {
   more = xs;
   covers = subst (λ w. Covers w xs) (sym walk) covers;
   first =
       ap (λ s. placed_onto (doc_left s (chars old.doc.now)) (chars old.here.now) (words old.comments xs)) is
       ∙ (first (chars old.here.now) (words old.comments xs)
-      ∙ ap₂ (λ h b. (word_of said, chars h.now)
+      ∙ ap₂ (λ h b. (word_of source_word, chars h.now)
       ∷ placed_onto (doc_left new.step (chars new.doc.now)) (chars h.now) (words b xs))
       (sym here) (sym comments));
 }

@@ -1,13 +1,13 @@
 -- Where two lists of words first differ.
 use Rattle.std.specs.Prelude.{ℕ, ◌≡◌, ◌≢◌, List, [], ◌∷◌, ◌++◌, Option, Some, None}
-use Rattle.same.specs.Said.{Placed, Word}
+use Rattle.same.specs.SourceWord.{Placed, WordValue}
 
 -- the words without the texts from which they come
-abbrev pub bare : List Placed → List Word
+abbrev pub bare : List Placed → List WordValue
 bare [] = []
 bare (x ∷ xs) = x.0 ∷ bare xs
 
-abbrev pub first_word : List Placed → Option Word
+abbrev pub first_word : List Placed → Option WordValue
 first_word [] = None
 first_word (x ∷ xs) = Some x.0
 

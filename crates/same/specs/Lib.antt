@@ -1,4 +1,4 @@
-pub mod Said
+pub mod SourceWord
 pub mod Words
 pub mod Difference
 pub mod Same

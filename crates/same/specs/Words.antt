@@ -8,8 +8,8 @@ use Rattle.lexical.specs.Text.{begins_with}
 use Rattle.lexical.specs.declared.walk.PieceWalk.{PieceWalk}
 use Rattle.pm_stream.specs.Delimited.{delimiter_of}
 use Rattle.pm_stream.specs.Events.{Event, One, Opens, Closes}
-use Rattle.same.specs.Said.{Comment, Placed, Token, doc_from, doc_left, first_step, steps_left, word_of}
-use Rattle.same.specs.declared.said.Said.{Said}
+use Rattle.same.specs.SourceWord.{Comment, Placed, Token, doc_from, doc_left, first_step, steps_left, word_of}
+use Rattle.same.specs.declared.source_word.SourceWord.{SourceWord}
 use Rattle.same.specs.declared.words.Words.{Words}
 
 -- the tokens as words that all come from `here`, and then `more`
@@ -46,10 +46,10 @@ words_left left xs =
     placed_onto (doc_left left.step (chars left.doc.now)) (chars left.here.now) (words left.comments xs)
 
 -- the word is the first that is left, at the new `here`, and the words after it are those that are left then
-pub record ComesFirst (old : Words) (said : Said) (new : Words) (xs : List Piece) : Type 0 where
+pub record ComesFirst (old : Words) (source_word : SourceWord) (new : Words) (xs : List Piece) : Type 0 where
   pub more : List Piece
   pub covers : Covers new.walk more
-  pub first : words_left old xs ≡ (word_of said, chars new.here.now) ∷ words_left new more
+  pub first : words_left old xs ≡ (word_of source_word, chars new.here.now) ∷ words_left new more
 
 -- a bound that each word makes smaller
 abbrev pub size : Words → ℕ

@@ -2,10 +2,10 @@
 ghost use Rattle.std.specs.Prelude.{◌≡◌, ◌↔◌, IfOk, IfSome, IsTrue, Some, option_map};
 ghost use Rattle.std.specs.Str.{chars};
 ghost use Rattle.pm_token.specs.Escaped.{string_text};
-ghost use Rattle.same.specs.Said.{HasText, word_of};
+ghost use Rattle.same.specs.SourceWord.{HasText, word_of};
 ghost use Rattle.same.specs.Same.{ComparesTexts};
 
-use crate::said::Said;
+use crate::source_word::SourceWord;
 use crate::words::Words;
 use pm_token::parts::TextBuilder;
 use std::alloc::{AllocError, Global};
@@ -36,7 +36,11 @@ pub fn difference<'a>(
 }
 
 /// Whether there is another word and it is the same as the first.
-fn is_same(alloc: Global, one: Said<'_>, other: Option<Said<'_>>) -> Result<bool, AllocError>
+fn is_same(
+    alloc: Global,
+    one: SourceWord<'_>,
+    other: Option<SourceWord<'_>>,
+) -> Result<bool, AllocError>
     requires one { HasText one }
     requires other { IfSome other HasText }
     ensures { IfOk result (λ same. IsTrue same ↔ Some (word_of one.entry) ≡ option_map word_of other.entry) }
@@ -48,23 +52,28 @@ fn is_same(alloc: Global, one: Said<'_>, other: Option<Said<'_>>) -> Result<bool
 }
 
 /// Whether the two words are the same.
-fn is_alike(alloc: Global, one: Said<'_>, other: Said<'_>) -> Result<bool, AllocError>
+fn is_alike(alloc: Global, one: SourceWord<'_>, other: SourceWord<'_>) -> Result<bool, AllocError>
     requires one { HasText one }
     requires other { HasText other }
     ensures { IfOk result (λ same. IsTrue same ↔ word_of one.entry ≡ word_of other.entry) }
 {
     Ok(match (one, other) {
-        (Said::Name(raw, name), Said::Name(other_raw, other)) => raw == other_raw && name == other,
-        (Said::Mark(joint, mark), Said::Mark(other_joint, other)) => {
+        (SourceWord::Name(raw, name), SourceWord::Name(other_raw, other)) => raw == other_raw
+            && name == other,
+        (SourceWord::Mark(joint, mark), SourceWord::Mark(other_joint, other)) => {
             joint == other_joint && mark == other
         }
-        (Said::Literal(text), Said::Literal(other)) => text == other,
-        (Said::DocText(text), Said::DocText(other)) => text == other,
-        (Said::DocText(text), Said::Literal(literal)) => is_string_of(alloc, text, literal)?,
-        (Said::Literal(literal), Said::DocText(text)) => is_string_of(alloc, text, literal)?,
-        (Said::Opener(delimiter), Said::Opener(other)) => delimiter == other,
-        (Said::Closer(delimiter), Said::Closer(other)) => delimiter == other,
-        (Said::Comment(text), Said::Comment(other)) => text == other,
+        (SourceWord::Literal(text), SourceWord::Literal(other)) => text == other,
+        (SourceWord::DocText(text), SourceWord::DocText(other)) => text == other,
+        (SourceWord::DocText(text), SourceWord::Literal(literal)) => is_string_of(
+            alloc, text, literal,
+        )?,
+        (SourceWord::Literal(literal), SourceWord::DocText(text)) => is_string_of(
+            alloc, text, literal,
+        )?,
+        (SourceWord::Opener(delimiter), SourceWord::Opener(other)) => delimiter == other,
+        (SourceWord::Closer(delimiter), SourceWord::Closer(other)) => delimiter == other,
+        (SourceWord::Comment(text), SourceWord::Comment(other)) => text == other,
         _ => false,
     })
 }

@@ -13,7 +13,7 @@
 mod answer;
 mod comparing;
 mod place;
-mod said;
+mod source_word;
 mod words;
 
 use answer::{Source, check_text, compare};
@@ -75,7 +75,7 @@ fn compare_files(
 /// Returns the text of the file at this path. If it cannot be read or has a syntax error, it writes why to standard
 /// error.
 fn text_at(rt: &HostRuntime, path: &str) -> Option<String> {
-    match checked(rt, path) {
+    match checked_text(rt, path) {
         Ok(text) => Some(text),
         Err(failure) => {
             let _ = say(rt.alloc(), path, &failure, &mut rt.stderr());
@@ -85,7 +85,7 @@ fn text_at(rt: &HostRuntime, path: &str) -> Option<String> {
 }
 
 /// Returns the text of the file at this path, if it has no syntax error.
-fn checked(rt: &HostRuntime, path: &str) -> Result<String, Failure> {
+fn checked_text(rt: &HostRuntime, path: &str) -> Result<String, Failure> {
     let text = read_text(rt, path)?;
     check_text(rt.alloc(), text.as_str())?;
     Ok(text)

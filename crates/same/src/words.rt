@@ -4,7 +4,7 @@ ghost use Rattle.std.specs.Str.{IsUtf8, chars};
 ghost use Rattle.lexical.specs.Piece.{Piece};
 ghost use Rattle.lexical.specs.Found.{LendsText, kind_of};
 
-use crate::said::{DocStep, Said, after, alone, delimiter};
+use crate::source_word::{DocStep, SourceWord, after, alone, delimiter};
 use lexical::parts::begins;
 use lexical::{PieceKind, PieceWalk, PlacedPiece, pieces};
 use pm_token::Delimiter;
@@ -23,7 +23,7 @@ pub struct Words<'a> {
 }
 
 impl<'a> Words<'a> {
-    ghost use Rattle.same.specs.Said.{HasText, Placed, doc_from, doc_left, step_after, word_of};
+    ghost use Rattle.same.specs.SourceWord.{HasText, Placed, doc_from, doc_left, step_after, word_of};
     ghost use Rattle.same.specs.Words.{ComesFirst, Covers, piece_words, placed_onto, size, words_left};
 
     /// Returns all words of a text: its tokens and, if `comments` is true, its comments. Without comments a doc comment
@@ -45,9 +45,9 @@ impl<'a> Words<'a> {
     /// Returns the next word, and sets `here` to the text from that word on. Returns `None` at the end, where `here` is
     /// empty.
     #[inline(always)]
-    pub fn next(&mut self) -> Option<Said<'a>>
-        ensures first { IfSome result (λ said. (xs : List Piece) → Covers self.old.walk xs
-            → ComesFirst self.old said self.new xs) }
+    pub fn next(&mut self) -> Option<SourceWord<'a>>
+        ensures first { IfSome result (λ source_word. (xs : List Piece) → Covers self.old.walk xs
+            → ComesFirst self.old source_word self.new xs) }
         ensures text { IfSome result HasText }
         ensures none { IfNone result ((xs : List Piece) → Covers self.old.walk xs → (words_left self.old xs ≡ [])
             × (chars self.new.here.now ≡ [])) }
@@ -60,20 +60,21 @@ impl<'a> Words<'a> {
         loop {
             let next = self.walk.next_after_white();
             self.here = next.rest;
-            if let Some(said) = self.begin(next.piece?) {
-                return Some(said);
+            if let Some(source_word) = self.begin(next.piece?) {
+                return Some(source_word);
             }
         }
     }
 
     /// Returns the first word of the piece, if it has one.
-    fn begin(&mut self, next: PlacedPiece<'a>) -> Option<Said<'a>>
+    fn begin(&mut self, next: PlacedPiece<'a>) -> Option<SourceWord<'a>>
         requires lends { LendsText next.piece.kind }
         requires piece { IsUtf8 next.text.now }
         requires no_step { self.now.step ≡ None }
-        ensures some { IfSome result (λ said. (here : List ℕ) (more : List Placed) → piece_words self.old.comments
+        ensures some { IfSome result (λ source_word. (here : List ℕ) (more : List Placed)
+            → piece_words self.old.comments
             (kind_of next.entry.piece.kind (chars next.entry.text.now)) (chars next.entry.text.now) here more
-            ≡ (word_of said, here) ∷ placed_onto (doc_left self.new.step (chars self.new.doc.now)) here more) }
+            ≡ (word_of source_word, here) ∷ placed_onto (doc_left self.new.step (chars self.new.doc.now)) here more) }
         ensures none { IfNone result ((here : List ℕ) (more : List Placed) → piece_words self.old.comments
             (kind_of next.entry.piece.kind (chars next.entry.text.now)) (chars next.entry.text.now) here more ≡ more) }
         ensures step { IfNone result (self.new.step ≡ None) }
@@ -84,11 +85,11 @@ impl<'a> Words<'a> {
     {
         match next.piece.kind {
             PieceKind::FrontMark => None,
-            PieceKind::Gap if self.comments && begins(next.text, "/") => Some(Said::Comment(
+            PieceKind::Gap if self.comments && begins(next.text, "/") => Some(SourceWord::Comment(
                 next.text,
             )),
             PieceKind::Gap => None,
-            PieceKind::Doc { .. } if self.comments => Some(Said::Comment(next.text)),
+            PieceKind::Doc { .. } if self.comments => Some(SourceWord::Comment(next.text)),
             PieceKind::Doc { inner, text } => {
                 self.doc = text;
                 let step = if inner {
@@ -98,16 +99,16 @@ impl<'a> Words<'a> {
                 };
                 Some(self.take_step(step))
             }
-            PieceKind::Opener(c) => Some(Said::Opener(delimiter(c))),
-            PieceKind::Closer(c) => Some(Said::Closer(delimiter(c))),
-            PieceKind::Literal => Some(Said::Literal(next.text)),
-            PieceKind::Mark { joint, mark } => Some(Said::Mark(joint, mark)),
-            PieceKind::Name { raw, name } => Some(Said::Name(raw, name)),
+            PieceKind::Opener(c) => Some(SourceWord::Opener(delimiter(c))),
+            PieceKind::Closer(c) => Some(SourceWord::Closer(delimiter(c))),
+            PieceKind::Literal => Some(SourceWord::Literal(next.text)),
+            PieceKind::Mark { joint, mark } => Some(SourceWord::Mark(joint, mark)),
+            PieceKind::Name { raw, name } => Some(SourceWord::Name(raw, name)),
         }
     }
 
     /// Returns the token of this step of the doc comment.
-    fn take_step(&mut self, step: DocStep) -> Said<'a>
+    fn take_step(&mut self, step: DocStep) -> SourceWord<'a>
         ensures first { (here : List ℕ) (more : List Placed)
             → placed_onto (doc_from step (chars self.old.doc.now)) here more
             ≡ (word_of result, here) ∷ placed_onto (doc_left self.new.step (chars self.new.doc.now)) here more }
@@ -122,11 +123,11 @@ impl<'a> Words<'a> {
         match step {
             DocStep::Hash | DocStep::InnerHash => alone('#'),
             DocStep::Bang => alone('!'),
-            DocStep::Opener => Said::Opener(Delimiter::Bracket),
-            DocStep::Name => Said::Name(false, "doc"),
+            DocStep::Opener => SourceWord::Opener(Delimiter::Bracket),
+            DocStep::Name => SourceWord::Name(false, "doc"),
             DocStep::Equals => alone('='),
-            DocStep::Text => Said::DocText(self.doc_text()),
-            DocStep::Closer => Said::Closer(Delimiter::Bracket),
+            DocStep::Text => SourceWord::DocText(self.doc_text()),
+            DocStep::Closer => SourceWord::Closer(Delimiter::Bracket),
         }
     }
 

@@ -68,8 +68,8 @@ rising_doc lo hi false text es within all h =
     let same : lo ≤ lo = omega arith in
     (refl, same, within, rising_doc_group lo hi text es within all h)
 
-said_text : (inner : Bool) (text p r : List ℕ) → Doc inner text p r → IsText p → IsText text
-said_text inner text p r h all =
+doc_body_text : (inner : Bool) (text p r : List ℕ) → Doc inner text p r → IsText p → IsText text
+doc_body_text inner text p r h all =
     (text_split text (closing p r) (text_split h.front (text ++ closing p r) (subst IsText h.whole all)).1).0
 
 rising_piece : (first : Bool) (at : ℕ) (k : Kind) (p r : List ℕ) (es : List Event) → IsPiece first k p r → IsText p
@@ -77,7 +77,7 @@ rising_piece : (first : Bool) (at : ℕ) (k : Kind) (p r : List ℕ) (es : List 
 rising_piece first at FrontMark p r es stands all h = rising_sooner at (at + length p) es (omega arith) h
 rising_piece first at Gap p r es stands all h = rising_sooner at (at + length p) es (omega arith) h
 rising_piece first at (pieces.Doc inner text) p r es stands all h =
-    rising_doc at (at + length p) inner text es (omega arith) (said_text inner text p r stands all) h
+    rising_doc at (at + length p) inner text es (omega arith) (doc_body_text inner text p r stands all) h
 rising_piece first at (Open c) p r es stands all h =
     (omega arith, rising_sooner at (at + length p) es (omega arith) h)
 rising_piece first at (Close c) p r es stands all h = (omega arith, h)

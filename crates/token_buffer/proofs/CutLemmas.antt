@@ -14,7 +14,7 @@ use Rattle.lexical.specs.Piece.{IsPiece}
 use Rattle.lexical.specs.Token.{raw_front}
 use Rattle.lexical.specs.declared.piece.Piece.{Piece}
 use Rattle.lexical.specs.declared.piece.PieceKind.TheVariants as kinds
-use Rattle.lexical.proofs.CommentKindLemmas.{doc_front, doc_said}
+use Rattle.lexical.proofs.CommentKindLemmas.{doc_front, doc_body_splits}
 use Rattle.lexical.proofs.TextLemmas.{ascii_bytes, seam_boundary, seam_bytes, seam_utf8, seam_rest, seam_take}
 use Rattle.token_buffer.specs.Entries.{cut_chars, IsCut}
 
@@ -121,7 +121,7 @@ pub doc_parts : (inner : Bool) (text p r : List ℕ) → Doc inner text p r → 
 doc_parts inner text p r h =
     let begins = doc_front p h.comment.1 in
     let whole : p ≡ begins.front ++ (text ++ closing p r)
-    = begins.whole ∙ ap (λ x. begins.front ++ x) (doc_said inner text p r h) in
+    = begins.whole ∙ ap (λ x. begins.front ++ x) (doc_body_splits inner text p r h) in
     let small = closing_small p r in
     let last : length (encode_utf8_all (closing p r)) ≡ length (closing p r) = ascii_bytes (closing p r) small.0 in
     let three : 3 ≡ length (encode_utf8_all begins.front) = begins.bytes in
@@ -149,16 +149,16 @@ doc_parts inner text p r h =
       few = small.1;
     }
 
-pub doc_cut : (text passed p rest : List ℕ) (said : List ℕ) (lo : ℕ) → IsUtf8 text
-    → chars text ≡ passed ++ (p ++ rest) → lo ≡ length (encode_utf8_all passed) → DocParts said p rest
-    → IsCutAs text said (lo + 3) (lo + 3 + length (encode_utf8_all said))
-doc_cut text passed p rest said lo utf8 e begins parts =
-    let split : chars text ≡ (passed ++ parts.front) ++ (said ++ (closing p rest ++ rest))
+pub doc_cut : (text passed p rest : List ℕ) (doc_body : List ℕ) (lo : ℕ) → IsUtf8 text
+    → chars text ≡ passed ++ (p ++ rest) → lo ≡ length (encode_utf8_all passed) → DocParts doc_body p rest
+    → IsCutAs text doc_body (lo + 3) (lo + 3 + length (encode_utf8_all doc_body))
+doc_cut text passed p rest doc_body lo utf8 e begins parts =
+    let split : chars text ≡ (passed ++ parts.front) ++ (doc_body ++ (closing p rest ++ rest))
     = e ∙ (ap (λ x. passed ++ (x ++ rest)) parts.whole
     ∙ simp append_assoc refl) in
     let size : length (encode_utf8_all (passed ++ parts.front))
     ≡ length (encode_utf8_all passed) + length (encode_utf8_all parts.front)
     = ap length (encodes-append passed parts.front)
     ∙ length-append (encode_utf8_all passed) (encode_utf8_all parts.front) in
-    cut_at text (passed ++ parts.front) said (closing p rest ++ rest) (lo + 3)
-    (lo + 3 + length (encode_utf8_all said)) utf8 split (omega (arith, begins, size, parts.bytes)) refl
+    cut_at text (passed ++ parts.front) doc_body (closing p rest ++ rest) (lo + 3)
+    (lo + 3 + length (encode_utf8_all doc_body)) utf8 split (omega (arith, begins, size, parts.bytes)) refl

@@ -14,7 +14,7 @@ use Rattle.pm_token.specs.Escaped.{string_text}
 use Rattle.pm_token.specs.declared.delimiters.Delimiter.{Delimiter}
 use Rattle.pm_token.specs.declared.delimiters.Delimiter.TheVariants.{Bracket}
 use Rattle.pm_stream.specs.Events.{One, Opens, Closes, doc_onto, expansion, hash, bang, equals}
-use Rattle.pm_stream.specs.Forest.{Forest, nil, leaf, group, flattening, joined}
+use Rattle.pm_stream.specs.Forest.{Forest, nil, leaf, group, flattening, chain}
 use Rattle.pm_stream.specs.Parsing.{ParsesTo}
 use Rattle.pm_stream.specs.Reading.{ReadsAll}
 use Rattle.pm_stream.specs.Taken.{IsTakenTo, Taken, nothing, past}
@@ -27,7 +27,7 @@ use Rattle.token_buffer.specs.Filled.{AreEntries, AreTrees, Fills, HasEntries, P
 use Rattle.token_buffer.specs.Held.{Holds}
 use Rattle.token_buffer.specs.Left.{trees_of}
 use Rattle.token_buffer.specs.Many.{HasManyTokens}
-use Rattle.token_buffer.specs.Unflattened.{unflattened}
+use Rattle.token_buffer.specs.Unflattened.{trees_of_events}
 use Rattle.token_buffer.specs.declared.entry.Entry.{Entry}
 use Rattle.token_buffer.specs.declared.entry.Entry.TheVariants as entries
 use Rattle.token_buffer.specs.declared.filling.Filling.{Filling}
@@ -42,7 +42,7 @@ trees_joined : (text : List ℕ) (all more : List Entry) → AreTrees text all �
     → AreTrees text (all ++ more)
 trees_joined text all more h k = λ few.
     let size = length-append all more in
-    holds_own text (all ++ more) (joined (trees_of text all) (trees_of text more))
+    holds_own text (all ++ more) (chain (trees_of text all) (trees_of text more))
     (holds-joined text all more (trees_of text all) (trees_of text more) (h (omega (arith, few, size)))
     (k (omega (arith, few, size))))
 
@@ -178,16 +178,16 @@ module _ (old : Filling) (taken : Taken OpenGroup) (x : OpenGroup) (outer : List
       }))
 
 -- the entries of a doc comment, where `entry` is that of its text
-holds_doc : (inner : Bool) (text said : List ℕ) (entry : Entry) (at end : ℕ)
-    → event_of text entry ≡ One (Literal (string_text said)) at end → count_of entry ≡ 0 → IsWithin text entry
-    → Holds text (doc_entries inner entry at end) (doc_trees at end inner said)
-holds_doc true text said entry at end is none within = record {
+holds_doc : (inner : Bool) (text doc_body : List ℕ) (entry : Entry) (at end : ℕ)
+    → event_of text entry ≡ One (Literal (string_text doc_body)) at end → count_of entry ≡ 0 → IsWithin text entry
+    → Holds text (doc_entries inner entry at end) (doc_trees at end inner doc_body)
+holds_doc true text doc_body entry at end is none within = record {
   events = ap (λ event. One hash at end ∷ One bang at end ∷ Opens Bracket at ∷ One (Name false (codes "doc")) at end
       ∷ One equals at end ∷ event ∷ Closes Bracket end ∷ []) is;
   counted = ap (λ n. 0 ∷ 0 ∷ 3 ∷ 0 ∷ 0 ∷ n ∷ 0 ∷ []) none;
   within = (tt, (tt, (tt, (tt, (tt, (within, (tt, tt)))))));
 }
-holds_doc false text said entry at end is none within = record {
+holds_doc false text doc_body entry at end is none within = record {
   events = ap (λ event. One hash at end ∷ Opens Bracket at ∷ One (Name false (codes "doc")) at end
       ∷ One equals at end ∷ event ∷ Closes Bracket end ∷ []) is;
   counted = ap (λ n. 0 ∷ 3 ∷ 0 ∷ 0 ∷ n ∷ 0 ∷ []) none;
@@ -215,20 +215,20 @@ module _ (old : Filling) (lexed : Lexed) (to : IsTakenTo Fills old lexed) where
   )
 
   -- the parts of a doc comment
-  pub doc_made : (inner : Bool) (said : Bor (List ℕ)) → lexed.piece.kind ≡ kinds.Doc inner said
-      → DocParts (chars said.now) front to.is.found.rest
-      × (length (encode_utf8_all (chars said.now)) ≡ length said.now)
-  doc_made inner said is =
+  pub doc_made : (inner : Bool) (doc_body : Bor (List ℕ)) → lexed.piece.kind ≡ kinds.Doc inner doc_body
+      → DocParts (chars doc_body.now) front to.is.found.rest
+      × (length (encode_utf8_all (chars doc_body.now)) ≡ length doc_body.now)
+  doc_made inner doc_body is =
       let found = to.is.found in (
-        doc_parts inner (chars said.now) front found.rest
+        doc_parts inner (chars doc_body.now) front found.rest
             (subst (λ kind. IsPiece to.is.first (kind_of kind front) front found.rest) is found.stands),
-        ap length (encodes-chars said.now (subst LendsText is found.lends)),
+        ap length (encodes-chars doc_body.now (subst LendsText is found.lends)),
       )
 
-  pub doc_bytes : (inner : Bool) (said : Bor (List ℕ)) → lexed.piece.kind ≡ kinds.Doc inner said
-      → (3 + length said.now ≤ lexed.piece.bytes) × (lexed.piece.bytes ≤ 5 + length said.now)
-  doc_bytes inner said is =
-      let made = doc_made inner said is in
+  pub doc_bytes : (inner : Bool) (doc_body : Bor (List ℕ)) → lexed.piece.kind ≡ kinds.Doc inner doc_body
+      → (3 + length doc_body.now ≤ lexed.piece.bytes) × (lexed.piece.bytes ≤ 5 + length doc_body.now)
+  doc_bytes inner doc_body is =
+      let made = doc_made inner doc_body is in
       let bytes = to.is.found.bytes in
       (omega (arith, made.0.all_bytes, made.1, bytes), omega (arith, made.0.all_bytes, made.0.few, made.1, bytes))
 
@@ -278,23 +278,23 @@ module _ (old : Filling) (lexed : Lexed) (to : IsTakenTo Fills old lexed) where
       fills_cut new (entries.Literal lo hi lexed.at) (Literal front) step
       (ap (λ x. One (Literal x) lexed.at (lexed.at + length x)) cut.says) refl (λ fits. (cut.within, fits)) refl
 
-  pub fills_doc : (new : Filling) (inner : Bool) (said : Bor (List ℕ)) (begin : ℕ)
-      → lexed.piece.kind ≡ kinds.Doc inner said → begin ≡ length (encode_utf8_all to.before.passed)
-      → Puts old new (doc_entries inner (entries.DocText (lexed.piece.bytes - 3 - length said.now) (begin + 3)
-      (begin + 3 + length said.now) lexed.at) lexed.at (lexed.at + lexed.piece.chars))
+  pub fills_doc : (new : Filling) (inner : Bool) (doc_body : Bor (List ℕ)) (begin : ℕ)
+      → lexed.piece.kind ≡ kinds.Doc inner doc_body → begin ≡ length (encode_utf8_all to.before.passed)
+      → Puts old new (doc_entries inner (entries.DocText (lexed.piece.bytes - 3 - length doc_body.now) (begin + 3)
+      (begin + 3 + length doc_body.now) lexed.at) lexed.at (lexed.at + lexed.piece.chars))
       → Fills new (past to.before front to.before.opened
-      (doc_onto lexed.at (lexed.at + length front) inner (chars said.now) []))
-  fills_doc new inner said begin is from step =
+      (doc_onto lexed.at (lexed.at + length front) inner (chars doc_body.now) []))
+  fills_doc new inner doc_body begin is from step =
       let found = to.is.found in
-      let made = doc_made inner said is in
+      let made = doc_made inner doc_body is in
       let end : ℕ = lexed.at + lexed.piece.chars in
-      let closing : ℕ = lexed.piece.bytes - 3 - length said.now in
-      let hi : ℕ = begin + 3 + length said.now in
-      let cut : IsCutAs text (chars said.now) (begin + 3) hi =
-      subst (λ n. IsCutAs text (chars said.now) (begin + 3) (begin + 3 + n)) made.1
-      (doc_cut text to.before.passed front found.rest (chars said.now) begin to.takes.utf8
+      let closing : ℕ = lexed.piece.bytes - 3 - length doc_body.now in
+      let hi : ℕ = begin + 3 + length doc_body.now in
+      let cut : IsCutAs text (chars doc_body.now) (begin + 3) hi =
+      subst (λ n. IsCutAs text (chars doc_body.now) (begin + 3) (begin + 3 + n)) made.1
+      (doc_cut text to.before.passed front found.rest (chars doc_body.now) begin to.takes.utf8
       (begins ∙ ap (λ t. to.before.passed ++ t) found.whole) from made.0) in
-      let far : lexed.at + (3 + length (chars said.now) + closing) ≡ end = omega (
+      let far : lexed.at + (3 + length (chars doc_body.now) + closing) ≡ end = omega (
         arith,
         made.0.all_bytes,
         made.0.characters,
@@ -303,15 +303,15 @@ module _ (old : Filling) (lexed : Lexed) (to : IsTakenTo Fills old lexed) where
         found.chars,
       ) in
       let entry : Entry = entries.DocText closing (begin + 3) hi lexed.at in
-      let event : event_of text entry ≡ One (Literal (string_text (chars said.now))) lexed.at end
+      let event : event_of text entry ≡ One (Literal (string_text (chars doc_body.now))) lexed.at end
       = ap (λ x. One (Literal (string_text x)) lexed.at (lexed.at + (3 + length x + closing))) cut.says
-      ∙ ap (λ n. One (Literal (string_text (chars said.now))) lexed.at n) far in
+      ∙ ap (λ n. One (Literal (string_text (chars doc_body.now))) lexed.at n) far in
       subst (λ es. Fills new (past to.before front to.before.opened es))
-      (doc_trees-events lexed.at end inner (chars said.now) []
-      ∙ ap (λ n. doc_onto lexed.at (lexed.at + n) inner (chars said.now) []) found.chars)
+      (doc_trees-events lexed.at end inner (chars doc_body.now) []
+      ∙ ap (λ n. doc_onto lexed.at (lexed.at + n) inner (chars doc_body.now) []) found.chars)
       (fills_trees old new to.before front (doc_entries inner entry lexed.at end)
-      (doc_trees lexed.at end inner (chars said.now)) to.takes step
-      (holds_doc inner text (chars said.now) entry lexed.at end event refl
+      (doc_trees lexed.at end inner (chars doc_body.now)) to.takes step
+      (holds_doc inner text (chars doc_body.now) entry lexed.at end event refl
       (cut.within, subst (λ e. end_of e < 2 ^ 32) (sym event) to.is.room)))
 
 -- ---- the whole text
@@ -332,7 +332,7 @@ module _ (base : ℕ) (source : List ℕ) (filling : Filling) (h : ReadsAll Fill
   -- the entries are those of the stream that the source parses to
   pub filled_parses : ParsesTo base source (trees_of filling.text.now filling.entries.items)
   filled_parses =
-      subst (ParsesTo base source) (sym (ap unflattened h.takes.events ∙ unflattened_flattening h.stream)) h.parses
+      subst (ParsesTo base source) (sym (ap trees_of_events h.takes.events ∙ unflattened_flattening h.stream)) h.parses
 
   filled_length : length filling.entries.items ≡ length (expansion base h.parses.pieces)
   filled_length = sym (events_of-length filling.text.now filling.entries.items)

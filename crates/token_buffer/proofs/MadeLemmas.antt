@@ -1,7 +1,7 @@
 -- Trees that are made of what a cursor has left.
 use Rattle.std.proofs.Common.{◌≡◌, ℕ, ◌<◌, List, [], ◌∷◌, ◌++◌, reverse, refl, sym, ap, ◌∙◌, subst, arith}
 use Rattle.std.proofs.lemmas.List.{reverse-append}
-use Rattle.pm_stream.specs.Forest.{Forest, nil, leaf, group, joined, IsBuilt}
+use Rattle.pm_stream.specs.Forest.{Forest, nil, leaf, group, chain, IsBuilt}
 use Rattle.pm_stream.specs.Trees.{before, forest, alone}
 use Rattle.pm_stream.specs.declared.stream.TokenTree.{TokenTree}
 use Rattle.pm_stream.specs.declared.stream.TokenTree.TheVariants.{Group}
@@ -15,12 +15,12 @@ use Rattle.token_buffer.proofs.HeldLemmas.{joined_nil}
 use Rattle.token_buffer.proofs.MerelyBuiltLemmas.{merely_built}
 use Rattle.token_buffer.specs.declared.trees.OpenTrees.{OpenTrees}
 
-pub joined_joined : (f g k : Forest) → joined (joined f g) k ≡ joined f (joined g k)
+pub joined_joined : (f g k : Forest) → chain (chain f g) k ≡ chain f (chain g k)
 joined_joined nil g k = refl
 joined_joined (leaf t lo hi f) g k = ap (leaf t lo hi) (joined_joined f g k)
 joined_joined (group d lo hi f h) g k = ap (group d lo hi f) (joined_joined h g k)
 
-built_back : (f k : Forest) → IsBuilt (joined f k) → IsBuilt k
+built_back : (f k : Forest) → IsBuilt (chain f k) → IsBuilt k
 built_back nil k h = h
 built_back (leaf t lo hi f) k h = built_back f k h.2
 built_back (group d lo hi f g) k h = built_back g k h.2
@@ -33,10 +33,10 @@ built_within (outer ∷ groups) trees h =
 
 -- whether the made trees, those of the open groups and the remaining ones are all trees
 abbrev pub AreAll : List OpenTrees → List TokenTree → Forest → Forest → Type 0
-AreAll groups trees here all = whole_of groups (joined (forest trees) here) ≡ all
+AreAll groups trees here all = whole_of groups (chain (forest trees) here) ≡ all
 
 both_built : (groups : List OpenTrees) (trees : List TokenTree) (here all : Forest) → AreAll groups trees here all
-    → ∥ IsBuilt all ∥₁ → IsBuilt (joined (forest trees) here)
+    → ∥ IsBuilt all ∥₁ → IsBuilt (chain (forest trees) here)
 both_built groups trees here all h built = built_within groups _ (subst IsBuilt (sym h) (merely_built all built))
 
 pub built_trees : (groups : List OpenTrees) (trees : List TokenTree) (here all : Forest) → AreAll groups trees here all
@@ -53,10 +53,10 @@ pub made_more : (groups : List OpenTrees) (trees items : List TokenTree) (tree :
     → AreAll groups trees here all → here ≡ before tree rest → items ≡ trees ++ tree ∷ []
     → AreAll groups items rest all
 made_more groups trees items tree here rest all h first push =
-    ap (λ ts. whole_of groups (joined (forest ts) rest)) push
-    ∙ (ap (λ f. whole_of groups (joined f rest)) (forest-push trees tree)
+    ap (λ ts. whole_of groups (chain (forest ts) rest)) push
+    ∙ (ap (λ f. whole_of groups (chain f rest)) (forest-push trees tree)
     ∙ (ap (whole_of groups) (joined_joined (forest trees) (alone tree) rest)
-    ∙ (ap (λ f. whole_of groups (joined (forest trees) f)) (joined-before tree nil rest ∙ sym first) ∙ h)))
+    ∙ (ap (λ f. whole_of groups (chain (forest trees) f)) (joined-before tree nil rest ∙ sym first) ∙ h)))
 
 -- the innermost group is made, and follows the trees before it
 pub made_group : (groups inner : List OpenTrees) (outer : OpenTrees) (trees items : List TokenTree) (tree : TokenTree)
@@ -66,18 +66,18 @@ pub made_group : (groups inner : List OpenTrees) (outer : OpenTrees) (trees item
     → items ≡ outer.before.items ++ tree ∷ [] → AreAll groups items (left outer.after) all
 made_group groups inner outer trees items tree here all h done popped is push =
     made_more groups outer.before.items items tree _ (left outer.after) all
-    (ap (λ f. whole_of groups (joined (forest outer.before.items)
+    (ap (λ f. whole_of groups (chain (forest outer.before.items)
     (group outer.delimiter outer.span.lo outer.span.hi f (left outer.after)))) (sym (joined_nil (forest trees)))
-    ∙ (sym (ap (λ gs. whole_of gs (joined (forest trees) nil)) popped)
-    ∙ (ap (λ f. whole_of inner (joined (forest trees) f)) (sym done) ∙ h)))
+    ∙ (sym (ap (λ gs. whole_of gs (chain (forest trees) nil)) popped)
+    ∙ (ap (λ f. whole_of inner (chain (forest trees) f)) (sym done) ∙ h)))
     (ap (λ t. before t (left outer.after)) (sym is)) push
 
 -- all trees are made
 pub made_all : (groups : List OpenTrees) (trees : List TokenTree) (here all : Forest) → AreAll groups trees here all
     → here ≡ nil → groups ≡ [] → forest trees ≡ all
 made_all groups trees here all h done none =
-    sym (joined_nil (forest trees)) ∙ (ap (joined (forest trees)) (sym done)
-    ∙ (ap (λ gs. whole_of gs (joined (forest trees) here)) (sym none) ∙ h))
+    sym (joined_nil (forest trees)) ∙ (ap (chain (forest trees)) (sym done)
+    ∙ (ap (λ gs. whole_of gs (chain (forest trees) here)) (sym none) ∙ h))
 
 -- ---- the number of steps
 

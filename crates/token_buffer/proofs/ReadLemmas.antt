@@ -15,7 +15,7 @@ use Rattle.pm_stream.proofs.TreeLemmas.{flat_onto-append}
 use Rattle.token_buffer.specs.Entries.{closer_end, event_of, events_of, count_of, counts_of, AreWithin}
 use Rattle.token_buffer.specs.Held.{counts_onto, counts, Holds}
 use Rattle.token_buffer.specs.Left.{trees_of}
-use Rattle.token_buffer.specs.Unflattened.{unflattened}
+use Rattle.token_buffer.specs.Unflattened.{trees_of_events}
 use Rattle.token_buffer.specs.declared.entry.Entry.{Entry}
 use Rattle.token_buffer.specs.declared.entry.Entry.TheVariants as entries
 use Rattle.token_buffer.proofs.HeldLemmas.{counts_onto-append, events_of-length, trees_are, holds_own}
@@ -38,7 +38,7 @@ after_one text e es token lo hi (group d l r g k) h is =
 -- the remaining trees are the token and the trees of the other entries
 pub begins_one : (text : List ℕ) (e : Entry) (es : List Entry) (token : Token) (lo hi : ℕ)
     → event_of text e ≡ One token lo hi → trees_of text (e ∷ es) ≡ leaf token lo hi (trees_of text es)
-begins_one text e es token lo hi is = ap (λ event. unflattened (event ∷ events_of text es)) is
+begins_one text e es token lo hi is = ap (λ event. trees_of_events (event ∷ events_of text es)) is
 
 pub holds_after_one : (text : List ℕ) (e : Entry) (es : List Entry) (token : Token) (lo hi : ℕ)
     → Holds text (e ∷ es) (trees_of text (e ∷ es)) → event_of text e ≡ One token lo hi
@@ -128,7 +128,7 @@ group_in text d at n es r g k within split counted size =
       within = within-drop text (n + 1) es within;
     } in
     let is : trees_of text (entries.Open d at n ∷ es) ≡ group d at r g k
-    = ap (λ events. unflattened (Opens d at ∷ events)) (split ∙ flat_onto-append g [] (Closes d r ∷ flattening k))
+    = ap (λ events. trees_of_events (Opens d at ∷ events)) (split ∙ flat_onto-append g [] (Closes d r ∷ flattening k))
     ∙ unflattened_flattening (group d at r g k) in
     record {
       hi = r;

@@ -6,7 +6,7 @@ use Rattle.std.specs.Cmp.Lexicographic.{pointwise}
 use Rattle.std.specs.Str.{chars, encode_utf8_all, IsUtf8}
 use Rattle.std.proofs.lemmas.Str.{chars-nil, chars_past_char, encodes-chars, scalars-chars}
 use Rattle.std.proofs.lemmas.Slice.Eq.{bytes_eq-Decides}
-use Rattle.pm_token.specs.Escaped.{content, string_text, written, written_char}
+use Rattle.pm_token.specs.Escaped.{content, string_text, char_text, written_char}
 use Rattle.pm_token.specs.Text.{IsText}
 use Rattle.pm_token.proofs.ValueLawLemmas.{strings_come_back}
 use Rattle.token_buffer.specs.Strings.{escape_text}
@@ -28,19 +28,19 @@ same_literals s t utf8 utf8-other same =
 
 pub content_past : (text rest : List ℕ) (c : ℕ) → IsUtf8 text → text ≡ encode_utf8 c ++ rest
     → content 34 written_char (chars text)
-    ≡ written 34 written_char c (chars rest) ++ content 34 written_char (chars rest)
+    ≡ char_text 34 written_char c (chars rest) ++ content 34 written_char (chars rest)
 content_past text rest c utf8 split = ap (content 34 written_char) (chars_past_char text rest c utf8 split)
 
 -- the remaining text is written as its first character and then the rest
-pub string_on : (text rest said : List ℕ) (c : ℕ) (escape : Escape) → IsUtf8 text → text ≡ encode_utf8 c ++ rest
-    → said ≡ rest → escape_text escape ≡ written 34 written_char c (chars said)
+pub string_on : (text rest doc_body : List ℕ) (c : ℕ) (escape : Escape) → IsUtf8 text → text ≡ encode_utf8 c ++ rest
+    → doc_body ≡ rest → escape_text escape ≡ char_text 34 written_char c (chars doc_body)
     → content 34 written_char (chars text) ++ codes "\""
     ≡ escape_text escape ++ (content 34 written_char (chars rest) ++ codes "\"")
-string_on text rest said c escape utf8 split same is =
+string_on text rest doc_body c escape utf8 split same is =
     ap (λ x. x ++ codes "\"") (content_past text rest c utf8 split)
-    ∙ (append_assoc (written 34 written_char c (chars rest)) (content 34 written_char (chars rest)) (codes "\"")
+    ∙ (append_assoc (char_text 34 written_char c (chars rest)) (content 34 written_char (chars rest)) (codes "\"")
     ∙ ap (λ x. x ++ (content 34 written_char (chars rest) ++ codes "\""))
-    (sym (is ∙ ap (λ s. written 34 written_char c (chars s)) same)))
+    (sym (is ∙ ap (λ s. char_text 34 written_char c (chars s)) same)))
 
 -- at the end only the quote is left
 pub string_end : (rest : List ℕ) → length rest ≡ 0

@@ -4,7 +4,7 @@ use Rattle.std.specs.Cmp.{IsEquivalence}
 use Rattle.std.proofs.lemmas.Bool.{and_from, and_parts}
 use base.Stored.{Gv, gnil, gnum, gcons}
 use Rattle.pm_stream.specs.Codec.{forest_code, forest_inj}
-use Rattle.pm_stream.specs.Same.{Same, erased}
+use Rattle.pm_stream.specs.Same.{Same, without_spans}
 use Rattle.token_buffer.specs.Reads.{left}
 use Rattle.token_buffer.specs.declared.cursor.Cursor.{Cursor}
 
@@ -22,7 +22,7 @@ code_eq (gcons a b) (gcons c d) = code_eq a c && code_eq b d
 
 -- whether both cursors have the same trees left, up to spans
 abbrev pub cursor_eq : Cursor → Cursor → Bool
-cursor_eq a b = code_eq (forest_code (erased (left a))) (forest_code (erased (left b)))
+cursor_eq a b = code_eq (forest_code (without_spans (left a))) (forest_code (without_spans (left b)))
 
 -- ---- this is a test of `Same`, and so an equivalence
 
@@ -46,10 +46,10 @@ code_eq-same (gcons a b) = and_from (code_eq a a) (code_eq b b) (code_eq-same a)
 
 pub cursor_eq-Same : (a b : Cursor) → (cursor_eq a b ≡ true) ↔ Same (left a) (left b)
 cursor_eq-Same a b = (
-  λ e. forest_inj (erased (left a)) (erased (left b))
-      (code_eq-sound (forest_code (erased (left a))) (forest_code (erased (left b))) e),
-  λ same. ap (λ f. code_eq (forest_code (erased (left a))) (forest_code f)) (sym same)
-      ∙ code_eq-same (forest_code (erased (left a))),
+  λ e. forest_inj (without_spans (left a)) (without_spans (left b))
+      (code_eq-sound (forest_code (without_spans (left a))) (forest_code (without_spans (left b))) e),
+  λ same. ap (λ f. code_eq (forest_code (without_spans (left a))) (forest_code f)) (sym same)
+      ∙ code_eq-same (forest_code (without_spans (left a))),
 )
 
 pub one_answer : (p q : Bool) → (p ≡ true → q ≡ true) → (q ≡ true → p ≡ true) → p ≡ q
@@ -60,9 +60,10 @@ one_answer false false h k = refl
 
 pub cursor_eq_equiv : IsEquivalence cursor_eq
 cursor_eq_equiv = record {
-  refl = λ a. code_eq-same (forest_code (erased (left a)));
+  refl = λ a. code_eq-same (forest_code (without_spans (left a)));
   symm = λ a b. one_answer (cursor_eq a b) (cursor_eq b a)
       (λ e. (cursor_eq-Same b a).1 (sym ((cursor_eq-Same a b).0 e)))
       (λ e. (cursor_eq-Same a b).1 (sym ((cursor_eq-Same b a).0 e)));
-  congr = λ a b c e. ap (λ f. code_eq (forest_code f) (forest_code (erased (left c)))) ((cursor_eq-Same a b).0 e);
+  congr = λ a b c e. ap (λ f. code_eq (forest_code f) (forest_code (without_spans (left c))))
+      ((cursor_eq-Same a b).0 e);
 }

@@ -4,7 +4,7 @@ use Rattle.std.specs.Str.{chars}
 use Rattle.lexical.specs.Token.{Name, Mark, Literal}
 use Rattle.pm_span.specs.Extent.{Extent}
 use Rattle.pm_token.specs.Leaf.{is_joint}
-use Rattle.pm_stream.specs.Forest.{Forest, leaf, group, joined}
+use Rattle.pm_stream.specs.Forest.{Forest, leaf, group, chain}
 use Rattle.pm_stream.specs.Size.{count}
 use Rattle.pm_stream.specs.Trees.{forest}
 use Rattle.token_buffer.specs.Reads.{left, literal_text}
@@ -23,7 +23,7 @@ first_onto (texts.Group delimiter inside) span rest = group delimiter span.lo sp
 abbrev pub whole_of : List OpenTrees → Forest → Forest
 whole_of [] trees = trees
 whole_of (outer ∷ groups) trees =
-    whole_of groups (joined (forest outer.before.items)
+    whole_of groups (chain (forest outer.before.items)
     (group outer.delimiter outer.span.lo outer.span.hi trees (left outer.after)))
 
 -- how many steps are left: one for each token, two for each group, and one for each open group

@@ -8,14 +8,14 @@ use Rattle.token_buffer.specs.declared.part.Part.{Part}
 use Rattle.token_buffer.specs.declared.part.Part.TheVariants as parts
 
 -- the event, with its positions set to 0
-abbrev pub unplaced : Event → Event
-unplaced (One token lo hi) = One token 0 0
-unplaced (Opens d lo) = Opens d 0
-unplaced (Closes d hi) = Closes d 0
+abbrev pub at_zero : Event → Event
+at_zero (One token lo hi) = One token 0 0
+at_zero (Opens d lo) = Opens d 0
+at_zero (Closes d hi) = Closes d 0
 
 abbrev pub all_unplaced : List Event → List Event
 all_unplaced [] = []
-all_unplaced (event ∷ events) = unplaced event ∷ all_unplaced events
+all_unplaced (event ∷ events) = at_zero event ∷ all_unplaced events
 
 -- the event of a part, with its positions set to 0
 abbrev pub part_event : Part → Event

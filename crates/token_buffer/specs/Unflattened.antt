@@ -10,16 +10,16 @@ abbrev pub Levels : Type 0
 Levels = Forest × List (ℕ × Forest)
 
 -- the trees and levels with an opener before them
-abbrev pub opened : Delimiter → ℕ → Levels → Levels
-opened d lo (inside, []) = (nil, [])
-opened d lo (inside, (end ∷ outer)) = (group d lo end.0 inside end.1, outer)
+abbrev pub with_opener : Delimiter → ℕ → Levels → Levels
+with_opener d lo (inside, []) = (nil, [])
+with_opener d lo (inside, (end ∷ outer)) = (group d lo end.0 inside end.1, outer)
 
 abbrev pub levels : List Event → Levels
 levels [] = (nil, [])
 levels (One token lo hi ∷ events) = let after = levels events in (leaf token lo hi after.0, after.1)
-levels (Opens d lo ∷ events) = opened d lo (levels events)
+levels (Opens d lo ∷ events) = with_opener d lo (levels events)
 levels (Closes d hi ∷ events) = let after = levels events in (nil, ((hi, after.0) ∷ after.1))
 
 -- the trees of the events
-abbrev pub unflattened : List Event → Forest
-unflattened events = (levels events).0
+abbrev pub trees_of_events : List Event → Forest
+trees_of_events events = (levels events).0

@@ -225,8 +225,8 @@ impl<'a> Cursor<'a> {
                 hi,
                 at,
             } => {
-                let said = char_count(&text[lo as usize..hi as usize]);
-                Some(span_of(at, at + (3 + said + closing as usize) as u32))
+                let doc_body = char_count(&text[lo as usize..hi as usize]);
+                Some(span_of(at, at + (3 + doc_body + closing as usize) as u32))
             }
         }
     }

@@ -1,7 +1,7 @@
 //! The content of an entry, without its position.
 ghost use Rattle.std.specs.Prelude.{◌≡◌};
 ghost use Rattle.token_buffer.specs.Entries.{event_of, IsWithin};
-ghost use Rattle.token_buffer.specs.Parts.{part_event, unplaced};
+ghost use Rattle.token_buffer.specs.Parts.{part_event, at_zero};
 
 use crate::cursor::{LiteralText, Name};
 use crate::entry::Entry;
@@ -26,7 +26,7 @@ pub enum Part<'a> {
 #[inline(always)]
 pub fn part_of(text: &str, entry: Entry) -> Part<'_>
     requires { IsWithin text.now entry }
-    ensures { part_event result ≡ unplaced (event_of text.now entry) }
+    ensures { part_event result ≡ at_zero (event_of text.now entry) }
 {
     match entry {
         Entry::Name { raw, lo, hi, at } => {

@@ -3,7 +3,7 @@ ghost use Rattle.std.specs.Prelude.{◌≡◌, ◌∷◌, ◌↔◌, [], IfSome,
 ghost use Rattle.std.specs.Fmt.{WritesOnOk};
 ghost use Rattle.std.specs.Str.{chars, encode_utf8_all, IsUtf8};
 ghost use Rattle.std.specs.Char.Escape.{escape_unicode};
-ghost use Rattle.pm_token.specs.Escaped.{string_text, written, written_char};
+ghost use Rattle.pm_token.specs.Escaped.{string_text, char_text, written_char};
 ghost use Rattle.token_buffer.specs.Strings.{IsAfter, escape_text};
 
 use pm_token::parts::{begins_octal, is_bare};
@@ -137,7 +137,7 @@ fn after(text: &str, c: char) -> Option<&str>
 
 /// Returns how the character is written in a string literal, if `rest` follows it.
 fn escape_of(c: char, rest: &str) -> Escape
-    ensures { escape_text result ≡ written 34 written_char c (chars rest.now) }
+    ensures { escape_text result ≡ char_text 34 written_char c (chars rest.now) }
 {
     match c {
         '\0' if begins_octal(rest) => Escape::LongZero,

@@ -4,7 +4,7 @@ use Rattle.std.proofs.Common.{append_assoc, append-nil}
 use Rattle.std.proofs.lemmas.List.{take-append-drop}
 use Rattle.std.proofs.lemmas.Grind.{flat_map-append}
 use Rattle.proc_macro2.specs.Files.{new_map, next_lo}
-use Rattle.proc_macro2.specs.Places.{ArePlaced, place_of, placed}
+use Rattle.proc_macro2.specs.Places.{ArePlaced, place_of, tree_place}
 use Rattle.proc_macro2.specs.InOrder.{in_order}
 use Rattle.proc_macro2.specs.declared.PlacedTree.{PlacedTree}
 use Rattle.proc_macro2.specs.declared.TokenTree.{TokenTree}
@@ -16,7 +16,7 @@ use Rattle.tokens.specs.Spans.{span_line, tree_line}
 
 -- a placed tree has the line of the tree
 line_of_tree : (source : List ℕ) (tree : TokenTree)
-    → tree_line (placed (place_of (next_lo new_map) source) tree) ≡ span_line source tree
+    → tree_line (tree_place (place_of (next_lo new_map) source) tree) ≡ span_line source tree
 line_of_tree source (Group g) = refl
 line_of_tree source (Ident i) = refl
 line_of_tree source (Punct p) = refl
@@ -24,7 +24,8 @@ line_of_tree source (Literal l) = refl
 
 -- placed trees have the lines of the trees
 lines_of_trees : (source : List ℕ) (trees : List TokenTree)
-    → flat_map tree_line (map (placed (place_of (next_lo new_map) source)) trees) ≡ flat_map (span_line source) trees
+    → flat_map tree_line (map (tree_place (place_of (next_lo new_map) source)) trees)
+    ≡ flat_map (span_line source) trees
 lines_of_trees source [] = refl
 lines_of_trees source (tree ∷ trees) = rw (line_of_tree source tree, lines_of_trees source trees) refl
 

@@ -16,16 +16,16 @@ use Rattle.tokens.specs.Spans.{span_line, tree_line}
 
 -- the bytes that are written for a stream to which the source parses: with `Print` its printed text and a line feed,
 -- with `Spans` a line for each tree, where a group comes before the trees inside it
-abbrev pub written : OutputMode → List ℕ → Forest → List ℕ
-written Print source stream = encode_utf8_all (printed stream) ++ codes "\n"
-written Spans source stream = flat_map (span_line source) (in_order stream)
+abbrev pub stream_bytes : OutputMode → List ℕ → Forest → List ℕ
+stream_bytes Print source stream = encode_utf8_all (printed stream) ++ codes "\n"
+stream_bytes Spans source stream = flat_map (span_line source) (in_order stream)
 
 -- `output`: the bytes are what is written for the stream to which the input parses
 pub record IsOutput (mode : OutputMode) (input bytes : List ℕ) : Type 0 where
   pub text : IsUtf8 input
   pub stream : Forest
   pub parses : ParsesTo (next_lo new_map) (chars input) stream
-  pub writes : bytes ≡ written mode (chars input) stream
+  pub writes : bytes ≡ stream_bytes mode (chars input) stream
 
 -- the bytes of an output
 abbrev pub output_bytes : RunOutput → List ℕ
@@ -36,7 +36,7 @@ output_bytes (Trees trees) = flat_map tree_line trees.items
 pub record IsOutputOf (mode : OutputMode) (source : List ℕ) (output : RunOutput) : Type 0 where
   pub stream : Forest
   pub parses : ParsesTo (next_lo new_map) source stream
-  pub writes : output_bytes output ≡ written mode source stream
+  pub writes : output_bytes output ≡ stream_bytes mode source stream
 
 -- the input is text that is too long for a new map
 pub record IsTooLong (input : List ℕ) : Type 0 where

@@ -76,8 +76,8 @@ fn output_of_text(alloc: Global, mode: OutputMode, text: &str) -> Result<RunOutp
         ↔ (Fits new_map (length (chars text.now)) → ⊥) }
 {
     match mode {
-        OutputMode::Print => printed(alloc, text),
-        OutputMode::Spans => placed(alloc, text),
+        OutputMode::Print => print_output(alloc, text),
+        OutputMode::Spans => span_output(alloc, text),
     }
 }
 
@@ -113,7 +113,7 @@ fn refusal(error: ParseError, map: &SourceMap) -> RunError
 }
 
 /// Returns the printed text and a line feed.
-fn printed(alloc: Global, text: &str) -> Result<RunOutput, ParseError>
+fn print_output(alloc: Global, text: &str) -> Result<RunOutput, ParseError>
     ensures ok { IfOk result (IsOutputOf OutputMode.Print (chars text.now)) }
     ensures only { IfErr result (λ error. IfLex error (λ fault.
         IsOnlyFault (next_lo new_map) (chars text.now) fault.lo)) }
@@ -126,7 +126,7 @@ fn printed(alloc: Global, text: &str) -> Result<RunOutput, ParseError>
 }
 
 /// Returns the trees, each of which makes a line of the output.
-fn placed(alloc: Global, text: &str) -> Result<RunOutput, ParseError>
+fn span_output(alloc: Global, text: &str) -> Result<RunOutput, ParseError>
     ensures ok { IfOk result (IsOutputOf OutputMode.Spans (chars text.now)) }
     ensures only { IfErr result (λ error. IfLex error (λ fault.
         IsOnlyFault (next_lo new_map) (chars text.now) fault.lo)) }

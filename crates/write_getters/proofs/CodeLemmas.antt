@@ -11,14 +11,14 @@ use Rattle.declarations.specs.List.{IsFieldOf, Lists}
 use Rattle.declarations.specs.Param.{ParamTrees}
 use Rattle.declarations.specs.declared.field.Field.{Field}
 use Rattle.declarations.specs.declared.item.TypeItem.{TypeItem}
-use Rattle.quoting.specs.Filled.{filled}
-use Rattle.quoting.specs.Given.{named, named_all}
+use Rattle.quoting.specs.Filled.{fill_template}
+use Rattle.quoting.specs.Given.{name_and_filling, named_all}
 use Rattle.quoting.specs.Holes.{Named}
 use Rattle.quoting.specs.Items.{One, Each, each_of}
-use Rattle.quoting.specs.Respaced.{respaced}
+use Rattle.quoting.specs.Respaced.{respace_marks}
 use Rattle.quoting.specs.declared.holes.Hole.{Hole}
-use Rattle.write_getters.specs.Copies.{copied}
-use Rattle.write_getters.specs.Fields.{chosen, name_of, type_of}
+use Rattle.write_getters.specs.Copies.{copy_trees}
+use Rattle.write_getters.specs.Fields.{getter_fields, name_of, type_of}
 use Rattle.write_getters.specs.Getters.{IsCodeOf, hole, holes_of}
 use Rattle.write_getters.specs.Parameters.{AreParamsOf, argument, parameter}
 use Rattle.write_getters.specs.Templates.{template_for}
@@ -64,12 +64,12 @@ one_hole it text name given stream is spells same =
     is ∙ ap₂ (λ n s. record { name = n; filling = One s }) spells same
 
 pub all_holes : (item : TypeItem) (params : List ParamTrees) (fields : List Field) (a b c d e f : Hole)
-    → named a ≡ hole (codes "parameter") (Each (each_of One (map parameter params)))
-    → named b ≡ hole (codes "name") (One (alone (Ident item.name.now)))
-    → named c ≡ hole (codes "argument") (Each (each_of One (map argument params)))
-    → named d ≡ hole (codes "bounds") (One (copied item.where_clause.now))
-    → named e ≡ hole (codes "field") (Each (each_of One (map name_of fields)))
-    → named f ≡ hole (codes "kind") (Each (each_of One (map type_of fields)))
+    → name_and_filling a ≡ hole (codes "parameter") (Each (each_of One (map parameter params)))
+    → name_and_filling b ≡ hole (codes "name") (One (alone (Ident item.name.now)))
+    → name_and_filling c ≡ hole (codes "argument") (Each (each_of One (map argument params)))
+    → name_and_filling d ≡ hole (codes "bounds") (One (copy_trees item.where_clause.now))
+    → name_and_filling e ≡ hole (codes "field") (Each (each_of One (map name_of fields)))
+    → name_and_filling f ≡ hole (codes "kind") (Each (each_of One (map type_of fields)))
     → named_all (a ∷ b ∷ c ∷ d ∷ e ∷ f ∷ []) ≡ holes_of item params fields
 all_holes item params fields a b c d e f is_a is_b is_c is_d is_e is_f =
     ap₂ (λ h hs. h ∷ hs) is_a (ap₂ (λ h hs. h ∷ hs) is_b (ap₂ (λ h hs. h ∷ hs) is_c (ap₂ (λ h hs. h ∷ hs) is_d
@@ -84,8 +84,8 @@ item_name name copy stream cloned put = put ∙ ap (λ n. alone (Ident n)) clone
 pub code_of : (templates : Templates) (item : TypeItem) (trees : List TokenTree) (code quote template stream : Forest)
     (fields : List Field) (params : List ParamTrees) (holes : List Named)
     → Lists (IsFieldOf true) trees fields [] → AreParamsOf item.generics.now params
-    → holes ≡ holes_of item params (chosen fields) → template ≡ template_for item.generics.now templates
-    → filled holes template ≡ Ok stream → quote ≡ stream → code ≡ respaced quote
+    → holes ≡ holes_of item params (getter_fields fields) → template ≡ template_for item.generics.now templates
+    → fill_template holes template ≡ Ok stream → quote ≡ stream → code ≡ respace_marks quote
     → IsCodeOf templates item trees code
 code_of templates item trees code quote template stream fields params holes lists are hole_list is fills put finished =
     record {
@@ -94,6 +94,6 @@ code_of templates item trees code quote template stream fields params holes list
       params = params;
       are_params = are;
       stream = stream;
-      fills = sym (ap₂ (λ hs t. filled hs t) hole_list is) ∙ fills;
-      is = finished ∙ ap respaced put;
+      fills = sym (ap₂ (λ hs t. fill_template hs t) hole_list is) ∙ fills;
+      is = finished ∙ ap respace_marks put;
     }

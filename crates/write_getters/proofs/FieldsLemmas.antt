@@ -14,7 +14,7 @@ use Rattle.declarations.specs.Attribute.{is_word}
 use Rattle.declarations.specs.List.{GivesField, IsFieldOf, IsFirst, Lists}
 use Rattle.declarations.specs.declared.field.Field.{Field}
 use Rattle.declarations.specs.declared.list.FieldList.{FieldList}
-use Rattle.write_getters.specs.Fields.{chosen, has_several_bounds, is_plus, is_skipped, name_of, type_of}
+use Rattle.write_getters.specs.Fields.{getter_fields, has_several_bounds, is_plus, is_skipped, name_of, type_of}
 
 -- the names and types of the fields before those that are left are collected
 pub record Collected (list left : FieldList) (names kinds : List Forest) : Type 0 where
@@ -22,8 +22,8 @@ pub record Collected (list left : FieldList) (names kinds : List Forest) : Type 
   pub done : List Field
   pub goes : (more : List Field) → Lists (IsFieldOf true) left.left.now more []
       → Lists (IsFieldOf true) list.left.now (done ++ more) []
-  pub names_are : names ≡ map name_of (chosen done)
-  pub kinds_are : kinds ≡ map type_of (chosen done)
+  pub names_are : names ≡ map name_of (getter_fields done)
+  pub kinds_are : kinds ≡ map type_of (getter_fields done)
 
 pub collected_none : (list : FieldList) → list.named ≡ true → Collected list list [] []
 collected_none list named = record { named = named; done = []; goes = λ more h. h; names_are = refl; kinds_are = refl }
@@ -41,19 +41,19 @@ field_first : (named : Bool) (left next : List TokenTree) (field : Field) → na
     → IsFirst (IsFieldOf named) left field next → IsFirst (IsFieldOf true) left field next
 field_first named left next field is first = subst (λ b. IsFirst (IsFieldOf b) left field next) is first
 
-chosen_skip : (field : Field) → is_skipped field ≡ true → chosen (field ∷ []) ≡ []
+chosen_skip : (field : Field) → is_skipped field ≡ true → getter_fields (field ∷ []) ≡ []
 chosen_skip field skipped = rw skipped refl
 
-chosen_put : (field : Field) → is_skipped field ≡ false → chosen (field ∷ []) ≡ field ∷ []
+chosen_put : (field : Field) → is_skipped field ≡ false → getter_fields (field ∷ []) ≡ field ∷ []
 chosen_put field kept = rw kept refl
 
 -- one more field is collected, if it is chosen
 push : (f : Field → Forest) (done : List Field) (field : Field) (items : List Forest) (last : List Field)
-    → items ≡ map f (chosen done) → chosen (field ∷ []) ≡ last
-    → items ++ map f last ≡ map f (chosen (done ++ field ∷ []))
+    → items ≡ map f (getter_fields done) → getter_fields (field ∷ []) ≡ last
+    → items ++ map f last ≡ map f (getter_fields (done ++ field ∷ []))
 push f done field items last are one =
-    ap (λ ts. ts ++ map f last) are ∙ ap (λ fs. map f (chosen done) ++ map f fs) (sym one)
-    ∙ sym (map-append f (chosen done) (chosen (field ∷ [])))
+    ap (λ ts. ts ++ map f last) are ∙ ap (λ fs. map f (getter_fields done) ++ map f fs) (sym one)
+    ∙ sym (map-append f (getter_fields done) (getter_fields (field ∷ [])))
     ∙ ap (map f) (sym (filter-append (λ field. not (is_skipped field)) done (field ∷ [])))
 
 pub collected_skip : (list left next : FieldList) (field : Field) (names kinds : List Forest)
@@ -89,8 +89,8 @@ collected_put list left next field names kinds names2 kinds2 name kind before gi
 -- once none are left, all fields are collected
 pub collected_all : (list left next : FieldList) (names kinds : List Forest) → Collected list left names kinds
     → GivesField left None next
-    → (all : List Field) × Lists (IsFieldOf true) list.left.now all [] × (names ≡ map name_of (chosen all))
-    × (kinds ≡ map type_of (chosen all))
+    → (all : List Field) × Lists (IsFieldOf true) list.left.now all [] × (names ≡ map name_of (getter_fields all))
+    × (kinds ≡ map type_of (getter_fields all))
 collected_all list left next names kinds before gives = (
   before.done,
   subst (λ all. Lists (IsFieldOf true) list.left.now all []) (append-nil before.done) (before.goes [] gives.0),

@@ -8,7 +8,7 @@ use Rattle.pm_stream.proofs.BuildingLemmas.{joined_assoc, joined_nil}
 use Rattle.proc_macro2.specs.Building.{split}
 use Rattle.proc_macro2.specs.Extent.{nowhere}
 use Rattle.proc_macro2.specs.Leaf.{Mark, Name}
-use Rattle.proc_macro2.specs.Forest.{Forest, joined}
+use Rattle.proc_macro2.specs.Forest.{Forest, chain}
 use Rattle.proc_macro2.specs.declared.Spacing.TheVariants.{Alone}
 use Rattle.proc_macro2.specs.declared.TokenTree.{TokenTree}
 use Rattle.proc_macro2.specs.declared.TokenTree.TheVariants.{Ident, Punct}
@@ -16,7 +16,7 @@ use Rattle.declarations.specs.Param.{IsParamAt, IsWithin, ParamTrees}
 use Rattle.declarations.specs.declared.generics.ParamKind.{ParamKind}
 use Rattle.declarations.specs.declared.generics.ParamKind.TheVariants as kinds
 use Rattle.write_getters.proofs.CopiesLemmas.{copied_append, copied_one}
-use Rattle.write_getters.specs.Copies.{copied}
+use Rattle.write_getters.specs.Copies.{copy_trees}
 use Rattle.write_getters.specs.Parameters.{AreParams, AreParamsOf, after_colon, argument, keyword, parameter}
 
 -- the parameters before those that are left in the brackets are collected
@@ -67,43 +67,45 @@ unfolding chars
 const_chars = refl
 
 pub keyword_put : (old new : Forest) (kind : ParamKind) (word : Name) → kind ≡ kinds.Const
-    → word ≡ record { name = codes "const"; raw = false; span = nowhere } → new ≡ joined old (split (Ident word))
-    → new ≡ joined old (copied (keyword kind))
+    → word ≡ record { name = codes "const"; raw = false; span = nowhere } → new ≡ chain old (split (Ident word))
+    → new ≡ chain old (copy_trees (keyword kind))
 keyword_put old new kind word is is_word put =
-    subst (λ k. new ≡ joined old (copied (keyword k))) (sym is)
-    (put ∙ ap (λ w. joined old (split (Ident w))) is_word
-    ∙ ap (joined old) (sym (copied_one (Ident (record { name = codes "const"; raw = false; span = nowhere })))))
+    subst (λ k. new ≡ chain old (copy_trees (keyword k))) (sym is)
+    (put ∙ ap (λ w. chain old (split (Ident w))) is_word
+    ∙ ap (chain old) (sym (copied_one (Ident (record { name = codes "const"; raw = false; span = nowhere })))))
 
 pub no_keyword : (old : Forest) (kind : ParamKind) → (kind ≡ kinds.Lifetime) ⊎ (kind ≡ kinds.Type)
-    → old ≡ joined old (copied (keyword kind))
-no_keyword old kind (inl is) = subst (λ k. old ≡ joined old (copied (keyword k))) (sym is) (sym (joined_nil old))
-no_keyword old kind (inr is) = subst (λ k. old ≡ joined old (copied (keyword k))) (sym is) (sym (joined_nil old))
+    → old ≡ chain old (copy_trees (keyword kind))
+no_keyword old kind (inl is) = subst (λ k. old ≡ chain old (copy_trees (keyword k))) (sym is) (sym (joined_nil old))
+no_keyword old kind (inr is) = subst (λ k. old ≡ chain old (copy_trees (keyword k))) (sym is) (sym (joined_nil old))
 
-pub no_bounds : (old : Forest) (bounds : List TokenTree) → bounds ≡ [] → old ≡ joined old (copied (after_colon bounds))
+pub no_bounds : (old : Forest) (bounds : List TokenTree) → bounds ≡ []
+    → old ≡ chain old (copy_trees (after_colon bounds))
 no_bounds old bounds none =
-    subst (λ bs. old ≡ joined old (copied (after_colon bs))) (sym none) (sym (joined_nil old))
+    subst (λ bs. old ≡ chain old (copy_trees (after_colon bs))) (sym none) (sym (joined_nil old))
 
 pub some_bounds : {E : Type 0} (old now new : Forest) (bounds : List TokenTree) (colon : Mark)
     (r : Result (Unit {0}) E) → 0 < length bounds
-    → colon ≡ record { mark = 58; spacing = Alone; span = nowhere } → now ≡ joined old (split (Punct colon))
-    → OnOk r (new ≡ joined now (copied bounds)) → OnOk r (new ≡ joined old (copied (after_colon bounds)))
+    → colon ≡ record { mark = 58; spacing = Alone; span = nowhere } → now ≡ chain old (split (Punct colon))
+    → OnOk r (new ≡ chain now (copy_trees bounds)) → OnOk r (new ≡ chain old (copy_trees (after_colon bounds)))
 some_bounds old now new [] colon r some is put more = absurd (omega arith)
 some_bounds old now new (bound ∷ bounds) colon (Err e) some is put more = tt
 some_bounds old now new (bound ∷ bounds) colon (Ok u) some is put more =
-    more ∙ ap (λ f. joined f (copied (bound ∷ bounds))) (put ∙ ap (λ m. joined old (split (Punct m))) is)
-    ∙ joined_assoc old (split (Punct (record { mark = 58; spacing = Alone; span = nowhere }))) (copied (bound ∷ bounds))
+    more ∙ ap (λ f. chain f (copy_trees (bound ∷ bounds))) (put ∙ ap (λ m. chain old (split (Punct m))) is)
+    ∙ joined_assoc old (split (Punct (record { mark = 58; spacing = Alone; span = nowhere })))
+    (copy_trees (bound ∷ bounds))
 
-pub parameter_built : (param : ParamTrees) (first second third whole : Forest) → first ≡ copied param.attributes
-    → second ≡ joined first (copied (keyword param.kind)) → third ≡ joined second (copied param.name)
-    → whole ≡ joined third (copied (after_colon param.bounds)) → whole ≡ parameter param
+pub parameter_built : (param : ParamTrees) (first second third whole : Forest) → first ≡ copy_trees param.attributes
+    → second ≡ chain first (copy_trees (keyword param.kind)) → third ≡ chain second (copy_trees param.name)
+    → whole ≡ chain third (copy_trees (after_colon param.bounds)) → whole ≡ parameter param
 parameter_built param first second third whole is_first is_second is_third is_whole =
-    let attributes = copied param.attributes in
-    let word = copied (keyword param.kind) in
-    let name = copied param.name in
-    let bounds = copied (after_colon param.bounds) in
+    let attributes = copy_trees param.attributes in
+    let word = copy_trees (keyword param.kind) in
+    let name = copy_trees param.name in
+    let bounds = copy_trees (after_colon param.bounds) in
     is_whole
-    ∙ ap (λ f. joined f bounds) (is_third ∙ ap (λ f. joined f name) (is_second ∙ ap (λ f. joined f word) is_first))
-    ∙ joined_assoc (joined attributes word) name bounds ∙ joined_assoc attributes word (joined name bounds)
+    ∙ ap (λ f. chain f bounds) (is_third ∙ ap (λ f. chain f name) (is_second ∙ ap (λ f. chain f word) is_first))
+    ∙ joined_assoc (chain attributes word) name bounds ∙ joined_assoc attributes word (chain name bounds)
     ∙ sym (copied_append param.attributes (keyword param.kind ++ (param.name ++ after_colon param.bounds))
-    ∙ ap (joined attributes) (copied_append (keyword param.kind) (param.name ++ after_colon param.bounds)
-    ∙ ap (joined word) (copied_append param.name (after_colon param.bounds))))
+    ∙ ap (chain attributes) (copied_append (keyword param.kind) (param.name ++ after_colon param.bounds)
+    ∙ ap (chain word) (copied_append param.name (after_colon param.bounds))))

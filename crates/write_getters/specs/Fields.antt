@@ -12,7 +12,7 @@ use Rattle.proc_macro2.specs.DocGroup.{trees_of}
 use Rattle.declarations.specs.Attribute.{Parts, after_path, attributes_in, is_named, is_word, path_of}
 use Rattle.declarations.specs.Bare.{inside_of}
 use Rattle.declarations.specs.declared.field.Field.{Field}
-use Rattle.write_getters.specs.Copies.{copied}
+use Rattle.write_getters.specs.Copies.{copy_trees}
 
 -- the trees are a group with only this word inside
 abbrev pub is_group_of : List TokenTree → List ℕ → Bool
@@ -38,8 +38,8 @@ has_several_bounds (Ident word ∷ bounds) = is_word (Ident word ∷ []) (codes 
 has_several_bounds _ = false
 
 -- the fields that have a getter
-abbrev pub chosen : List Field → List Field
-chosen fields = filter (λ field. not (is_skipped field)) fields
+abbrev pub getter_fields : List Field → List Field
+getter_fields fields = filter (λ field. not (is_skipped field)) fields
 
 abbrev pub name_of : Field → Forest
 name_of field = elim field.name [ None ↦ nil | Some name ↦ alone (Ident name.now) ]
@@ -49,5 +49,5 @@ abbrev pub type_of : Field → Forest
 type_of field =
     let trees = field.field_type.now in
     if has_several_bounds trees
-    then alone (Group (record { delimiter = Parenthesis; stream = copied trees; span = nowhere }))
-    else copied trees
+    then alone (Group (record { delimiter = Parenthesis; stream = copy_trees trees; span = nowhere }))
+    else copy_trees trees

@@ -8,12 +8,12 @@ use Rattle.declarations.specs.List.{IsFieldOf, Lists}
 use Rattle.declarations.specs.Param.{ParamTrees}
 use Rattle.declarations.specs.declared.field.Field.{Field}
 use Rattle.declarations.specs.declared.item.TypeItem.{TypeItem}
-use Rattle.quoting.specs.Filled.{filled}
+use Rattle.quoting.specs.Filled.{fill_template}
 use Rattle.quoting.specs.Holes.{Named}
 use Rattle.quoting.specs.Items.{Filling, One, Each, each_of}
-use Rattle.quoting.specs.Respaced.{respaced}
-use Rattle.write_getters.specs.Copies.{copied}
-use Rattle.write_getters.specs.Fields.{chosen, name_of, type_of}
+use Rattle.quoting.specs.Respaced.{respace_marks}
+use Rattle.write_getters.specs.Copies.{copy_trees}
+use Rattle.write_getters.specs.Fields.{getter_fields, name_of, type_of}
 use Rattle.write_getters.specs.Parameters.{AreParamsOf, argument, parameter}
 use Rattle.write_getters.specs.Templates.{template_for}
 use Rattle.write_getters.specs.declared.templates.Templates.{Templates}
@@ -27,7 +27,7 @@ holes_of item params fields =
     hole (codes "parameter") (Each (each_of One (map parameter params)))
     ∷ hole (codes "name") (One (alone (Ident item.name.now)))
     ∷ hole (codes "argument") (Each (each_of One (map argument params)))
-    ∷ hole (codes "bounds") (One (copied item.where_clause.now))
+    ∷ hole (codes "bounds") (One (copy_trees item.where_clause.now))
     ∷ hole (codes "field") (Each (each_of One (map name_of fields)))
     ∷ hole (codes "kind") (Each (each_of One (map type_of fields))) ∷ []
 
@@ -38,5 +38,6 @@ pub record IsCodeOf (templates : Templates) (item : TypeItem) (trees : List Toke
   pub params : List ParamTrees
   pub are_params : AreParamsOf item.generics.now params
   pub stream : Forest
-  pub fills : filled (holes_of item params (chosen fields)) (template_for item.generics.now templates) ≡ Ok stream
-  pub is : code ≡ respaced stream
+  pub fills : fill_template (holes_of item params (getter_fields fields)) (template_for item.generics.now templates)
+      ≡ Ok stream
+  pub is : code ≡ respace_marks stream

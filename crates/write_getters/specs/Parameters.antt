@@ -8,7 +8,7 @@ use Rattle.proc_macro2.specs.declared.TokenTree.TheVariants.{Ident, Punct}
 use Rattle.declarations.specs.Param.{IsParamAt, IsWithin, ParamTrees}
 use Rattle.declarations.specs.declared.generics.ParamKind.{ParamKind}
 use Rattle.declarations.specs.declared.generics.ParamKind.TheVariants as kinds
-use Rattle.write_getters.specs.Copies.{copied}
+use Rattle.write_getters.specs.Copies.{copy_trees}
 
 -- the trees are these parameters, one after another
 abbrev pub AreParams : List TokenTree → List ParamTrees → Type 0
@@ -33,8 +33,8 @@ after_colon (bound ∷ bounds) = Punct (record { mark = 58; spacing = Alone; spa
 -- a parameter as it is declared, without its default
 abbrev pub parameter : ParamTrees → Forest
 parameter param =
-    copied (param.attributes ++ (keyword param.kind ++ (param.name ++ after_colon param.bounds)))
+    copy_trees (param.attributes ++ (keyword param.kind ++ (param.name ++ after_colon param.bounds)))
 
 -- a parameter as an argument, which is its name
 abbrev pub argument : ParamTrees → Forest
-argument param = copied param.name
+argument param = copy_trees param.name

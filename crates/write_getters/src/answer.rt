@@ -30,9 +30,9 @@ pub fn print_getters<W: Write>(alloc: Global, text: &str, writer: &mut W) -> Res
     match TokenStream::from_str(text, &mut map) {
         Ok(stream) => match print_file(alloc, stream.trees(), writer) {
             Ok(()) => Ok(()),
-            Err(error) => Err(error.placed(&map)),
+            Err(error) => Err(error.at_position(&map)),
         },
-        Err(error) => Err(WriteError::from(Failure::unparsed(error, &map))),
+        Err(error) => Err(WriteError::from(Failure::parse_failure(error, &map))),
     }
 }
 

@@ -1,15 +1,15 @@
 //! Streams that are made of copies of trees.
 ghost use Rattle.std.specs.Prelude.{◌≡◌, ◌++◌, [], ◌∷◌, IfOk, OnOk};
 ghost use Rattle.proc_macro2.specs.Building.{split};
-ghost use Rattle.proc_macro2.specs.Forest.{joined};
-ghost use Rattle.write_getters.specs.Copies.{copied};
+ghost use Rattle.proc_macro2.specs.Forest.{chain};
+ghost use Rattle.write_getters.specs.Copies.{copy_trees};
 
 use proc_macro2::{TokenStream, TokenTree};
 use std::alloc::{AllocError, Global};
 
 /// Returns a stream of copies of the trees. The only error is that memory runs out.
-pub fn copied(alloc: Global, trees: &[TokenTree]) -> Result<TokenStream, AllocError>
-    ensures { IfOk result (λ stream. stream ≡ copied trees.now) }
+pub fn copy_trees(alloc: Global, trees: &[TokenTree]) -> Result<TokenStream, AllocError>
+    ensures { IfOk result (λ stream. stream ≡ copy_trees trees.now) }
 {
     let mut stream = TokenStream::new(alloc);
     put_copies(&mut stream, trees)?;
@@ -18,7 +18,7 @@ pub fn copied(alloc: Global, trees: &[TokenTree]) -> Result<TokenStream, AllocEr
 
 /// Appends copies of the trees to the stream. The only error is that memory runs out.
 pub fn put_copies(stream: &mut TokenStream, trees: &[TokenTree]) -> Result<(), AllocError>
-    ensures { OnOk result (stream.new ≡ joined stream.old (copied trees.now)) }
+    ensures { OnOk result (stream.new ≡ chain stream.old (copy_trees trees.now)) }
 {
     for tree in trees {
         put(stream, tree.clone()?)?;
@@ -28,7 +28,7 @@ pub fn put_copies(stream: &mut TokenStream, trees: &[TokenTree]) -> Result<(), A
 
 /// Appends the tree to the stream. The only error is that memory runs out.
 pub fn put(stream: &mut TokenStream, tree: TokenTree) -> Result<(), AllocError>
-    ensures { OnOk result (stream.new ≡ joined stream.old (split tree)) }
+    ensures { OnOk result (stream.new ≡ chain stream.old (split tree)) }
 {
     stream.extend_trees([tree])
 }

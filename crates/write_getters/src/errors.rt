@@ -15,7 +15,7 @@ pub enum WriteError {
     /// At some position of the text an item, a field or a parameter is missing or wrong.
     Declared(FoundFault),
     /// A word of the code is not an identifier.
-    Word(IdentError),
+    Identifier(IdentError),
     /// The template could not be filled.
     Template(TemplateError),
     /// The code would not come back from its printed text, whatever the spacing of its marks.
@@ -27,13 +27,13 @@ pub enum WriteError {
 pub struct FoundFault {
     /// What is wrong.
     pub fault: Fault,
-    /// Where it is, once `placed` has looked it up. `None` if something is missing at an end.
+    /// Where it is, once `at_position` has looked it up. `None` if something is missing at an end.
     pub start: Option<LineColumn>,
 }
 
 impl WriteError {
     /// Returns the error with the line and column of a wrong declaration, which come from the map.
-    pub fn placed(self, map: &SourceMap) -> WriteError {
+    pub fn at_position(self, map: &SourceMap) -> WriteError {
         match self {
             WriteError::Declared(found) => match found.fault.span {
                 Some(span) if map.holds(span) => WriteError::Declared(FoundFault {
@@ -75,7 +75,7 @@ impl From<IdentError> for WriteError {
     fn from(error: IdentError) -> WriteError {
         match error {
             IdentError::Memory(error) => WriteError::from(error),
-            error => WriteError::Word(error),
+            error => WriteError::Identifier(error),
         }
     }
 }

@@ -3,10 +3,10 @@ ghost use Rattle.std.specs.Prelude.{◌≡◌, [], IfOk, List, map, true};
 ghost use Rattle.declarations.specs.List.{IsFieldOf, Lists};
 ghost use Rattle.declarations.specs.declared.field.Field.{Field as FieldValue};
 ghost use Rattle.write_getters.specs.Answer.{IsFaithful};
-ghost use Rattle.write_getters.specs.Fields.{chosen, name_of, type_of};
+ghost use Rattle.write_getters.specs.Fields.{getter_fields, name_of, type_of};
 ghost use Rattle.write_getters.specs.Getters.{IsCodeOf};
 
-use crate::copies::{add, copied};
+use crate::copies::{add, copy_trees};
 use crate::errors::WriteError;
 use crate::fields::{has_several_bounds, is_skipped};
 use crate::parameters::parameters;
@@ -41,10 +41,10 @@ pub fn getters(
     ensures back { IfOk result IsFaithful }
     ensures code { IfOk result (IsCodeOf templates.now item.now fields.entry.left.now) }
 {
-    let chosen = chosen(alloc, fields)?;
+    let chosen = getter_fields(alloc, fields)?;
     let parameters = parameters(alloc, item.generics)?;
     let name = TokenStream::from_tree(alloc, TokenTree::Ident(item.name.clone()?))?;
-    let bounds = copied(alloc, item.where_clause)?;
+    let bounds = copy_trees(alloc, item.where_clause)?;
     let holes = [
         Hole::each("parameter", parameters.declared.as_slice()),
         Hole::one("name", &name),
@@ -63,10 +63,11 @@ pub fn getters(
 }
 
 /// Returns the names and types of the fields that have a getter.
-fn chosen(alloc: Global, fields: FieldList<'_>) -> Result<FieldStreams, WriteError>
+fn getter_fields(alloc: Global, fields: FieldList<'_>) -> Result<FieldStreams, WriteError>
     requires { fields.named ≡ true }
     ensures { IfOk result (λ getters. (all : List FieldValue) × Lists (IsFieldOf true) fields.entry.left.now all []
-        × (getters.names.items ≡ map name_of (chosen all)) × (getters.kinds.items ≡ map type_of (chosen all))) }
+        × (getters.names.items ≡ map name_of (getter_fields all))
+        × (getters.kinds.items ≡ map type_of (getter_fields all))) }
 {
     let mut names = Vec::new(alloc);
     let mut kinds = Vec::new(alloc);
@@ -87,7 +88,7 @@ fn chosen(alloc: Global, fields: FieldList<'_>) -> Result<FieldStreams, WriteErr
 fn kind(alloc: Global, field: &Field<'_>) -> Result<TokenStream, AllocError>
     ensures { IfOk result (λ stream. stream ≡ type_of field.now) }
 {
-    let kind = copied(alloc, field.field_type)?;
+    let kind = copy_trees(alloc, field.field_type)?;
     if !has_several_bounds(field) {
         return Ok(kind);
     }

@@ -27,32 +27,32 @@ use std::process::ExitCode;
 const USAGE: &str = "write_getters [FILE]";
 
 fn main(rt: HostRuntime) -> ExitCode {
-    match asked(&rt) {
+    match path_argument(&rt) {
         Ok(path) => run(&rt, path.as_str()),
         Err(failure) => conclude(rt.alloc(), "-", Err(failure), &mut rt.stderr()),
     }
 }
 
 /// Returns the path of the file that the command line names.
-fn asked(rt: &HostRuntime) -> Result<String, Failure> {
+fn path_argument(rt: &HostRuntime) -> Result<String, Failure> {
     let words = words(rt.alloc(), env::args(rt), USAGE)?;
     path(rt.alloc(), words.as_slice(), USAGE)
 }
 
 /// Writes the getters for the text at the path, or writes to standard error why it cannot.
 fn run(rt: &HostRuntime, path: &str) -> ExitCode {
-    let (said, status) = match write_text(rt, path) {
+    let (print_result, status) = match write_text(rt, path) {
         Ok(()) => return ExitCode::SUCCESS,
         Err(WriteError::Failed(failure)) => {
             return conclude(rt.alloc(), path, Err(failure), &mut rt.stderr());
         }
         Err(WriteError::Declared(found)) => (say_fault(path, found, &mut rt.stderr()), 1),
-        Err(WriteError::Word(error)) => (say_of(path, &error, &mut rt.stderr()), 2),
+        Err(WriteError::Identifier(error)) => (say_of(path, &error, &mut rt.stderr()), 2),
         Err(WriteError::Template(error)) => (say_of(path, &error, &mut rt.stderr()), 2),
         Err(WriteError::Quote(error)) => (say_of(path, &error, &mut rt.stderr()), 2),
     };
     // The status stays the same if the message cannot be written.
-    let _ = said;
+    let _ = print_result;
     ExitCode::from(status)
 }
 

@@ -1,11 +1,11 @@
 //! The generic parameters of a struct, as its `impl` declares them and uses them.
 ghost use Rattle.std.specs.Prelude.{◌≡◌, IfOk, List, OnOk, map};
 ghost use Rattle.declarations.specs.Param.{ParamTrees, param_trees};
-ghost use Rattle.proc_macro2.specs.Forest.{joined};
-ghost use Rattle.write_getters.specs.Copies.{copied};
+ghost use Rattle.proc_macro2.specs.Forest.{chain};
+ghost use Rattle.write_getters.specs.Copies.{copy_trees};
 ghost use Rattle.write_getters.specs.Parameters.{AreParamsOf, after_colon, argument, keyword, parameter};
 
-use crate::copies::{add, copied, put, put_copies};
+use crate::copies::{add, copy_trees, put, put_copies};
 use crate::errors::WriteError;
 use declarations::{Param, ParamKind, parse_param, within_generics};
 use proc_macro2::{Ident, Punct, Spacing, Span, TokenStream, TokenTree};
@@ -35,7 +35,7 @@ pub fn parameters(alloc: Global, generics: &[TokenTree]) -> Result<ParameterStre
     while !left.is_empty() {
         let (param, rest) = parse_param(left)?;
         add(&mut declared, parameter(alloc, &param)?)?;
-        add(&mut arguments, copied(alloc, param.name)?)?;
+        add(&mut arguments, copy_trees(alloc, param.name)?)?;
         left = rest;
     }
     Ok(ParameterStreams {
@@ -48,7 +48,7 @@ pub fn parameters(alloc: Global, generics: &[TokenTree]) -> Result<ParameterStre
 fn parameter(alloc: Global, param: &Param<'_>) -> Result<TokenStream, WriteError>
     ensures { IfOk result (λ stream. stream ≡ parameter (param_trees param.now)) }
 {
-    let mut stream = copied(alloc, param.attributes)?;
+    let mut stream = copy_trees(alloc, param.attributes)?;
     put_keyword(alloc, &mut stream, param.kind)?;
     put_copies(&mut stream, param.name)?;
     put_bounds(&mut stream, param.bounds)?;
@@ -57,7 +57,7 @@ fn parameter(alloc: Global, param: &Param<'_>) -> Result<TokenStream, WriteError
 
 /// Appends the keyword with which a parameter of this kind is declared, if it has one.
 fn put_keyword(alloc: Global, stream: &mut TokenStream, kind: ParamKind) -> Result<(), WriteError>
-    ensures { OnOk result (stream.new ≡ joined stream.old (copied (keyword kind))) }
+    ensures { OnOk result (stream.new ≡ chain stream.old (copy_trees (keyword kind))) }
 {
     match kind {
         ParamKind::Lifetime | ParamKind::Type => Ok(()),
@@ -71,7 +71,7 @@ fn put_keyword(alloc: Global, stream: &mut TokenStream, kind: ParamKind) -> Resu
 
 /// Appends `:` and copies of the bounds, if there are any.
 fn put_bounds(stream: &mut TokenStream, bounds: &[TokenTree]) -> Result<(), AllocError>
-    ensures { OnOk result (stream.new ≡ joined stream.old (copied (after_colon bounds.now))) }
+    ensures { OnOk result (stream.new ≡ chain stream.old (copy_trees (after_colon bounds.now))) }
 {
     if bounds.is_empty() {
         return Ok(());

@@ -34,8 +34,8 @@ impl Templates {
         ensures generic { IfOk result (λ templates. IsTemplate (chars GENERIC.now) templates.generic) }
     {
         Ok(Templates {
-            plain: parsed(alloc, PLAIN)?,
-            generic: parsed(alloc, GENERIC)?,
+            plain: parse_template(alloc, PLAIN)?,
+            generic: parse_template(alloc, GENERIC)?,
         })
     }
 
@@ -51,12 +51,12 @@ impl Templates {
     }
 }
 
-fn parsed(alloc: Global, template: &str) -> Result<TokenStream, WriteError>
+fn parse_template(alloc: Global, template: &str) -> Result<TokenStream, WriteError>
     ensures { IfOk result (IsTemplate (chars template.now)) }
 {
     let mut map = SourceMap::new(alloc);
     match TokenStream::from_str(template, &mut map) {
         Ok(stream) => Ok(stream),
-        Err(error) => Err(WriteError::from(Failure::unparsed(error, &map))),
+        Err(error) => Err(WriteError::from(Failure::parse_failure(error, &map))),
     }
 }

@@ -74,7 +74,7 @@ fn trees_of(sign: &str) -> Result<Vec<TokenTree>, Box<dyn Error>> {
     })
 }
 
-fn told<T>(result: Result<(T, &[TokenTree]), Fault>, all: usize, parts: impl Fn(&T) -> String) -> String {
+fn note<T>(result: Result<(T, &[TokenTree]), Fault>, all: usize, parts: impl Fn(&T) -> String) -> String {
     match result {
         Ok((found, rest)) => format!("ok {} {}", all - rest.len(), parts(&found)),
         Err(fault) => format!("fault {}", fault.at),
@@ -149,10 +149,10 @@ fn answer(line: &str) -> Result<String, Box<dyn Error>> {
     let stream: TokenStream = trees.into_iter().collect();
     let group = Group::new(Delimiter::Parenthesis, stream.clone());
     Ok(match part {
-        "fn_parameter" => told(parse_parameter(stream.trees()), all, parameter),
-        "pattern" => told(split_pattern(stream.trees()), all, |_| String::new()),
-        "entry" => told(parse_entry(stream.trees()), all, entry),
-        "generic_argument" => told(parse_generic_argument(stream.trees()), all, argument),
+        "fn_parameter" => note(parse_parameter(stream.trees()), all, parameter),
+        "pattern" => note(split_pattern(stream.trees()), all, |_| String::new()),
+        "entry" => note(parse_entry(stream.trees()), all, entry),
+        "generic_argument" => note(parse_generic_argument(stream.trees()), all, argument),
         "generic_arguments" => counted(GenericArguments::new(stream.trees())),
         "type_path" => path(stream.trees()),
         "fn_parameters" => counted(Parameters::new(&group)),

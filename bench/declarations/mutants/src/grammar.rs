@@ -10,7 +10,7 @@ enum Form {
     Any(Vec<usize>),
     Perhaps(usize),
     Many(usize),
-    Rule(usize),
+    Named(usize),
 }
 
 /// The rules of a text in the form of `grammar.txt`.
@@ -84,7 +84,7 @@ impl Grammar {
                 [name, rest @ ..] => {
                     words = rest;
                     match self.rules.get(*name) {
-                        Some(&rule) => self.push(Form::Rule(rule)),
+                        Some(&rule) => self.push(Form::Named(rule)),
                         None => {
                             let sign = self.sign(name);
                             self.push(Form::Sign(sign))
@@ -199,7 +199,7 @@ impl Chart<'_> {
                 }
                 all
             }
-            Form::Rule(rule) => self.rule(*rule, at),
+            Form::Named(rule) => self.rule(*rule, at),
         }
     }
 }

@@ -8,7 +8,7 @@ mod grammar;
 use grammar::Grammar;
 use proved_tokens::error::Fault;
 use proved_tokens::items::{
-    first_sign, parse_file, parse_function, parse_impl, parse_item, parse_type_item, Class, ItemKind, Word,
+    first_sign, parse_file, parse_function, parse_impl, parse_item, parse_type_item, SignClass, ItemKind, Word,
 };
 use proved_tokens::{Delimiter, Group, TokenStream, TokenTree};
 use std::collections::BTreeMap;
@@ -72,10 +72,10 @@ fn signs(mut trees: &[TokenTree]) -> Vec<(String, usize)> {
     let mut found = Vec::new();
     while let Some((class, rest)) = first_sign(trees) {
         let name = match class {
-            Class::Word(Word::Plain) => "Word".to_string(),
-            Class::Word(word) => format!("{word:?}"),
-            Class::Keyword(keyword) if format!("{keyword:?}") == "Other" => "Keyword".to_string(),
-            Class::Keyword(keyword) => format!("{keyword:?}"),
+            SignClass::Word(Word::Plain) => "Word".to_string(),
+            SignClass::Word(word) => format!("{word:?}"),
+            SignClass::Keyword(keyword) if format!("{keyword:?}") == "Other" => "Keyword".to_string(),
+            SignClass::Keyword(keyword) => format!("{keyword:?}"),
             class => format!("{class:?}"),
         };
         found.push((name, trees.len() - rest.len()));

@@ -7,7 +7,7 @@ use syn::spanned::Spanned;
 use syn::{File, ForeignItem, ImplItem, Item, TraitItem};
 
 /// A line and a column.
-type Place = (usize, usize);
+type Start = (usize, usize);
 
 /// An item: how deep it stands, what it declares if that is known, its name, and its first and last place.
 #[derive(Debug, PartialEq, Eq)]
@@ -15,7 +15,7 @@ pub struct Entry {
     pub depth: usize,
     pub kind: Option<ItemKind>,
     pub name: Option<String>,
-    pub extent: (Place, Place),
+    pub extent: (Start, Start),
 }
 
 /// The items in reading order, each before those in it.

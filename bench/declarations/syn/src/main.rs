@@ -80,8 +80,8 @@ impl Counts {
             self.differ(None, path, "", &format!("syn has {} items, ours {}", theirs.len(), found.len()));
         }
         for (theirs, ours) in theirs.iter().zip(&found).filter(|(theirs, ours)| theirs != ours) {
-            let told = format!("\n  syn:  {theirs:?}\n  ours: {ours:?}");
-            self.differ(cause::of_entry(theirs, ours), path, "", &told);
+            let note = format!("\n  syn:  {theirs:?}\n  ours: {ours:?}");
+            self.differ(cause::of_entry(theirs, ours), path, "", &note);
         }
         let theirs = text.parse().expect("syn has read the text");
         self.times_of_files.add_file(&Lexed { theirs, ours });
@@ -170,17 +170,17 @@ impl Counts {
             return;
         }
         for (theirs, ours) in theirs.iter().zip(found).filter(|(theirs, ours)| theirs != ours) {
-            let told = format!("{}\n  syn:  {}\n  ours: {}", ours.name, theirs.tokens, ours.tokens);
-            self.differ(cause::of_part(ours.name, &theirs.tokens, &ours.tokens), path, text, &told);
+            let note = format!("{}\n  syn:  {}\n  ours: {}", ours.name, theirs.tokens, ours.tokens);
+            self.differ(cause::of_part(ours.name, &theirs.tokens, &ours.tokens), path, text, &note);
         }
     }
 
-    fn differ(&mut self, cause: Option<&'static str>, path: &Path, text: &str, told: &str) {
+    fn differ(&mut self, cause: Option<&'static str>, path: &Path, text: &str, note: &str) {
         match cause {
             Some(cause) => *self.by_cause.entry(cause).or_default() += 1,
             None => {
                 self.without_cause += 1;
-                println!("{}: {told}\n{text}\n", path.display());
+                println!("{}: {note}\n{text}\n", path.display());
             }
         }
     }

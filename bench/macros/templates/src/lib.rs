@@ -197,7 +197,7 @@ pub const ROWS: &[Row] = &[
 
 /// What is known of a token before it is made: the least that any way to make it starts from.
 enum Known {
-    Word(String),
+    Identifier(String),
     Mark(char, Spacing),
     Literal(String),
     Group(Delimiter, Vec<Known>),
@@ -205,7 +205,7 @@ enum Known {
 
 fn known(stream: TokenStream) -> Vec<Known> {
     let each = stream.into_iter().map(|tree| match tree {
-        TokenTree::Ident(name) => Known::Word(name.to_string()),
+        TokenTree::Ident(name) => Known::Identifier(name.to_string()),
         TokenTree::Punct(mark) => Known::Mark(mark.as_char(), mark.spacing()),
         TokenTree::Literal(literal) => Known::Literal(literal.to_string()),
         TokenTree::Group(group) => Known::Group(group.delimiter(), known(group.stream())),
@@ -216,7 +216,7 @@ fn known(stream: TokenStream) -> Vec<Known> {
 /// The tokens by the calls of `proc-macro2` alone, each list by one call.
 fn by_hand(known: &[Known]) -> TokenStream {
     let each = known.iter().map(|token| match token {
-        Known::Word(name) => TokenTree::Ident(ident(name)),
+        Known::Identifier(name) => TokenTree::Ident(ident(name)),
         Known::Mark(mark, spacing) => TokenTree::Punct(Punct::new(*mark, *spacing)),
         Known::Literal(text) => TokenTree::Literal(text.parse().expect("it is a literal")),
         Known::Group(delimiter, inside) => TokenTree::Group(Group::new(*delimiter, by_hand(inside))),

@@ -31,8 +31,8 @@ fn fields_that_are_not_set_have_their_defaults() {
 
 #[test]
 fn a_field_that_has_to_be_set_is_named() {
-    let Err(told) = Request::<u8, 0>::builder().url("a").build() else { panic!("a field is not set") };
-    assert_eq!(told, "the field `r#type` is not set");
+    let Err(note) = Request::<u8, 0>::builder().url("a").build() else { panic!("a field is not set") };
+    assert_eq!(note, "the field `r#type` is not set");
 }
 
 /// The value of a default.

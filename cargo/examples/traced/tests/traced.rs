@@ -61,7 +61,7 @@ fn names_of_the_body_stay_its_own() {
 }
 
 #[test]
-fn a_raw_name_is_told_as_it_is_written() {
+fn a_raw_name_is_printed_as_it_is_written() {
     assert_eq!(r#fn(), [1, 2]);
     assert_eq!(SEEN.take(), [("r#fn", true), ("r#fn", false)]);
 }

@@ -63,7 +63,7 @@ fn with_more(stream: &OwnStream, constant: &OwnStream) -> OwnStream {
 pub fn lines_and_columns(input: proc_macro::TokenStream) -> proc_macro::TokenStream {
     let mut spans = Spans::new();
     let own = to_proved(&input.into(), &mut spans).expect("the compiler's tokens are of the grammar");
-    let mut told = TokenStream::new();
+    let mut note = TokenStream::new();
     for tree in own.trees() {
         let ends = match tree {
             OwnTree::Group(group) => vec![group.span_open(), group.span_close()],
@@ -71,10 +71,10 @@ pub fn lines_and_columns(input: proc_macro::TokenStream) -> proc_macro::TokenStr
         };
         for end in ends {
             let code = "(line!(), column!()),".parse().expect("it is a text");
-            told.extend(with_span(code, spans.span(end)));
+            note.extend(with_span(code, spans.span(end)));
         }
     }
-    TokenStream::from(TokenTree::Group(Group::new(Delimiter::Bracket, told))).into()
+    TokenStream::from(TokenTree::Group(Group::new(Delimiter::Bracket, note))).into()
 }
 
 fn with_span(stream: TokenStream, span: Span) -> TokenStream {

@@ -2,8 +2,8 @@
 //! The item at the start of trees, with its kind and name.
 
 use crate::declarations::fault::Fault;
-use crate::declarations::place::{Item, Part, Place, Rule, Spot, State};
 use crate::declarations::walk::split_from;
+use crate::declarations::walk_state::{Continuation, Item, Part, Spot, State, WalkState};
 use crate::pm_stream::TokenTree;
 use crate::pm_token::Ident;
 
@@ -73,8 +73,9 @@ pub struct AnyItem<'a> {
 /// - `ensures only`: <code>[IfOk] result (λ found. [IsOnly] [IsAnyItem] trees.now found.0.trees.now
 ///   found.1.now)</code>
 /// - `ensures fewer`: <code>[IfOk] result (λ found. [length] found.1.now &lt; [length] trees.now)</code>
-/// - `ensures told`: <code>[IfOk] result (λ found. (name : [Option] [Name]) × [Tells] trees.now found.1.now
-///   found.0.kind name × [MatchOption] found.0.name (name ≡ [None]) (λ ident. name ≡ [Some] ident.now))</code>
+/// - `ensures kind_and_name`: <code>[IfOk] result (λ found. (name : [Option] [Name]) × [Tells] trees.now
+///   found.1.now found.0.kind name × [MatchOption] found.0.name (name ≡ [None]) (λ ident. name ≡ [Some]
+///   ident.now))</code>
 /// - `ensures fault`: <code>[IfErr] result (λ fault. [FaultAt] [IsAnyItem] trees.now fault.at)</code>
 /// - `ensures span`: <code>[IfErr] result (λ fault. fault.span ≡ [extent_at] trees.now fault.at)</code>
 ///
@@ -95,9 +96,9 @@ pub struct AnyItem<'a> {
 pub fn split_any_item<'a>(trees: &'a [TokenTree]) -> Result<(AnyItem<'a>, &'a [TokenTree]), Fault>
     // The kind and the name are those that the walk over the item's signs finds.
 {
-    let start = Place {
+    let start = WalkState {
         item: Item::Alone,
-        rule: Rule::Alone,
+        rule: Continuation::Alone,
         state: State::At(Spot::Before(Part::AnyItem)),
         depth: 0,
     };

@@ -1,7 +1,7 @@
 // Made from crates/declarations/src/attribute.rt by dev/erase: change that file, not this one.
 //! Attributes, one at a time.
 
-use crate::declarations::bare::{bared, has_no_delimiters, inside_of};
+use crate::declarations::bare::{bare_trees, has_no_delimiters, inside_of};
 use crate::declarations::item::split_group;
 use crate::pm_stream::{Group, TokenTree};
 use crate::pm_token::{Delimiter, Literal, Punct, Spacing};
@@ -228,7 +228,7 @@ impl<'a> Attribute<'a> {
 /// Whether the trees are this one identifier, perhaps in groups without delimiters.
 pub(crate) fn is_named(trees: &[TokenTree], word: &str) -> bool
 {
-    is_word(bared(trees), word)
+    is_word(bare_trees(trees), word)
 }
 
 /// Whether the trees are this one identifier.
@@ -244,7 +244,7 @@ fn is_word(trees: &[TokenTree], word: &str) -> bool
 fn literal_after(trees: &[TokenTree]) -> Option<&Literal>
 {
     match trees.split_first() {
-        Some((TokenTree::Punct(mark), value)) if is_equals(mark) => only_literal(bared(value)),
+        Some((TokenTree::Punct(mark), value)) if is_equals(mark) => only_literal(bare_trees(value)),
         _ => None,
     }
 }

@@ -51,7 +51,7 @@ pub(crate) fn inside_of(group: &Group) -> &[TokenTree]
 }
 
 /// The trees; or if they are one group without delimiters, the trees in the innermost of such groups.
-pub(crate) fn bared(trees: &[TokenTree]) -> &[TokenTree]
+pub(crate) fn bare_trees(trees: &[TokenTree]) -> &[TokenTree]
 {
     match trees {
         [TokenTree::Group(group)] if has_no_delimiters(group.delimiter()) => inside_of(group),

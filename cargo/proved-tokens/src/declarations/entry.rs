@@ -2,14 +2,14 @@
 //! The entries of an attribute's list.
 
 use crate::declarations::attribute::is_named;
-use crate::declarations::bare::{bared, has_no_delimiters, inside_of};
-use crate::declarations::class::Class;
+use crate::declarations::bare::{bare_trees, has_no_delimiters, inside_of};
+use crate::declarations::class::SignClass;
 use crate::declarations::fault::Fault;
 use crate::declarations::item::split_group;
-use crate::declarations::place::{Item, Place, Rule, Spot, State};
 use crate::declarations::reader::{begins, is, part, past};
 use crate::declarations::signs::first_sign;
 use crate::declarations::walk::walk_past;
+use crate::declarations::walk_state::{Continuation, Item, Spot, State, WalkState};
 use crate::pm_span::Span;
 use crate::pm_stream::{Group, TokenTree};
 use crate::pm_token::Ident;
@@ -178,7 +178,7 @@ impl<'a> Entry<'a> {
     /// [sole_name]: crate::contracts#declarations.Entry.sole_name
     pub fn name(&self) -> Option<&'a Ident>
     {
-        only_name(bared(self.path))
+        only_name(bare_trees(self.path))
     }
 
     /// Returns the span of the first tree. An entry that a call of this crate returned always has one. For an entry in
@@ -279,12 +279,12 @@ fn whole_plain_entry(trees: &[TokenTree]) -> Result<Entry<'_>, Fault>
     }
 }
 
-fn is_segment(class: Class) -> bool
+fn is_segment(class: SignClass) -> bool
 {
     match class {
-        Class::Word(_) | Class::Keyword(_) => true,
-        Class::SelfValue | Class::SelfType | Class::Super | Class::Crate => true,
-        Class::As | Class::Await | Class::Jump => true,
+        SignClass::Word(_) | SignClass::Keyword(_) => true,
+        SignClass::SelfValue | SignClass::SelfType | SignClass::Super | SignClass::Crate => true,
+        SignClass::As | SignClass::Await | SignClass::Jump => true,
         _ => false,
     }
 }
@@ -307,8 +307,8 @@ fn segment(trees: &[TokenTree]) -> Result<&[TokenTree], &[TokenTree]>
 /// Skips `::`, if it is next.
 fn separator(trees: &[TokenTree]) -> Result<&[TokenTree], &[TokenTree]>
 {
-    if begins(trees, Class::PathSeparator) {
-        past(trees, Class::PathSeparator)
+    if begins(trees, SignClass::PathSeparator) {
+        past(trees, SignClass::PathSeparator)
     } else {
         Ok(trees)
     }
@@ -317,14 +317,14 @@ fn separator(trees: &[TokenTree]) -> Result<&[TokenTree], &[TokenTree]>
 /// Skips `::` and a segment.
 fn next_segment(trees: &[TokenTree]) -> Result<&[TokenTree], &[TokenTree]>
 {
-    segment(past(trees, Class::PathSeparator)?)
+    segment(past(trees, SignClass::PathSeparator)?)
 }
 
 /// Skips more segments, each after `::`.
 fn more_segments(trees: &[TokenTree]) -> Result<&[TokenTree], &[TokenTree]>
 {
     let mut left = trees;
-    while begins(left, Class::PathSeparator) {
+    while begins(left, SignClass::PathSeparator) {
         match next_segment(left) {
             Ok(next) => left = next,
             Err(fault) => return Err(fault),
@@ -345,10 +345,10 @@ fn entry_path(trees: &[TokenTree]) -> Result<&[TokenTree], &[TokenTree]>
     segments(separator(trees)?)
 }
 
-fn is_literal(class: Class) -> bool
+fn is_literal(class: SignClass) -> bool
 {
     match class {
-        Class::Literal | Class::Truth => true,
+        SignClass::Literal | SignClass::Truth => true,
         _ => false,
     }
 }
@@ -371,8 +371,8 @@ fn plain_literal(trees: &[TokenTree]) -> Result<&[TokenTree], &[TokenTree]>
 /// Skips a literal, with a minus sign or without.
 fn literal(trees: &[TokenTree]) -> Result<&[TokenTree], &[TokenTree]>
 {
-    if begins(trees, Class::Minus) {
-        past(past(trees, Class::Minus)?, Class::Literal)
+    if begins(trees, SignClass::Minus) {
+        past(past(trees, SignClass::Minus)?, SignClass::Literal)
     } else {
         plain_literal(trees)
     }
@@ -381,9 +381,9 @@ fn literal(trees: &[TokenTree]) -> Result<&[TokenTree], &[TokenTree]>
 /// Skips an expression.
 fn past_expression(trees: &[TokenTree]) -> Result<&[TokenTree], &[TokenTree]>
 {
-    let start = Place {
+    let start = WalkState {
         item: Item::Alone,
-        rule: Rule::Alone,
+        rule: Continuation::Alone,
         state: State::At(Spot::Expression),
         depth: 0,
     };
@@ -391,10 +391,10 @@ fn past_expression(trees: &[TokenTree]) -> Result<&[TokenTree], &[TokenTree]>
 }
 
 /// Whether the sign can go on after an operand but can begin no value: `=`, `>` or `->`.
-fn continues(class: Class) -> bool
+fn continues(class: SignClass) -> bool
 {
     match class {
-        Class::Equals | Class::Greater | Class::Arrow => true,
+        SignClass::Equals | SignClass::Greater | SignClass::Arrow => true,
         _ => false,
     }
 }
@@ -443,7 +443,7 @@ fn value_of(trees: &[TokenTree]) -> Result<(EntryKind<'_>, &[TokenTree]), &[Toke
 {
     match first_sign(trees) {
         Some((class, from_value)) => {
-            if is(Class::Equals, class) {
+            if is(SignClass::Equals, class) {
                 match past_value(from_value) {
                     Ok(rest) => Ok((EntryKind::Value(part(from_value, rest)), rest)),
                     Err(left) => Err(left),
@@ -457,10 +457,10 @@ fn value_of(trees: &[TokenTree]) -> Result<(EntryKind<'_>, &[TokenTree]), &[Toke
 }
 
 /// Whether a literal can begin with a sign of this class.
-fn begins_literal(class: Class) -> bool
+fn begins_literal(class: SignClass) -> bool
 {
     match class {
-        Class::Minus | Class::Literal | Class::Truth => true,
+        SignClass::Minus | SignClass::Literal | SignClass::Truth => true,
         _ => false,
     }
 }

@@ -3,7 +3,7 @@
 
 use crate::declarations::fault::Fault;
 use crate::declarations::item::split_name;
-use crate::declarations::parts::{split_attributes, split_field, split_tuple_field, split_visibility};
+use crate::declarations::part_splitting::{split_attributes, split_field, split_tuple_field, split_visibility};
 use crate::pm_stream::TokenTree;
 use crate::pm_token::Ident;
 

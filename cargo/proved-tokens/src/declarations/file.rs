@@ -3,9 +3,9 @@
 
 use crate::declarations::any_item::{AnyItem, ItemKind, split_any_item};
 use crate::declarations::fault::Fault;
-use crate::declarations::parts::split_inner_attributes;
-use crate::declarations::place::{Item, Part, Place, Rule, Spot, State};
+use crate::declarations::part_splitting::split_inner_attributes;
 use crate::declarations::walk::read_whole;
+use crate::declarations::walk_state::{Continuation, Item, Part, Spot, State, WalkState};
 use crate::pm_stream::{Group, TokenTree};
 use crate::pm_token::Delimiter;
 
@@ -83,8 +83,8 @@ pub fn parse_file(trees: &[TokenTree]) -> Result<File<'_>, Fault>
 ///
 /// - `ensures ok`: <code>[IfOk] result (λ item. [ReadsAll] [IsAnyItem] trees.now × (item.trees.now ≡
 ///   trees.now))</code>
-/// - `ensures told`: <code>[IfOk] result (λ item. (name : [Option] [Name]) × [Tells] trees.now \[\] item.kind
-///   name × [MatchOption] item.name (name ≡ [None]) (λ ident. name ≡ [Some] ident.now))</code>
+/// - `ensures kind_and_name`: <code>[IfOk] result (λ item. (name : [Option] [Name]) × [Tells] trees.now \[\]
+///   item.kind name × [MatchOption] item.name (name ≡ [None]) (λ ident. name ≡ [Some] ident.now))</code>
 /// - `ensures fault`: <code>[IfErr] result (λ fault. [FaultAt] ([IsWhole] [IsAnyItem]) trees.now
 ///   fault.at)</code>
 /// - `ensures span`: <code>[IfErr] result (λ fault. fault.span ≡ [extent_at] trees.now fault.at)</code>
@@ -105,9 +105,9 @@ pub fn parse_file(trees: &[TokenTree]) -> Result<File<'_>, Fault>
 pub fn parse_item(trees: &[TokenTree]) -> Result<AnyItem<'_>, Fault>
     // The kind and the name are those that the walk over the item's signs finds.
 {
-    let start = Place {
+    let start = WalkState {
         item: Item::Alone,
-        rule: Rule::Alone,
+        rule: Continuation::Alone,
         state: State::At(Spot::Before(Part::AnyItem)),
         depth: 0,
     };

@@ -1,14 +1,14 @@
 // Made from crates/declarations/src/function.rt by dev/erase: change that file, not this one.
 //! The parts of a function.
 
-use crate::declarations::class::{Class, Keyword, Word};
+use crate::declarations::class::{Keyword, SignClass, Word};
 use crate::declarations::fault::Fault;
 use crate::declarations::item::{split_group, split_name, split_parentheses};
 use crate::declarations::parameter::{past_attributes, past_type};
-use crate::declarations::place::{Item, Place, Rule, Spot, State};
 use crate::declarations::reader::{begins_identifier, begins_mark, is, part, past};
 use crate::declarations::signs::{first_sign, name_class};
 use crate::declarations::walk::walk_past;
+use crate::declarations::walk_state::{Continuation, Item, Spot, State, WalkState};
 use crate::pm_stream::{Group, TokenTree};
 use crate::pm_token::{Delimiter, Ident};
 
@@ -87,7 +87,7 @@ fn function_of(trees: &[TokenTree]) -> Result<(Function<'_>, &[TokenTree]), &[To
     let from_visibility = past_attributes(trees)?;
     let from_qualifiers = past_visibility(from_visibility)?;
     let from_fn = past_qualifiers(from_qualifiers);
-    let from_name = past(from_fn, Class::Keyword(Keyword::Fn))?;
+    let from_name = past(from_fn, SignClass::Keyword(Keyword::Fn))?;
     let (name, from_generics) = name_of(from_name)?;
     let from_parameters = past_generics(from_generics)?;
     let (parameters, from_return) = parentheses_of(from_parameters)?;
@@ -113,10 +113,10 @@ pub(crate) fn past_visibility(trees: &[TokenTree]) -> Result<&[TokenTree], &[Tok
 {
     match first_sign(trees) {
         Some((class, rest)) => {
-            if is(Class::Keyword(Keyword::Pub), class) {
-                return Ok(may(rest, Class::Restriction));
+            if is(SignClass::Keyword(Keyword::Pub), class) {
+                return Ok(may(rest, SignClass::Restriction));
             }
-            if is(Class::Visibility, class) {
+            if is(SignClass::Visibility, class) {
                 return Ok(rest);
             }
             Ok(trees)
@@ -137,9 +137,9 @@ pub(crate) fn past_generics(trees: &[TokenTree]) -> Result<&[TokenTree], &[Token
 
 fn walk_generics(trees: &[TokenTree]) -> Result<&[TokenTree], &[TokenTree]>
 {
-    let start = Place {
+    let start = WalkState {
         item: Item::Alone,
-        rule: Rule::Alone,
+        rule: Continuation::Alone,
         state: State::At(Spot::Generics),
         depth: 0,
     };
@@ -158,9 +158,9 @@ pub(crate) fn past_where(trees: &[TokenTree]) -> Result<&[TokenTree], &[TokenTre
 
 fn walk_where(trees: &[TokenTree]) -> Result<&[TokenTree], &[TokenTree]>
 {
-    let start = Place {
+    let start = WalkState {
         item: Item::Alone,
-        rule: Rule::Alone,
+        rule: Continuation::Alone,
         state: State::At(Spot::Where),
         depth: 0,
     };
@@ -170,7 +170,7 @@ fn walk_where(trees: &[TokenTree]) -> Result<&[TokenTree], &[TokenTree]>
 // ---- qualifiers
 
 /// Skips a sign of this class, if one is next.
-pub(crate) fn may(trees: &[TokenTree], class: Class) -> &[TokenTree]
+pub(crate) fn may(trees: &[TokenTree], class: SignClass) -> &[TokenTree]
 {
     match first_sign(trees) {
         Some((found, rest)) => { if is(class, found) { rest } else { trees } }
@@ -179,10 +179,10 @@ pub(crate) fn may(trees: &[TokenTree], class: Class) -> &[TokenTree]
 }
 
 /// Whether the sign is `unsafe` or `safe`.
-fn is_safe(class: Class) -> bool
+fn is_safe(class: SignClass) -> bool
 {
     match class {
-        Class::Keyword(Keyword::Unsafe) | Class::Word(Word::Safe) => true,
+        SignClass::Keyword(Keyword::Unsafe) | SignClass::Word(Word::Safe) => true,
         _ => false,
     }
 }
@@ -201,8 +201,8 @@ fn may_abi(trees: &[TokenTree]) -> &[TokenTree]
 {
     match first_sign(trees) {
         Some((found, rest)) => {
-            if is(Class::Keyword(Keyword::Extern), found) {
-                may(rest, Class::Literal)
+            if is(SignClass::Keyword(Keyword::Extern), found) {
+                may(rest, SignClass::Literal)
             } else {
                 trees
             }
@@ -214,19 +214,19 @@ fn may_abi(trees: &[TokenTree]) -> &[TokenTree]
 /// Skips the qualifiers before `fn`.
 fn past_qualifiers(trees: &[TokenTree]) -> &[TokenTree]
 {
-    let after_default = may(trees, Class::Word(Word::Default));
-    let after_const = may(after_default, Class::Keyword(Keyword::Const));
-    let after_async = may(after_const, Class::Keyword(Keyword::Async));
+    let after_default = may(trees, SignClass::Word(Word::Default));
+    let after_const = may(after_default, SignClass::Keyword(Keyword::Const));
+    let after_async = may(after_const, SignClass::Keyword(Keyword::Async));
     may_abi(may_safe(after_async))
 }
 
 // ---- the name and the parameters
 
 /// Whether the sign can name a function. A keyword cannot.
-pub(crate) fn is_name(class: Class) -> bool
+pub(crate) fn is_name(class: SignClass) -> bool
 {
     match class {
-        Class::Word(_) => true,
+        SignClass::Word(_) => true,
         _ => false,
     }
 }
@@ -285,7 +285,7 @@ pub(crate) fn return_of(trees: &[TokenTree]) -> Result<(&[TokenTree], &[TokenTre
 {
     match first_sign(trees) {
         Some((class, from_type)) => {
-            if is(Class::Arrow, class) {
+            if is(SignClass::Arrow, class) {
                 match past_type(from_type) {
                     Ok(rest) => Ok((part(from_type, rest), rest)),
                     Err(left) => Err(left),
@@ -306,7 +306,7 @@ fn body_of(trees: &[TokenTree]) -> Result<(Option<&Group>, &[TokenTree]), &[Toke
     }
     match first_sign(trees) {
         Some((class, rest)) => {
-            if is(Class::Semicolon, class) {
+            if is(SignClass::Semicolon, class) {
                 Ok((None, rest))
             } else {
                 Err(trees)

@@ -1,7 +1,7 @@
 // Made from crates/declarations/src/generic_argument.rt by dev/erase: change that file, not this one.
 //! The generic arguments of a path, one at a time.
 
-use crate::declarations::class::Class;
+use crate::declarations::class::SignClass;
 use crate::declarations::fault::Fault;
 use crate::declarations::list::{fault_after, past_comma};
 use crate::declarations::parameter::past_type;
@@ -146,28 +146,28 @@ fn past_bounds(trees: &[TokenTree]) -> Result<&[TokenTree], &[TokenTree]>
 }
 
 /// Whether the sign is a constant by itself.
-fn is_constant(class: Class) -> bool
+fn is_constant(class: SignClass) -> bool
 {
     match class {
-        Class::Literal | Class::Braces | Class::Truth => true,
+        SignClass::Literal | SignClass::Braces | SignClass::Truth => true,
         _ => false,
     }
 }
 
 /// Whether the sign is a word.
-fn is_word(class: Class) -> bool
+fn is_word(class: SignClass) -> bool
 {
     match class {
-        Class::Word(_) => true,
+        SignClass::Word(_) => true,
         _ => false,
     }
 }
 
 /// Whether a constant can begin with the sign.
-fn begins_constant(class: Class) -> bool
+fn begins_constant(class: SignClass) -> bool
 {
     match class {
-        Class::Minus | Class::Literal | Class::Braces | Class::Truth => true,
+        SignClass::Minus | SignClass::Literal | SignClass::Braces | SignClass::Truth => true,
         _ => false,
     }
 }
@@ -190,8 +190,8 @@ fn plain_constant(trees: &[TokenTree]) -> Result<&[TokenTree], &[TokenTree]>
 /// Skips a constant, with a minus sign or without.
 fn past_constant(trees: &[TokenTree]) -> Result<&[TokenTree], &[TokenTree]>
 {
-    if begins(trees, Class::Minus) {
-        past(past(trees, Class::Minus)?, Class::Literal)
+    if begins(trees, SignClass::Minus) {
+        past(past(trees, SignClass::Minus)?, SignClass::Literal)
     } else {
         plain_constant(trees)
     }
@@ -202,13 +202,13 @@ fn constraint_of(trees: &[TokenTree]) -> Result<(ArgumentKind<'_>, &[TokenTree])
 {
     match first_sign(trees) {
         Some((class, from_end)) => {
-            if is(Class::Equals, class) {
+            if is(SignClass::Equals, class) {
                 return match past_type(from_end) {
                     Ok(rest) => Ok((ArgumentKind::Binding(part(from_end, rest)), rest)),
                     Err(left) => Err(left),
                 };
             }
-            if is(Class::Colon, class) {
+            if is(SignClass::Colon, class) {
                 return match past_bounds(from_end) {
                     Ok(rest) => Ok((ArgumentKind::Constraint(part(from_end, rest)), rest)),
                     Err(left) => Err(left),
@@ -255,7 +255,7 @@ fn plain_argument_of(
 /// The lifetime at the start of the trees as an argument, and the trees after it; or the trees from the error on.
 fn lifetime_of(trees: &[TokenTree]) -> Result<(GenericArgument<'_>, &[TokenTree]), &[TokenTree]>
 {
-    match past(trees, Class::Lifetime) {
+    match past(trees, SignClass::Lifetime) {
         Ok(rest) => {
             let trees = part(trees, rest);
             let kind = ArgumentKind::Lifetime;
@@ -285,7 +285,7 @@ pub(crate) fn argument_of(
 {
     match first_sign(trees) {
         Some((class, _)) => {
-            if is(Class::Lifetime, class) {
+            if is(SignClass::Lifetime, class) {
                 return lifetime_of(trees);
             }
             if begins_constant(class) {

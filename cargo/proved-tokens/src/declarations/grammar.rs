@@ -1,20 +1,20 @@
 // Made from crates/declarations/src/grammar.rt by dev/erase: change that file, not this one.
 //! The grammar of declarations as an automaton: what may follow each state of the walk.
 
-use crate::declarations::class::{Class, Keyword};
+use crate::declarations::class::{Keyword, SignClass};
 use crate::declarations::expression::{
     cast, cast_whole, closure, expression, expression_dot, expression_less, expression_open,
     expression_whole, variant_end,
 };
 use crate::declarations::front::{declaration, front_names, front_step, front_type, type_item, unmarked_item};
 use crate::declarations::header::{body, closing, generics, header, is_alone};
-use crate::declarations::place::{
-    Item, Part, Place, Rule, Shift, Spot, State, TypeStart, at_spot, to_bounds, to_spot, to_type,
-    type_from,
-};
 use crate::declarations::types::{Turn, TypeState, may_end, type_step};
+use crate::declarations::walk_state::{
+    Continuation, Item, Part, Shift, Spot, State, TypeStart, WalkState, at_spot, to_bounds,
+    to_spot, to_type, type_from,
+};
 
-impl Place {
+impl WalkState {
     /// The state that a sign of this class leads to, or `None` if the sign cannot come next.
     ///
     /// # Contract
@@ -25,7 +25,7 @@ impl Place {
     ///
     /// [step]: crate::contracts#declarations.Grammar.step
     /// [IfSome]: crate::contracts#std.IfSome
-    pub fn step(self, class: Class) -> Option<Place>
+    pub fn step(self, class: SignClass) -> Option<WalkState>
     {
         match self.state {
             State::Range(state) => {
@@ -33,17 +33,17 @@ impl Place {
                     return Some(next);
                 }
                 if self.depth == 0 && may_end(state) {
-                    shifted(self.depth, follow(self.item, self.rule, class))
+                    shift_state(self.depth, follow(self.item, self.rule, class))
                 } else {
                     None
                 }
             }
             State::At(spot) => {
                 if let Some(shift) = spot_step(self.item, self.rule, spot, class) {
-                    return shifted(self.depth, Some(shift));
+                    return shift_state(self.depth, Some(shift));
                 }
                 let start = spot_type(self.item, self.rule, spot)?;
-                let place = Place {
+                let place = WalkState {
                     item: self.item,
                     rule: start.rule,
                     state: self.state,
@@ -78,7 +78,7 @@ impl Place {
     /// - `ensures`: <code>result ≡ [names] self class</code>
     ///
     /// [names]: crate::contracts#declarations.Grammar.names
-    pub fn names(self, class: Class) -> bool
+    pub fn names(self, class: SignClass) -> bool
     {
         wants_name(self.state) && is_name(class)
     }
@@ -95,16 +95,16 @@ fn wants_name(state: State) -> bool
 }
 
 /// Whether a sign of this class can be the name of an item.
-fn is_name(class: Class) -> bool
+fn is_name(class: SignClass) -> bool
 {
     match class {
-        Class::Word(_) | Class::SelfValue | Class::Underscore => true,
+        SignClass::Word(_) | SignClass::SelfValue | SignClass::Underscore => true,
         _ => false,
     }
 }
 
 /// The step within a type or bounds.
-fn range_step(place: Place, state: TypeState, class: Class) -> Option<Place>
+fn range_step(place: WalkState, state: TypeState, class: SignClass) -> Option<WalkState>
 {
     let taken = type_step(state, class, place.depth == 0)?;
     let depth = match taken.turn {
@@ -112,7 +112,7 @@ fn range_step(place: Place, state: TypeState, class: Class) -> Option<Place>
         Turn::Open => place.depth + 1,
         Turn::Close => place.depth - 1,
     };
-    Some(Place {
+    Some(WalkState {
         item: place.item,
         rule: place.rule,
         state: range_state(place.rule, taken.state, taken.turn, depth),
@@ -120,7 +120,7 @@ fn range_step(place: Place, state: TypeState, class: Class) -> Option<Place>
     })
 }
 
-fn shifted(depth: usize, shift: Option<Shift>) -> Option<Place>
+fn shift_state(depth: usize, shift: Option<Shift>) -> Option<WalkState>
 {
     let Shift {
         item,
@@ -133,7 +133,7 @@ fn shifted(depth: usize, shift: Option<Shift>) -> Option<Place>
         Turn::Open => depth + 1,
         Turn::Close => depth.saturating_sub(1),
     };
-    Some(Place {
+    Some(WalkState {
         item,
         rule,
         state,
@@ -142,18 +142,18 @@ fn shifted(depth: usize, shift: Option<Shift>) -> Option<Place>
 }
 
 /// The state after the angle brackets of an expression.
-fn after_angle(rule: Rule, state: TypeState) -> State
+fn after_angle(rule: Continuation, state: TypeState) -> State
 {
     match rule {
-        Rule::Angle => State::At(Spot::ExpressionWhole),
-        Rule::CastAngle => State::At(Spot::CastWhole),
-        Rule::ClosureAngle => State::At(Spot::Closure),
+        Continuation::Angle => State::At(Spot::ExpressionWhole),
+        Continuation::CastAngle => State::At(Spot::CastWhole),
+        Continuation::ClosureAngle => State::At(Spot::Closure),
         _ => State::Range(state),
     }
 }
 
 /// The state after a step within a type. The step may close the angle brackets of an expression.
-fn range_state(rule: Rule, state: TypeState, turn: Turn, depth: usize) -> State
+fn range_state(rule: Continuation, state: TypeState, turn: Turn, depth: usize) -> State
 {
     match turn {
         Turn::Close => {
@@ -168,61 +168,61 @@ fn range_state(rule: Rule, state: TypeState, turn: Turn, depth: usize) -> State
 }
 
 /// The step after a whole generic parameter.
-fn parameter_end(item: Item, class: Class) -> Option<Shift>
+fn parameter_end(item: Item, class: SignClass) -> Option<Shift>
 {
     match class {
-        Class::Comma => to_spot(item, Spot::Before(Part::Parameter)),
-        Class::Greater => to_spot(item, Spot::AfterGenerics),
+        SignClass::Comma => to_spot(item, Spot::Before(Part::Parameter)),
+        SignClass::Greater => to_spot(item, Spot::AfterGenerics),
         _ => None,
     }
 }
 
 /// The step where a generic parameter begins.
-fn parameter(item: Item, class: Class) -> Option<Shift>
+fn parameter(item: Item, class: SignClass) -> Option<Shift>
 {
     match class {
-        Class::Lifetime => to_spot(item, Spot::LifetimeName),
-        Class::Word(_) => to_spot(item, Spot::TypeName),
-        Class::Keyword(Keyword::Const) => to_spot(item, Spot::ConstName),
+        SignClass::Lifetime => to_spot(item, Spot::LifetimeName),
+        SignClass::Word(_) => to_spot(item, Spot::TypeName),
+        SignClass::Keyword(Keyword::Const) => to_spot(item, Spot::ConstName),
         _ => None,
     }
 }
 
 /// The step after a lifetime that is a generic parameter.
-fn lifetime_name(item: Item, class: Class) -> Option<Shift>
+fn lifetime_name(item: Item, class: SignClass) -> Option<Shift>
 {
     match class {
-        Class::Colon => to_bounds(item, Rule::Parameter),
+        SignClass::Colon => to_bounds(item, Continuation::Parameter),
         _ => parameter_end(item, class),
     }
 }
 
 /// The step after the name of a type parameter.
-fn type_name(item: Item, class: Class) -> Option<Shift>
+fn type_name(item: Item, class: SignClass) -> Option<Shift>
 {
     match class {
-        Class::Colon => to_bounds(item, Rule::TypeParameter),
-        Class::Equals => to_type(item, Rule::Parameter),
+        SignClass::Colon => to_bounds(item, Continuation::TypeParameter),
+        SignClass::Equals => to_type(item, Continuation::Parameter),
         _ => parameter_end(item, class),
     }
 }
 
 /// The step at the default of a constant parameter, if the default is no type.
-fn const_default(item: Item, class: Class) -> Option<Shift>
+fn const_default(item: Item, class: SignClass) -> Option<Shift>
 {
     match class {
-        Class::Literal | Class::Braces | Class::Truth => to_spot(item, Spot::ConstEnd),
-        Class::Minus => to_spot(item, Spot::ConstMinus),
+        SignClass::Literal | SignClass::Braces | SignClass::Truth => to_spot(item, Spot::ConstEnd),
+        SignClass::Minus => to_spot(item, Spot::ConstMinus),
         _ => None,
     }
 }
 
 /// The step where a part begins, after its attributes and its visibility.
-fn begin(part: Part, item: Item, rule: Rule, class: Class) -> Option<Shift>
+fn begin(part: Part, item: Item, rule: Continuation, class: SignClass) -> Option<Shift>
 {
     match (part, class) {
-        (Part::Field, Class::Word(_)) => at_spot(item, rule, Spot::FieldName),
-        (Part::Variant, Class::Word(_)) => at_spot(item, rule, Spot::VariantName),
+        (Part::Field, SignClass::Word(_)) => at_spot(item, rule, Spot::FieldName),
+        (Part::Variant, SignClass::Word(_)) => at_spot(item, rule, Spot::VariantName),
         (Part::Parameter, _) => parameter(item, class),
         (Part::TypeItem, _) => type_item(class),
         (Part::AnyItem, _) => declaration(class),
@@ -231,7 +231,12 @@ fn begin(part: Part, item: Item, rule: Rule, class: Class) -> Option<Shift>
 }
 
 /// The step where a part without a visibility begins, after its attributes.
-fn unmarked(part: Part, item: Item, rule: Rule, class: Class) -> Option<Shift>
+fn after_attributes_only(
+    part: Part,
+    item: Item,
+    rule: Continuation,
+    class: SignClass,
+) -> Option<Shift>
 {
     match part {
         Part::AnyItem => unmarked_item(class),
@@ -248,15 +253,15 @@ fn has_visibility(part: Part) -> bool
 }
 
 /// The step after the attributes of a part.
-fn attributed(part: Part, item: Item, rule: Rule, class: Class) -> Option<Shift>
+fn after_attribute(part: Part, item: Item, rule: Continuation, class: SignClass) -> Option<Shift>
 {
     match class {
-        Class::Keyword(Keyword::Pub) if has_visibility(part) => {
+        SignClass::Keyword(Keyword::Pub) if has_visibility(part) => {
             at_spot(item, rule, Spot::Public(part))
         }
-        Class::Visibility if has_visibility(part) => at_spot(item, rule, Spot::Visible(part)),
-        Class::Keyword(Keyword::Pub) | Class::Visibility => None,
-        _ => unmarked(part, item, rule, class),
+        SignClass::Visibility if has_visibility(part) => at_spot(item, rule, Spot::Visible(part)),
+        SignClass::Keyword(Keyword::Pub) | SignClass::Visibility => None,
+        _ => after_attributes_only(part, item, rule, class),
     }
 }
 
@@ -269,47 +274,47 @@ fn has_attributes(part: Part) -> bool
 }
 
 /// The step before another attribute of a part, or before what follows the attributes.
-fn before(part: Part, item: Item, rule: Rule, class: Class) -> Option<Shift>
+fn before(part: Part, item: Item, rule: Continuation, class: SignClass) -> Option<Shift>
 {
     match class {
-        Class::Hash if has_attributes(part) => at_spot(item, rule, Spot::Hash(part)),
-        Class::Hash => None,
-        _ => attributed(part, item, rule, class),
+        SignClass::Hash if has_attributes(part) => at_spot(item, rule, Spot::Hash(part)),
+        SignClass::Hash => None,
+        _ => after_attribute(part, item, rule, class),
     }
 }
 
 /// The step before a part. A list of generic parameters may end here.
-fn before_first(part: Part, item: Item, rule: Rule, class: Class) -> Option<Shift>
+fn before_first(part: Part, item: Item, rule: Continuation, class: SignClass) -> Option<Shift>
 {
     match (part, class) {
-        (Part::Parameter, Class::Greater) => to_spot(item, Spot::AfterGenerics),
+        (Part::Parameter, SignClass::Greater) => to_spot(item, Spot::AfterGenerics),
         _ => before(part, item, rule, class),
     }
 }
 
 /// The step after the `pub` of a part.
-fn public(part: Part, item: Item, rule: Rule, class: Class) -> Option<Shift>
+fn public(part: Part, item: Item, rule: Continuation, class: SignClass) -> Option<Shift>
 {
     match class {
-        Class::Restriction => at_spot(item, rule, Spot::Visible(part)),
+        SignClass::Restriction => at_spot(item, rule, Spot::Visible(part)),
         _ => begin(part, item, rule, class),
     }
 }
 
 /// The step before the discriminant of a variant.
-fn variant_value(item: Item, class: Class) -> Option<Shift>
+fn variant_value(item: Item, class: SignClass) -> Option<Shift>
 {
     match class {
-        Class::Equals => to_spot(item, Spot::Expression),
+        SignClass::Equals => to_spot(item, Spot::Expression),
         _ => variant_end(item, class),
     }
 }
 
 /// The step after the name of a variant.
-fn variant_body(item: Item, rule: Rule, class: Class) -> Option<Shift>
+fn variant_body(item: Item, rule: Continuation, class: SignClass) -> Option<Shift>
 {
     match class {
-        Class::Restriction | Class::Parentheses | Class::Braces => {
+        SignClass::Restriction | SignClass::Parentheses | SignClass::Braces => {
             at_spot(item, rule, Spot::VariantEnd)
         }
         _ => variant_value(item, class),
@@ -317,36 +322,43 @@ fn variant_body(item: Item, rule: Rule, class: Class) -> Option<Shift>
 }
 
 /// The step after a type or bounds.
-fn follow(item: Item, rule: Rule, class: Class) -> Option<Shift>
+fn follow(item: Item, rule: Continuation, class: SignClass) -> Option<Shift>
 {
     match (rule, class) {
-        (Rule::Fields, Class::Comma) => at_spot(item, rule, Spot::Before(Part::Field)),
-        (Rule::TupleFields, Class::Comma) => at_spot(item, rule, Spot::Before(Part::TupleField)),
-        (Rule::Parameter, _) => parameter_end(item, class),
-        (Rule::TypeParameter, Class::Equals) => to_type(item, Rule::Parameter),
-        (Rule::TypeParameter, _) => parameter_end(item, class),
-        (Rule::ConstParameter, Class::Equals) => to_spot(item, Spot::ConstDefault),
-        (Rule::ConstParameter, _) => parameter_end(item, class),
-        (Rule::Bounded, Class::Colon) => to_bounds(item, Rule::Predicate),
-        (Rule::Predicate, Class::Comma) => to_spot(item, Spot::Predicate),
-        (Rule::Predicate, _) => body(item, class),
-        (Rule::Target, Class::Keyword(Keyword::For)) => to_type(item, Rule::Header),
-        (Rule::Target, _) => header(item, class),
-        (Rule::Header, _) => header(item, class),
+        (Continuation::Fields, SignClass::Comma) => at_spot(item, rule, Spot::Before(Part::Field)),
+        (Continuation::TupleFields, SignClass::Comma) => at_spot(
+            item,
+            rule,
+            Spot::Before(Part::TupleField),
+        ),
+        (Continuation::Parameter, _) => parameter_end(item, class),
+        (Continuation::TypeParameter, SignClass::Equals) => to_type(item, Continuation::Parameter),
+        (Continuation::TypeParameter, _) => parameter_end(item, class),
+        (Continuation::ConstParameter, SignClass::Equals) => to_spot(item, Spot::ConstDefault),
+        (Continuation::ConstParameter, _) => parameter_end(item, class),
+        (Continuation::Bounded, SignClass::Colon) => to_bounds(item, Continuation::Predicate),
+        (Continuation::Predicate, SignClass::Comma) => to_spot(item, Spot::Predicate),
+        (Continuation::Predicate, _) => body(item, class),
+        (Continuation::Target, SignClass::Keyword(Keyword::For)) => to_type(
+            item,
+            Continuation::Header,
+        ),
+        (Continuation::Target, _) => header(item, class),
+        (Continuation::Header, _) => header(item, class),
         _ => None,
     }
 }
 
 /// The step outside of types and bounds.
-fn spot_step(item: Item, rule: Rule, spot: Spot, class: Class) -> Option<Shift>
+fn spot_step(item: Item, rule: Continuation, spot: Spot, class: SignClass) -> Option<Shift>
 {
     match (spot, class) {
         (Spot::Before(part), _) => before_first(part, item, rule, class),
-        (Spot::Hash(part), Class::Brackets) => at_spot(item, rule, Spot::Attributed(part)),
+        (Spot::Hash(part), SignClass::Brackets) => at_spot(item, rule, Spot::Attributed(part)),
         (Spot::Attributed(part), _) => before(part, item, rule, class),
         (Spot::Public(part), _) => public(part, item, rule, class),
         (Spot::Visible(part), _) => begin(part, item, rule, class),
-        (Spot::FieldName, Class::Colon) => to_type(item, rule),
+        (Spot::FieldName, SignClass::Colon) => to_type(item, rule),
         (Spot::VariantName, _) => variant_body(item, rule, class),
         (Spot::VariantEnd, _) => variant_value(item, class),
         (Spot::Expression, _) => expression(item, class),
@@ -354,8 +366,8 @@ fn spot_step(item: Item, rule: Rule, spot: Spot, class: Class) -> Option<Shift>
         (Spot::ExpressionWhole, _) => expression_whole(item, class),
         (Spot::ExpressionLess, _) => expression_less(item, class),
         (Spot::ExpressionDot, _) => expression_dot(item, class),
-        (Spot::ExpressionRange, Class::Dot) => to_spot(item, Spot::ExpressionOpen),
-        (Spot::ExpressionHash, Class::Brackets) => to_spot(item, Spot::Expression),
+        (Spot::ExpressionRange, SignClass::Dot) => to_spot(item, Spot::ExpressionOpen),
+        (Spot::ExpressionHash, SignClass::Brackets) => to_spot(item, Spot::Expression),
         (Spot::Closure, _) => closure(item, class),
         (Spot::Cast, _) => cast(item, class),
         (Spot::CastWhole, _) => cast_whole(item, class),
@@ -363,17 +375,17 @@ fn spot_step(item: Item, rule: Rule, spot: Spot, class: Class) -> Option<Shift>
         (Spot::AfterGenerics, _) => closing(item, class),
         (Spot::LifetimeName, _) => lifetime_name(item, class),
         (Spot::TypeName, _) => type_name(item, class),
-        (Spot::ConstName, Class::Word(_)) => to_spot(item, Spot::ConstColon),
-        (Spot::ConstColon, Class::Colon) => to_type(item, Rule::ConstParameter),
+        (Spot::ConstName, SignClass::Word(_)) => to_spot(item, Spot::ConstColon),
+        (Spot::ConstColon, SignClass::Colon) => to_type(item, Continuation::ConstParameter),
         (Spot::ConstDefault, _) => const_default(item, class),
-        (Spot::ConstMinus, Class::Literal) => to_spot(item, Spot::ConstEnd),
+        (Spot::ConstMinus, SignClass::Literal) => to_spot(item, Spot::ConstEnd),
         (Spot::ConstEnd, _) => parameter_end(item, class),
-        (Spot::Where, Class::Keyword(Keyword::Where)) => to_spot(item, Spot::Predicate),
+        (Spot::Where, SignClass::Keyword(Keyword::Where)) => to_spot(item, Spot::Predicate),
         (Spot::Predicate, _) => body(item, class),
-        (Spot::Name, Class::Word(_)) => to_spot(item, Spot::Generics),
+        (Spot::Name, SignClass::Word(_)) => to_spot(item, Spot::Generics),
         (Spot::Front(front), _) => front_step(item, front, class),
-        (Spot::Inner, Class::HashBang) => to_spot(item, Spot::InnerHash),
-        (Spot::InnerHash, Class::Brackets) => to_spot(item, Spot::Inner),
+        (Spot::Inner, SignClass::HashBang) => to_spot(item, Spot::InnerHash),
+        (Spot::InnerHash, SignClass::Brackets) => to_spot(item, Spot::Inner),
         _ => None,
     }
 }
@@ -382,13 +394,13 @@ fn spot_step(item: Item, rule: Rule, spot: Spot, class: Class) -> Option<Shift>
 fn closing_type(item: Item) -> Option<TypeStart>
 {
     match item {
-        Item::Impl => type_from(Rule::Target, TypeState::Wanted),
+        Item::Impl => type_from(Continuation::Target, TypeState::Wanted),
         _ => None,
     }
 }
 
 /// The type that can begin in this state.
-fn spot_type(item: Item, rule: Rule, spot: Spot) -> Option<TypeStart>
+fn spot_type(item: Item, rule: Continuation, spot: Spot) -> Option<TypeStart>
 {
     match spot {
         Spot::Before(Part::TupleField)
@@ -396,20 +408,20 @@ fn spot_type(item: Item, rule: Rule, spot: Spot) -> Option<TypeStart>
         | Spot::Public(Part::TupleField)
         | Spot::Visible(Part::TupleField) => type_from(rule, TypeState::Wanted),
         Spot::AfterGenerics => closing_type(item),
-        Spot::ConstDefault => type_from(Rule::Parameter, TypeState::Wanted),
-        Spot::Predicate => type_from(Rule::Bounded, TypeState::Wanted),
+        Spot::ConstDefault => type_from(Continuation::Parameter, TypeState::Wanted),
+        Spot::Predicate => type_from(Continuation::Bounded, TypeState::Wanted),
         Spot::Front(front) => front_type(front),
         _ => None,
     }
 }
 
 /// Whether the part that is read may end after a type or bounds.
-fn rule_ends(item: Item, rule: Rule) -> bool
+fn rule_ends(item: Item, rule: Continuation) -> bool
 {
     match rule {
-        Rule::Alone | Rule::Fields | Rule::TupleFields => true,
-        Rule::Predicate | Rule::Header => is_alone(item),
-        Rule::Angle | Rule::CastAngle | Rule::ClosureAngle => true,
+        Continuation::Alone | Continuation::Fields | Continuation::TupleFields => true,
+        Continuation::Predicate | Continuation::Header => is_alone(item),
+        Continuation::Angle | Continuation::CastAngle | Continuation::ClosureAngle => true,
         _ => false,
     }
 }
@@ -424,17 +436,17 @@ fn is_front(part: Part) -> bool
 }
 
 /// Whether what is read may end before this part, as a list may.
-fn part_ends(item: Item, rule: Rule, part: Part) -> bool
+fn part_ends(item: Item, rule: Continuation, part: Part) -> bool
 {
     match (item, rule, part) {
-        (_, Rule::Fields, Part::Field)
-        | (_, Rule::TupleFields, Part::TupleField)
+        (_, Continuation::Fields, Part::Field)
+        | (_, Continuation::TupleFields, Part::TupleField)
         | (Item::Variants, _, Part::Variant) => true,
         _ => is_front(part),
     }
 }
 
-fn spot_ends(item: Item, rule: Rule, spot: Spot) -> bool
+fn spot_ends(item: Item, rule: Continuation, spot: Spot) -> bool
 {
     match spot {
         Spot::Before(part) => part_ends(item, rule, part),

@@ -1,7 +1,7 @@
 // Made from crates/declarations/src/implementation.rt by dev/erase: change that file, not this one.
 //! The parts of an `impl`.
 
-use crate::declarations::class::{Class, Keyword, Word};
+use crate::declarations::class::{Keyword, SignClass, Word};
 use crate::declarations::fault::Fault;
 use crate::declarations::function::{is_name, may, past_generics, past_visibility, past_where, split_braces};
 use crate::declarations::parameter::{past_attributes, past_type};
@@ -149,8 +149,8 @@ fn front_of(trees: &[TokenTree]) -> Result<(Front<'_>, &[TokenTree]), &[TokenTre
 /// Skips the qualifiers before `impl`.
 fn past_impl_qualifiers(trees: &[TokenTree]) -> &[TokenTree]
 {
-    let from_unsafe = may(trees, Class::Word(Word::Default));
-    may(from_unsafe, Class::Keyword(Keyword::Unsafe))
+    let from_unsafe = may(trees, SignClass::Word(Word::Default));
+    may(from_unsafe, SignClass::Keyword(Keyword::Unsafe))
 }
 
 /// Skips `impl`.
@@ -158,7 +158,7 @@ fn past_impl(trees: &[TokenTree]) -> Result<&[TokenTree], &[TokenTree]>
 {
     match first_sign(trees) {
         Some((class, rest)) => {
-            if is(Class::Keyword(Keyword::Impl), class) {
+            if is(SignClass::Keyword(Keyword::Impl), class) {
                 Ok(rest)
             } else {
                 Err(trees)
@@ -191,7 +191,7 @@ fn header_of(trees: &[TokenTree]) -> Result<(Header<'_>, &[TokenTree]), &[TokenT
 {
     match past_impl_generics(trees) {
         Ok((generics, from_const)) => {
-            let from_target = may(from_const, Class::Keyword(Keyword::Const));
+            let from_target = may(from_const, SignClass::Keyword(Keyword::Const));
             let constness = part(from_const, from_target);
             match target_of(from_target) {
                 Ok((target, rest)) => Ok((
@@ -212,19 +212,22 @@ fn header_of(trees: &[TokenTree]) -> Result<(Header<'_>, &[TokenTree]), &[TokenT
 // ---- generic parameters
 
 /// Whether the sign alone shows that a `<` before it begins generic parameters.
-fn begins_parameter(class: Class) -> bool
+fn begins_parameter(class: SignClass) -> bool
 {
     match class {
-        Class::Greater | Class::Hash | Class::Lifetime | Class::Keyword(Keyword::Const) => true,
+        SignClass::Greater
+        | SignClass::Hash
+        | SignClass::Lifetime
+        | SignClass::Keyword(Keyword::Const) => true,
         _ => false,
     }
 }
 
 /// Whether the sign after a word shows that the word is a generic parameter.
-fn ends_parameter(class: Class) -> bool
+fn ends_parameter(class: SignClass) -> bool
 {
     match class {
-        Class::Colon | Class::Equals | Class::Comma | Class::Greater => true,
+        SignClass::Colon | SignClass::Equals | SignClass::Comma | SignClass::Greater => true,
         _ => false,
     }
 }
@@ -287,10 +290,10 @@ fn past_impl_generics(trees: &[TokenTree]) -> Result<(&[TokenTree], &[TokenTree]
 // ---- the trait and the type
 
 /// Whether the sign begins a where clause or a body.
-fn begins_end(class: Class) -> bool
+fn begins_end(class: SignClass) -> bool
 {
     match class {
-        Class::Keyword(Keyword::Where) | Class::Braces => true,
+        SignClass::Keyword(Keyword::Where) | SignClass::Braces => true,
         _ => false,
     }
 }
@@ -309,7 +312,7 @@ fn target_of(trees: &[TokenTree]) -> Result<(Target<'_>, &[TokenTree]), &[TokenT
 {
     match first_sign(trees) {
         Some((class, from_types)) => {
-            if is(Class::Exclamation, class) {
+            if is(SignClass::Exclamation, class) {
                 negative_of(trees, from_types)
             } else {
                 types_of(trees, &[])
@@ -375,7 +378,7 @@ fn may_for(trees: &[TokenTree]) -> Option<&[TokenTree]>
 {
     match first_sign(trees) {
         Some((class, rest)) => {
-            if is(Class::Keyword(Keyword::For), class) {
+            if is(SignClass::Keyword(Keyword::For), class) {
                 Some(rest)
             } else {
                 None

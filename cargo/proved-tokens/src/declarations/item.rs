@@ -1,12 +1,12 @@
 // Made from crates/declarations/src/item.rt by dev/erase: change that file, not this one.
 //! Structs, enums and unions, as a derive macro gets them.
 
-use crate::declarations::class::{Class, Keyword};
+use crate::declarations::class::{Keyword, SignClass};
 use crate::declarations::fault::Fault;
-use crate::declarations::parts::{split_attributes, split_generics, split_visibility, split_where};
-use crate::declarations::place::{Item, Part, Place, Rule, Spot, State};
+use crate::declarations::part_splitting::{split_attributes, split_generics, split_visibility, split_where};
 use crate::declarations::signs::name_class;
 use crate::declarations::walk::read_whole;
+use crate::declarations::walk_state::{Continuation, Item, Part, Spot, State, WalkState};
 use crate::pm_stream::{Group, TokenTree};
 use crate::pm_token::{Delimiter, Ident};
 
@@ -82,9 +82,9 @@ pub enum Fields<'a> {
 /// [extent_at]: crate::contracts#declarations.Fault.extent_at
 pub fn parse_type_item(trees: &[TokenTree]) -> Result<TypeItem<'_>, Fault>
 {
-    let start = Place {
+    let start = WalkState {
         item: Item::Alone,
-        rule: Rule::Alone,
+        rule: Continuation::Alone,
         state: State::At(Spot::Before(Part::TypeItem)),
         depth: 0,
     };
@@ -123,11 +123,11 @@ struct Ending<'a> {
     semicolon: &'a [TokenTree],
 }
 
-fn ending_of<'a>(keyword: Class, trees: &'a [TokenTree]) -> Result<Ending<'a>, Fault>
+fn ending_of<'a>(keyword: SignClass, trees: &'a [TokenTree]) -> Result<Ending<'a>, Fault>
 {
     match keyword {
-        Class::Keyword(Keyword::Struct) => struct_ending(trees),
-        Class::Keyword(Keyword::Enum) => {
+        SignClass::Keyword(Keyword::Struct) => struct_ending(trees),
+        SignClass::Keyword(Keyword::Enum) => {
             let (where_clause, variants, semicolon) = braces_of(trees)?;
             Ok(Ending {
                 where_clause,

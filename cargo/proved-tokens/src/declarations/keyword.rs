@@ -1,7 +1,7 @@
 // Made from crates/declarations/src/keyword.rt by dev/erase: change that file, not this one.
 //! Which identifiers are keywords of the grammar.
 
-use crate::declarations::class::Class;
+use crate::declarations::class::SignClass;
 use crate::declarations::signs::name_class;
 use crate::pm_token::Ident;
 
@@ -19,7 +19,7 @@ use crate::pm_token::Ident;
 pub fn is_keyword(ident: &Ident) -> bool
 {
     match name_class(ident) {
-        Class::Word(_) => false,
+        SignClass::Word(_) => false,
         _ => true,
     }
 }

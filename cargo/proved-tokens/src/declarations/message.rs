@@ -17,13 +17,13 @@ impl Fault {
     /// # Contract
     ///
     /// - `ensures`: <code>[IfOk] result (λ stream. stream ≡ [forest] ([compile_error] ([fault_text] self.now.span)
-    ///   ([told_at] self.now.span)))</code>
+    ///   ([span_or_call_site] self.now.span)))</code>
     ///
     /// [IfOk]: crate::contracts#std.IfOk
     /// [forest]: crate::contracts#pm_stream.Trees.forest
     /// [compile_error]: crate::contracts#declarations.CompileError.compile_error
     /// [fault_text]: crate::contracts#declarations.Fault.fault_text
-    /// [told_at]: crate::contracts#declarations.CompileError.told_at
+    /// [span_or_call_site]: crate::contracts#declarations.CompileError.span_or_call_site
     pub fn to_compile_error(&self) -> Result<TokenStream, AllocError>
     {
         match self.span {

@@ -4,9 +4,9 @@
 //! A function here returns the part at the start of the trees, and the trees after it. At an error it returns the trees
 //! from the error on.
 
-use crate::declarations::class::{Class, Keyword};
+use crate::declarations::class::{Keyword, SignClass};
 use crate::declarations::generics::{Param, ParamKind, Predicate};
-use crate::declarations::parts::{split_attributes, split_bounds, split_type};
+use crate::declarations::part_splitting::{split_attributes, split_bounds, split_type};
 use crate::declarations::signs::first_sign;
 use crate::pm_stream::TokenTree;
 
@@ -96,7 +96,7 @@ fn past_colon(trees: &[TokenTree]) -> Option<&[TokenTree]>
 {
     let (class, rest) = first_sign(trees)?;
     match class {
-        Class::Colon => Some(rest),
+        SignClass::Colon => Some(rest),
         _ => None,
     }
 }
@@ -106,7 +106,7 @@ fn past_equals(trees: &[TokenTree]) -> Option<&[TokenTree]>
 {
     let (class, rest) = first_sign(trees)?;
     match class {
-        Class::Equals => Some(rest),
+        SignClass::Equals => Some(rest),
         _ => None,
     }
 }
@@ -116,7 +116,7 @@ fn past_comma(trees: &[TokenTree]) -> Option<&[TokenTree]>
 {
     let (class, rest) = first_sign(trees)?;
     match class {
-        Class::Comma => Some(rest),
+        SignClass::Comma => Some(rest),
         _ => None,
     }
 }
@@ -126,7 +126,7 @@ fn past_literal(trees: &[TokenTree]) -> Option<&[TokenTree]>
 {
     let (class, rest) = first_sign(trees)?;
     match class {
-        Class::Literal => Some(rest),
+        SignClass::Literal => Some(rest),
         _ => None,
     }
 }
@@ -154,7 +154,7 @@ fn word_of<'a>(
         return Err(trees);
     };
     match class {
-        Class::Word(_) => Ok((before(trees, rest), rest)),
+        SignClass::Word(_) => Ok((before(trees, rest), rest)),
         _ => Err(trees),
     }
 }
@@ -168,9 +168,9 @@ fn name_of<'a>(
         return Err(trees);
     };
     match class {
-        Class::Lifetime => Ok((ParamKind::Lifetime, before(trees, rest), rest)),
-        Class::Word(_) => Ok((ParamKind::Type, before(trees, rest), rest)),
-        Class::Keyword(Keyword::Const) => {
+        SignClass::Lifetime => Ok((ParamKind::Lifetime, before(trees, rest), rest)),
+        SignClass::Word(_) => Ok((ParamKind::Type, before(trees, rest), rest)),
+        SignClass::Keyword(Keyword::Const) => {
             let (name, after) = word_of(rest)?;
             Ok((ParamKind::Const, name, after))
         }
@@ -230,10 +230,10 @@ fn none_of(trees: &[TokenTree]) -> &[TokenTree]
     trees.split_at(0).0
 }
 
-fn is_constant(class: Class) -> bool
+fn is_constant(class: SignClass) -> bool
 {
     match class {
-        Class::Literal | Class::Braces | Class::Truth => true,
+        SignClass::Literal | SignClass::Braces | SignClass::Truth => true,
         _ => false,
     }
 }
@@ -250,7 +250,7 @@ fn constant_of<'a>(
         return Ok((before(trees, rest), rest));
     }
     match class {
-        Class::Minus => match past_literal(rest) {
+        SignClass::Minus => match past_literal(rest) {
             Some(after) => Ok((before(trees, after), after)),
             None => Err(rest),
         },

@@ -1,7 +1,7 @@
 // Made from crates/declarations/src/parameter.rt by dev/erase: change that file, not this one.
 //! The parameters of functions, one at a time.
 
-use crate::declarations::class::{Class, Keyword};
+use crate::declarations::class::{Keyword, SignClass};
 use crate::declarations::fault::Fault;
 use crate::declarations::list::{fault_after, past_comma};
 use crate::declarations::range::past_range;
@@ -46,37 +46,44 @@ pub enum Shape {
 }
 
 /// Whether a pattern can begin with the sign, apart from angle brackets.
-fn is_pattern(class: Class) -> bool
+fn is_pattern(class: SignClass) -> bool
 {
     match class {
-        Class::Word(_) | Class::Keyword(Keyword::Mut | Keyword::Other) => true,
-        Class::SelfType | Class::Super | Class::Crate | Class::Underscore => true,
-        Class::Truth | Class::Literal | Class::PathSeparator => true,
-        Class::Restriction | Class::Parentheses | Class::Brackets | Class::Invisible => true,
-        Class::And | Class::Minus => true,
+        SignClass::Word(_) | SignClass::Keyword(Keyword::Mut | Keyword::Other) => true,
+        SignClass::SelfType | SignClass::Super | SignClass::Crate | SignClass::Underscore => true,
+        SignClass::Truth | SignClass::Literal | SignClass::PathSeparator => true,
+        SignClass::Restriction
+        | SignClass::Parentheses
+        | SignClass::Brackets
+        | SignClass::Invisible => true,
+        SignClass::And | SignClass::Minus => true,
         _ => false,
     }
 }
 
 /// Whether the sign can be in a pattern after its first sign.
-fn continues(class: Class) -> bool
+fn continues(class: SignClass) -> bool
 {
     match class {
-        Class::Braces | Class::Exclamation | Class::Dot | Class::Equals | Class::Infix => true,
+        SignClass::Braces
+        | SignClass::Exclamation
+        | SignClass::Dot
+        | SignClass::Equals
+        | SignClass::Infix => true,
         _ => is_pattern(class),
     }
 }
 
-fn opens(class: Class) -> bool
+fn opens(class: SignClass) -> bool
 {
     match class {
-        Class::Less | Class::LessJoint => true,
+        SignClass::Less | SignClass::LessJoint => true,
         _ => false,
     }
 }
 
 /// Whether a pattern can begin with the sign.
-fn may_begin(class: Class) -> bool
+fn may_begin(class: SignClass) -> bool
 {
     is_pattern(class) || opens(class)
 }
@@ -104,7 +111,7 @@ pub(crate) fn past_attributes(trees: &[TokenTree]) -> Result<&[TokenTree], &[Tok
 fn begins_attribute(trees: &[TokenTree]) -> bool
 {
     if begins_mark(trees) {
-        begins(trees, Class::Hash)
+        begins(trees, SignClass::Hash)
     } else {
         false
     }
@@ -113,7 +120,7 @@ fn begins_attribute(trees: &[TokenTree]) -> bool
 /// Skips an attribute.
 fn past_attribute(trees: &[TokenTree]) -> Result<&[TokenTree], &[TokenTree]>
 {
-    past(past(trees, Class::Hash)?, Class::Brackets)
+    past(past(trees, SignClass::Hash)?, SignClass::Brackets)
 }
 
 /// Skips one more sign of a pattern, if one is next.
@@ -138,8 +145,8 @@ fn pattern_signs(trees: &[TokenTree]) -> &[TokenTree]
 /// Skips braces, if they are next.
 fn braces(trees: &[TokenTree]) -> Result<&[TokenTree], &[TokenTree]>
 {
-    if begins(trees, Class::Braces) {
-        past(trees, Class::Braces)
+    if begins(trees, SignClass::Braces) {
+        past(trees, SignClass::Braces)
     } else {
         Ok(trees)
     }
@@ -201,23 +208,26 @@ fn past_pattern(trees: &[TokenTree]) -> Result<&[TokenTree], &[TokenTree]>
 /// Skips `self` or `mut self`.
 fn may_mutate(trees: &[TokenTree]) -> Result<&[TokenTree], &[TokenTree]>
 {
-    if begins(trees, Class::Keyword(Keyword::Mut)) {
-        past(past(trees, Class::Keyword(Keyword::Mut))?, Class::SelfValue)
+    if begins(trees, SignClass::Keyword(Keyword::Mut)) {
+        past(
+            past(trees, SignClass::Keyword(Keyword::Mut))?,
+            SignClass::SelfValue,
+        )
     } else {
-        past(trees, Class::SelfValue)
+        past(trees, SignClass::SelfValue)
     }
 }
 
 /// Skips `..`.
 fn two_dots(trees: &[TokenTree]) -> Result<&[TokenTree], &[TokenTree]>
 {
-    past(past(trees, Class::Dot)?, Class::Dot)
+    past(past(trees, SignClass::Dot)?, SignClass::Dot)
 }
 
 /// Skips `...`.
 fn dots(trees: &[TokenTree]) -> Result<&[TokenTree], &[TokenTree]>
 {
-    two_dots(past(trees, Class::Dot)?)
+    two_dots(past(trees, SignClass::Dot)?)
 }
 
 /// What a parameter begins with after its `mut`, and the trees from the `:` or the end on.
@@ -225,7 +235,7 @@ fn after_mut(trees: &[TokenTree]) -> Result<(Shape, &[TokenTree]), &[TokenTree]>
 {
     match first_sign(trees) {
         Some((class, rest)) => {
-            if is(Class::SelfValue, class) {
+            if is(SignClass::SelfValue, class) {
                 Ok((Shape::Receiver, rest))
             } else {
                 pattern_shape(trees)
@@ -249,7 +259,7 @@ fn after_and_mut(trees: &[TokenTree]) -> Result<(Shape, &[TokenTree]), &[TokenTr
 {
     match first_sign(trees) {
         Some((class, rest)) => {
-            if is(Class::SelfValue, class) {
+            if is(SignClass::SelfValue, class) {
                 Ok((Shape::Reference, rest))
             } else {
                 pattern_shape(trees)
@@ -264,16 +274,16 @@ fn after_and(trees: &[TokenTree]) -> Result<(Shape, &[TokenTree]), &[TokenTree]>
 {
     match first_sign(trees) {
         Some((class, rest)) => {
-            if is(Class::Lifetime, class) {
+            if is(SignClass::Lifetime, class) {
                 return match may_mutate(rest) {
                     Ok(after) => Ok((Shape::Reference, after)),
                     Err(left) => Err(left),
                 };
             }
-            if is(Class::Keyword(Keyword::Mut), class) {
+            if is(SignClass::Keyword(Keyword::Mut), class) {
                 return after_and_mut(rest);
             }
-            if is(Class::SelfValue, class) {
+            if is(SignClass::SelfValue, class) {
                 return Ok((Shape::Reference, rest));
             }
             pattern_shape(trees)
@@ -287,13 +297,13 @@ fn named_front(trees: &[TokenTree]) -> Result<(Shape, &[TokenTree]), &[TokenTree
 {
     match first_sign(trees) {
         Some((class, rest)) => {
-            if is(Class::SelfValue, class) {
+            if is(SignClass::SelfValue, class) {
                 return Ok((Shape::Receiver, rest));
             }
-            if is(Class::Keyword(Keyword::Mut), class) {
+            if is(SignClass::Keyword(Keyword::Mut), class) {
                 return after_mut(rest);
             }
-            if is(Class::And, class) {
+            if is(SignClass::And, class) {
                 return after_and(rest);
             }
             pattern_shape(trees)
@@ -307,7 +317,7 @@ fn self_type(trees: &[TokenTree]) -> Result<(ParameterKind<'_>, &[TokenTree]), &
 {
     match first_sign(trees) {
         Some((class, from_type)) => {
-            if is(Class::Colon, class) {
+            if is(SignClass::Colon, class) {
                 match past_type(from_type) {
                     Ok(rest) => Ok((ParameterKind::TypedReceiver(part(from_type, rest)), rest)),
                     Err(left) => Err(left),
@@ -323,7 +333,7 @@ fn self_type(trees: &[TokenTree]) -> Result<(ParameterKind<'_>, &[TokenTree]), &
 /// The form of a parameter with a pattern, from after its `:` on, and the trees after it.
 fn typed_end(trees: &[TokenTree]) -> Result<(ParameterKind<'_>, &[TokenTree]), &[TokenTree]>
 {
-    if begins(trees, Class::Dot) {
+    if begins(trees, SignClass::Dot) {
         match dots(trees) {
             Ok(rest) => Ok((ParameterKind::Variadic, rest)),
             Err(left) => Err(left),
@@ -337,11 +347,11 @@ fn typed_end(trees: &[TokenTree]) -> Result<(ParameterKind<'_>, &[TokenTree]), &
 }
 
 /// The form of a parameter with a pattern, from its `:` on, and the trees after it.
-fn typed(trees: &[TokenTree]) -> Result<(ParameterKind<'_>, &[TokenTree]), &[TokenTree]>
+fn pattern_parameter(trees: &[TokenTree]) -> Result<(ParameterKind<'_>, &[TokenTree]), &[TokenTree]>
 {
     match first_sign(trees) {
         Some((class, from_end)) => {
-            if is(Class::Colon, class) {
+            if is(SignClass::Colon, class) {
                 typed_end(from_end)
             } else {
                 Err(trees)
@@ -358,7 +368,7 @@ fn end_of(
 ) -> Result<(ParameterKind<'_>, &[TokenTree]), &[TokenTree]>
 {
     match shape {
-        Shape::Pattern => typed(trees),
+        Shape::Pattern => pattern_parameter(trees),
         Shape::Receiver => self_type(trees),
         Shape::Reference => Ok((ParameterKind::Receiver, trees)),
     }
@@ -391,7 +401,7 @@ fn named_of(trees: &[TokenTree]) -> Result<(Named<'_>, &[TokenTree]), &[TokenTre
 /// A receiver, a pattern with its type, or `...`, and the trees after it.
 fn rest_of(trees: &[TokenTree]) -> Result<(Named<'_>, &[TokenTree]), &[TokenTree]>
 {
-    if begins(trees, Class::Dot) {
+    if begins(trees, SignClass::Dot) {
         match dots(trees) {
             Ok(rest) => Ok((
                 Named {

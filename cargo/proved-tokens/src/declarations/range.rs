@@ -1,7 +1,7 @@
 // Made from crates/declarations/src/range.rt by dev/erase: change that file, not this one.
 //! The walk over a type or bounds alone.
 
-use crate::declarations::class::Class;
+use crate::declarations::class::SignClass;
 use crate::declarations::signs::first_sign;
 use crate::declarations::types::{Turn, TypeState, may_end, type_step};
 use crate::pm_stream::TokenTree;
@@ -46,14 +46,14 @@ fn next_range(
 }
 
 /// The next state and the number of open angle brackets after a sign.
-fn range_step(state: TypeState, depth: usize, class: Class) -> Option<(TypeState, usize)>
+fn range_step(state: TypeState, depth: usize, class: SignClass) -> Option<(TypeState, usize)>
 {
     let taken = type_step(state, class, depth == 0)?;
-    Some((taken.state, turned(taken.turn, depth)))
+    Some((taken.state, depth_after(taken.turn, depth)))
 }
 
 /// The number of open angle brackets after a sign.
-fn turned(turn: Turn, depth: usize) -> usize
+fn depth_after(turn: Turn, depth: usize) -> usize
 {
     match turn {
         Turn::Stay => depth,

@@ -2,18 +2,18 @@
 //! Functions that read by one rule of the grammar. Each returns the trees after what its rule reads at the start of the
 //! trees, or the trees from the error on.
 
-use crate::declarations::class::{Class, code};
+use crate::declarations::class::{SignClass, code};
 use crate::declarations::signs::first_sign;
 use crate::pm_stream::TokenTree;
 
 /// Whether a sign has this class.
-pub(crate) fn is(class: Class, found: Class) -> bool
+pub(crate) fn is(class: SignClass, found: SignClass) -> bool
 {
     code(class) == code(found)
 }
 
 /// Whether a sign of this class is next.
-pub(crate) fn begins(trees: &[TokenTree], class: Class) -> bool
+pub(crate) fn begins(trees: &[TokenTree], class: SignClass) -> bool
 {
     match first_sign(trees) {
         Some((found, _)) => is(class, found),
@@ -56,7 +56,7 @@ fn is_identifier(tree: &TokenTree) -> bool
 }
 
 /// Skips a sign of this class.
-pub(crate) fn past(trees: &[TokenTree], class: Class) -> Result<&[TokenTree], &[TokenTree]>
+pub(crate) fn past(trees: &[TokenTree], class: SignClass) -> Result<&[TokenTree], &[TokenTree]>
 {
     match first_sign(trees) {
         Some((found, rest)) => {

@@ -2,7 +2,7 @@
 //! The signs of trees. A sign is one tree, or two trees that are read as one.
 
 use crate::declarations::bare::innermost;
-use crate::declarations::class::{Class, Keyword, Word};
+use crate::declarations::class::{Keyword, SignClass, Word};
 use crate::pm_stream::{Group, TokenStream, TokenTree};
 use crate::pm_token::{Delimiter, Ident, Spacing};
 
@@ -23,7 +23,7 @@ use crate::pm_token::{Delimiter, Ident, Spacing};
 ///
 /// [MatchOption]: crate::contracts#std.MatchOption
 /// [BeginsWith]: crate::contracts#declarations.Signs.BeginsWith
-pub fn first_sign<'a>(trees: &'a [TokenTree]) -> Option<(Class, &'a [TokenTree])>
+pub fn first_sign<'a>(trees: &'a [TokenTree]) -> Option<(SignClass, &'a [TokenTree])>
 {
     let (first, rest) = trees.split_first()?;
     let Some((second, after)) = rest.split_first() else {
@@ -36,7 +36,7 @@ pub fn first_sign<'a>(trees: &'a [TokenTree]) -> Option<(Class, &'a [TokenTree])
 }
 
 /// The class of two trees that are read as one sign, or `None`.
-fn pair_class(first: &TokenTree, second: &TokenTree) -> Option<Class>
+fn pair_class(first: &TokenTree, second: &TokenTree) -> Option<SignClass>
 {
     let TokenTree::Punct(mark) = first else {
         return None;
@@ -51,7 +51,7 @@ fn pair_class(first: &TokenTree, second: &TokenTree) -> Option<Class>
         }
         TokenTree::Ident(_) => {
             if mark.as_char() == '\'' {
-                Some(Class::Lifetime)
+                Some(SignClass::Lifetime)
             } else {
                 None
             }
@@ -61,16 +61,16 @@ fn pair_class(first: &TokenTree, second: &TokenTree) -> Option<Class>
 }
 
 /// The class of two marks that are read as one sign, whatever the spacing of the first is.
-fn loose_class(first: char, second: char) -> Option<Class>
+fn loose_class(first: char, second: char) -> Option<SignClass>
 {
     if first == '#' && second == '!' {
-        return Some(Class::HashBang);
+        return Some(SignClass::HashBang);
     }
     None
 }
 
 /// The class of two marks that are read as one sign, if the first is `Joint`.
-fn joint_class(first: char, second: char) -> Option<Class>
+fn joint_class(first: char, second: char) -> Option<SignClass>
 {
     if let Some(class) = marks_class(first, second) {
         return Some(class);
@@ -79,66 +79,67 @@ fn joint_class(first: char, second: char) -> Option<Class>
 }
 
 /// The class of two marks that are read as one sign only if the first is `Joint`.
-fn marks_class(first: char, second: char) -> Option<Class>
+fn marks_class(first: char, second: char) -> Option<SignClass>
 {
     if first == ':' && second == ':' {
-        return Some(Class::PathSeparator);
+        return Some(SignClass::PathSeparator);
     }
     if first == '-' && second == '>' {
-        return Some(Class::Arrow);
+        return Some(SignClass::Arrow);
     }
     if first == '<' && second == '=' {
-        return Some(Class::LessEquals);
+        return Some(SignClass::LessEquals);
     }
     if first == '|' && second == '|' {
-        return Some(Class::Bars);
+        return Some(SignClass::Bars);
     }
     None
 }
 
-fn tree_class(tree: &TokenTree) -> Class
+fn tree_class(tree: &TokenTree) -> SignClass
 {
     match tree {
         TokenTree::Group(group) => group_class(group),
         TokenTree::Ident(ident) => name_class(ident),
         TokenTree::Punct(punct) => mark_class(punct.as_char(), punct.spacing() == Spacing::Joint),
-        TokenTree::Literal(_) => Class::Literal,
+        TokenTree::Literal(_) => SignClass::Literal,
     }
 }
 
-fn group_class(group: &Group) -> Class
+fn group_class(group: &Group) -> SignClass
 {
     match group.delimiter() {
         Delimiter::Parenthesis => {
             if is_restriction(group.stream_ref()) {
-                Class::Restriction
+                SignClass::Restriction
             } else {
-                Class::Parentheses
+                SignClass::Parentheses
             }
         }
-        Delimiter::Bracket => Class::Brackets,
-        Delimiter::Brace => Class::Braces,
+        Delimiter::Bracket => SignClass::Brackets,
+        Delimiter::Brace => SignClass::Braces,
         Delimiter::None => unseen_class(group.stream_ref()),
     }
 }
 
 /// The class of a group without delimiters, in which a `macro_rules!` macro passes a fragment.
-fn unseen_class(inside: &TokenStream) -> Class
+fn unseen_class(inside: &TokenStream) -> SignClass
 {
     let held = innermost(inside);
     if is_visibility(held) {
-        return Class::Visibility;
+        return SignClass::Visibility;
     }
     held_class(held.trees())
 }
 
 /// The class of trees in a group without delimiters that are no visibility.
-fn held_class(trees: &[TokenTree]) -> Class
+fn held_class(trees: &[TokenTree]) -> SignClass
 {
     match trees {
-        [TokenTree::Literal(_)] => Class::Literal,
-        [TokenTree::Punct(mark), TokenTree::Ident(_)] if mark.as_char() == '\'' => Class::Lifetime,
-        _ => Class::Invisible,
+        [TokenTree::Literal(_)] => SignClass::Literal,
+        [TokenTree::Punct(mark), TokenTree::Ident(_)] if mark.as_char() == '\'' =>
+            SignClass::Lifetime,
+        _ => SignClass::Invisible,
     }
 }
 
@@ -200,41 +201,41 @@ fn restricts(ident: &Ident, alone: bool) -> bool
         || (alone && (ident.eq_str("crate") || ident.eq_str("self") || ident.eq_str("super")))
 }
 
-fn mark_class(mark: char, joint: bool) -> Class
+fn mark_class(mark: char, joint: bool) -> SignClass
 {
     match mark {
-        '<' if joint => Class::LessJoint,
-        '<' => Class::Less,
-        '>' => Class::Greater,
-        ',' => Class::Comma,
-        ':' => Class::Colon,
-        ';' => Class::Semicolon,
-        '=' => Class::Equals,
-        '+' => Class::Plus,
-        '-' => Class::Minus,
-        '*' => Class::Star,
-        '&' => Class::And,
-        '?' => Class::Question,
-        '!' => Class::Exclamation,
-        '#' => Class::Hash,
-        '~' => Class::Tilde,
+        '<' if joint => SignClass::LessJoint,
+        '<' => SignClass::Less,
+        '>' => SignClass::Greater,
+        ',' => SignClass::Comma,
+        ':' => SignClass::Colon,
+        ';' => SignClass::Semicolon,
+        '=' => SignClass::Equals,
+        '+' => SignClass::Plus,
+        '-' => SignClass::Minus,
+        '*' => SignClass::Star,
+        '&' => SignClass::And,
+        '?' => SignClass::Question,
+        '!' => SignClass::Exclamation,
+        '#' => SignClass::Hash,
+        '~' => SignClass::Tilde,
         _ => operator_class(mark),
     }
 }
 
 /// The class of a mark that occurs only in expressions.
-fn operator_class(mark: char) -> Class
+fn operator_class(mark: char) -> SignClass
 {
     match mark {
-        '|' => Class::Bar,
-        '.' => Class::Dot,
-        '/' | '%' | '^' | '@' => Class::Infix,
-        _ => Class::Mark,
+        '|' => SignClass::Bar,
+        '.' => SignClass::Dot,
+        '/' | '%' | '^' | '@' => SignClass::Infix,
+        _ => SignClass::Mark,
     }
 }
 
 /// The class of an identifier. Each test compares the first byte first, so the compiler can make one jump by that byte.
-pub(crate) fn name_class(ident: &Ident) -> Class
+pub(crate) fn name_class(ident: &Ident) -> SignClass
 {
     let first = ident.first_byte();
     if let Some(class) = path_class(ident, first) {
@@ -244,8 +245,8 @@ pub(crate) fn name_class(ident: &Ident) -> Class
         return class;
     }
     match keyword_of(ident, first) {
-        Some(keyword) => Class::Keyword(keyword),
-        None => Class::Word(word_of(ident, first)),
+        Some(keyword) => SignClass::Keyword(keyword),
+        None => SignClass::Word(word_of(ident, first)),
     }
 }
 
@@ -261,44 +262,44 @@ fn is_written(ident: &Ident, first: u8, text: &str) -> bool
 
 /// The class of a keyword that can be in a path.
 #[cfg_attr(not(debug_assertions), inline(always))]
-fn path_class(ident: &Ident, first: u8) -> Option<Class>
+fn path_class(ident: &Ident, first: u8) -> Option<SignClass>
 {
     if is_written(ident, first, "self") {
-        return Some(Class::SelfValue);
+        return Some(SignClass::SelfValue);
     }
     if is_written(ident, first, "Self") {
-        return Some(Class::SelfType);
+        return Some(SignClass::SelfType);
     }
     if is_written(ident, first, "super") {
-        return Some(Class::Super);
+        return Some(SignClass::Super);
     }
     if is_written(ident, first, "crate") {
-        return Some(Class::Crate);
+        return Some(SignClass::Crate);
     }
     if is_written(ident, first, "_") {
-        return Some(Class::Underscore);
+        return Some(SignClass::Underscore);
     }
     None
 }
 
 /// The class of a keyword that is an operand, or that can come before or after an operand.
 #[cfg_attr(not(debug_assertions), inline(always))]
-fn operand_class(ident: &Ident, first: u8) -> Option<Class>
+fn operand_class(ident: &Ident, first: u8) -> Option<SignClass>
 {
     if is_truth(ident, first) {
-        return Some(Class::Truth);
+        return Some(SignClass::Truth);
     }
     if is_written(ident, first, "as") {
-        return Some(Class::As);
+        return Some(SignClass::As);
     }
     if is_written(ident, first, "await") || is_written(ident, first, "continue") {
-        return Some(Class::Await);
+        return Some(SignClass::Await);
     }
     if is_written(ident, first, "return")
         || is_written(ident, first, "break")
         || is_written(ident, first, "yield")
     {
-        return Some(Class::Jump);
+        return Some(SignClass::Jump);
     }
     None
 }

@@ -1,8 +1,8 @@
 // Made from crates/declarations/src/type_path.rt by dev/erase: change that file, not this one.
 //! The path of a type, with the name and the arguments of its last segment.
 
-use crate::declarations::bare::bared;
-use crate::declarations::class::{Class, Keyword};
+use crate::declarations::bare::bare_trees;
+use crate::declarations::class::{Keyword, SignClass};
 use crate::declarations::fault::Fault;
 use crate::declarations::function::return_of;
 use crate::declarations::generic_argument::argument_of;
@@ -48,7 +48,7 @@ pub struct Segment<'a> {
 
 /// What comes after the name of a segment.
 #[derive(Clone, Copy)]
-pub struct Step<'a> {
+pub struct Transition<'a> {
     /// The arguments of the segment.
     pub arguments: PathArguments<'a>,
     /// The trees after the arguments.
@@ -86,15 +86,15 @@ pub struct Last<'a> {
 ///
 /// # Contract
 ///
-/// - `ensures ok`: <code>[IfOk] result (λ path. [IsTypePath] ([bared] trees.now) path)</code>
-/// - `ensures fault`: <code>[IfErr] result (λ fault. [FaultAt] ([IsWhole] ([ByRule] [type_path])) ([bared]
+/// - `ensures ok`: <code>[IfOk] result (λ path. [IsTypePath] ([bare_trees] trees.now) path)</code>
+/// - `ensures fault`: <code>[IfErr] result (λ fault. [FaultAt] ([IsWhole] ([ByRule] [type_path])) ([bare_trees]
 ///   trees.now) fault.at)</code>
-/// - `ensures span`: <code>[IfErr] result (λ fault. fault.span ≡ [extent_at] ([bared] trees.now)
+/// - `ensures span`: <code>[IfErr] result (λ fault. fault.span ≡ [extent_at] ([bare_trees] trees.now)
 ///   fault.at)</code>
 ///
 /// [IfOk]: crate::contracts#std.IfOk
 /// [IsTypePath]: crate::contracts#declarations.TypePath.IsTypePath
-/// [bared]: crate::contracts#declarations.Bare.bared
+/// [bare_trees]: crate::contracts#declarations.Bare.bare_trees
 /// [IfErr]: crate::contracts#std.IfErr
 /// [FaultAt]: crate::contracts#declarations.Reading.FaultAt
 /// [IsWhole]: crate::contracts#declarations.Whole.IsWhole
@@ -103,7 +103,7 @@ pub struct Last<'a> {
 /// [extent_at]: crate::contracts#declarations.Fault.extent_at
 pub fn parse_type_path(trees: &[TokenTree]) -> Result<TypePath<'_>, Fault>
 {
-    let inner = bared(trees);
+    let inner = bare_trees(trees);
     match path_of(inner) {
         Ok((path, rest)) => {
             if rest.is_empty() {
@@ -119,36 +119,43 @@ pub fn parse_type_path(trees: &[TokenTree]) -> Result<TypePath<'_>, Fault>
 // ---- arguments in angle brackets
 
 /// Whether the sign opens an angle bracket.
-pub(crate) fn opens(class: Class) -> bool
+pub(crate) fn opens(class: SignClass) -> bool
 {
     match class {
-        Class::Less | Class::LessJoint => true,
+        SignClass::Less | SignClass::LessJoint => true,
         _ => false,
     }
 }
 
-fn is_round(class: Class) -> bool
+fn is_round(class: SignClass) -> bool
 {
     match class {
-        Class::Parentheses | Class::Restriction => true,
+        SignClass::Parentheses | SignClass::Restriction => true,
         _ => false,
     }
 }
 
 /// Whether a generic argument can begin with the sign.
-fn begins_argument(class: Class) -> bool
+fn begins_argument(class: SignClass) -> bool
 {
     match class {
-        Class::Word(_) | Class::Lifetime => true,
-        Class::Minus | Class::Literal | Class::Braces | Class::Truth => true,
-        Class::SelfValue | Class::SelfType | Class::Super | Class::Crate | Class::Underscore =>
+        SignClass::Word(_) | SignClass::Lifetime => true,
+        SignClass::Minus | SignClass::Literal | SignClass::Braces | SignClass::Truth => true,
+        SignClass::SelfValue
+        | SignClass::SelfType
+        | SignClass::Super
+        | SignClass::Crate
+        | SignClass::Underscore => true,
+        SignClass::Restriction
+        | SignClass::Parentheses
+        | SignClass::Brackets
+        | SignClass::Invisible => true,
+        SignClass::Exclamation | SignClass::PathSeparator | SignClass::And | SignClass::Question =>
             true,
-        Class::Restriction | Class::Parentheses | Class::Brackets | Class::Invisible => true,
-        Class::Exclamation | Class::PathSeparator | Class::And | Class::Question => true,
-        Class::Star | Class::Tilde | Class::Less | Class::LessJoint => true,
-        Class::Keyword(Keyword::Async | Keyword::Dyn | Keyword::Fn | Keyword::Impl) => true,
-        Class::Keyword(Keyword::Mut | Keyword::Unsafe | Keyword::Use) => true,
-        Class::Keyword(Keyword::Extern | Keyword::For) => true,
+        SignClass::Star | SignClass::Tilde | SignClass::Less | SignClass::LessJoint => true,
+        SignClass::Keyword(Keyword::Async | Keyword::Dyn | Keyword::Fn | Keyword::Impl) => true,
+        SignClass::Keyword(Keyword::Mut | Keyword::Unsafe | Keyword::Use) => true,
+        SignClass::Keyword(Keyword::Extern | Keyword::For) => true,
         _ => false,
     }
 }
@@ -169,7 +176,7 @@ fn element(trees: &[TokenTree]) -> Result<(bool, &[TokenTree]), &[TokenTree]>
         match argument_of(trees) {
             Ok((_, from_comma)) => match first_sign(from_comma) {
                 Some((class, rest)) => {
-                    if is(Class::Comma, class) {
+                    if is(SignClass::Comma, class) {
                         Ok((true, rest))
                     } else {
                         Ok((false, from_comma))
@@ -203,11 +210,11 @@ fn past_arguments(trees: &[TokenTree]) -> Result<&[TokenTree], &[TokenTree]>
 
 // ---- segments
 
-fn is_segment(class: Class) -> bool
+fn is_segment(class: SignClass) -> bool
 {
     match class {
-        Class::Word(_) => true,
-        Class::SelfValue | Class::SelfType | Class::Super | Class::Crate => true,
+        SignClass::Word(_) => true,
+        SignClass::SelfValue | SignClass::SelfType | SignClass::Super | SignClass::Crate => true,
         _ => false,
     }
 }
@@ -236,7 +243,7 @@ fn next_segment(trees: &[TokenTree]) -> Result<Option<Segment<'_>>, &[TokenTree]
 {
     match first_sign(trees) {
         Some((class, from_name)) => {
-            if is(Class::PathSeparator, class) {
+            if is(SignClass::PathSeparator, class) {
                 match segment_of(from_name) {
                     Ok(segment) => Ok(Some(segment)),
                     Err(left) => Err(left),
@@ -250,16 +257,16 @@ fn next_segment(trees: &[TokenTree]) -> Result<Option<Segment<'_>>, &[TokenTree]
 }
 
 /// Reads the arguments after a `<`. Returns them as a step, which may lead to a next segment.
-fn angle_of(trees: &[TokenTree]) -> Result<Step<'_>, &[TokenTree]>
+fn angle_of(trees: &[TokenTree]) -> Result<Transition<'_>, &[TokenTree]>
 {
     match past_arguments(trees) {
         Ok(from_close) => match first_sign(from_close) {
             Some((class, rest)) => {
-                if is(Class::Greater, class) {
+                if is(SignClass::Greater, class) {
                     match next_segment(rest) {
                         Ok(next) => {
                             let arguments = PathArguments::AngleBracketed(part(trees, from_close));
-                            Ok(Step {
+                            Ok(Transition {
                                 arguments,
                                 rest,
                                 next,
@@ -278,13 +285,13 @@ fn angle_of(trees: &[TokenTree]) -> Result<Step<'_>, &[TokenTree]>
 }
 
 /// Reads the arguments in parentheses. Returns them as a step, which may lead to a next segment.
-fn round_of(trees: &[TokenTree]) -> Result<Step<'_>, &[TokenTree]>
+fn round_of(trees: &[TokenTree]) -> Result<Transition<'_>, &[TokenTree]>
 {
     match split_parentheses(trees) {
         Some((group, from_output)) => {
-            if begins(from_output, Class::Arrow) {
+            if begins(from_output, SignClass::Arrow) {
                 match return_of(from_output) {
-                    Ok((output, rest)) => Ok(Step {
+                    Ok((output, rest)) => Ok(Transition {
                         arguments: PathArguments::Parenthesized(group, output),
                         rest,
                         next: None,
@@ -293,7 +300,7 @@ fn round_of(trees: &[TokenTree]) -> Result<Step<'_>, &[TokenTree]>
                 }
             } else {
                 match next_segment(from_output) {
-                    Ok(next) => Ok(Step {
+                    Ok(next) => Ok(Transition {
                         arguments: PathArguments::Parenthesized(group, &[]),
                         rest: from_output,
                         next,
@@ -310,7 +317,7 @@ fn round_of(trees: &[TokenTree]) -> Result<Step<'_>, &[TokenTree]>
 fn separated_of<'a>(
     trees: &'a [TokenTree],
     from: &'a [TokenTree],
-) -> Result<Step<'a>, &'a [TokenTree]>
+) -> Result<Transition<'a>, &'a [TokenTree]>
 {
     match first_sign(from) {
         Some((class, inside)) => {
@@ -321,7 +328,7 @@ fn separated_of<'a>(
                 return round_of(from);
             }
             match segment_of(from) {
-                Ok(segment) => Ok(Step {
+                Ok(segment) => Ok(Transition {
                     arguments: PathArguments::None,
                     rest: trees,
                     next: Some(segment),
@@ -334,7 +341,7 @@ fn separated_of<'a>(
 }
 
 /// Reads what comes after the name of a segment: its arguments, and `::` and the next segment.
-fn step_of(trees: &[TokenTree]) -> Result<Step<'_>, &[TokenTree]>
+fn step_of(trees: &[TokenTree]) -> Result<Transition<'_>, &[TokenTree]>
 {
     match first_sign(trees) {
         Some((class, rest)) => {
@@ -344,16 +351,16 @@ fn step_of(trees: &[TokenTree]) -> Result<Step<'_>, &[TokenTree]>
             if is_round(class) {
                 return round_of(trees);
             }
-            if is(Class::PathSeparator, class) {
+            if is(SignClass::PathSeparator, class) {
                 return separated_of(trees, rest);
             }
-            Ok(Step {
+            Ok(Transition {
                 arguments: PathArguments::None,
                 rest: trees,
                 next: None,
             })
         }
-        None => Ok(Step {
+        None => Ok(Transition {
             arguments: PathArguments::None,
             rest: trees,
             next: None,
@@ -393,7 +400,7 @@ fn past_separator(trees: &[TokenTree]) -> &[TokenTree]
 {
     match first_sign(trees) {
         Some((found, rest)) => {
-            if is(Class::PathSeparator, found) {
+            if is(SignClass::PathSeparator, found) {
                 rest
             } else {
                 trees

@@ -2,8 +2,8 @@
 //! The walk over the signs of trees by the tables of the grammar.
 
 use crate::declarations::fault::Fault;
-use crate::declarations::place::{Item, Place};
 use crate::declarations::signs::first_sign;
+use crate::declarations::walk_state::{Item, WalkState};
 use crate::pm_stream::TokenTree;
 
 /// The part that the walk read, and what the walk found out about it.
@@ -18,7 +18,7 @@ pub(crate) struct Split<'a> {
 }
 
 /// Reads a part from a state on. Returns the part and the trees after it.
-pub(crate) fn split_from<'a>(trees: &'a [TokenTree], start: Place) -> Result<Split<'a>, Fault>
+pub(crate) fn split_from<'a>(trees: &'a [TokenTree], start: WalkState) -> Result<Split<'a>, Fault>
 {
     let stop = walk_from(trees, start);
     let at = trees.len() - stop.left.len();
@@ -36,7 +36,7 @@ pub(crate) fn split_from<'a>(trees: &'a [TokenTree], start: Place) -> Result<Spl
 }
 
 /// Reads all of the trees from a state on.
-pub(crate) fn read_whole(trees: &[TokenTree], start: Place) -> Result<(), Fault>
+pub(crate) fn read_whole(trees: &[TokenTree], start: WalkState) -> Result<(), Fault>
 {
     let stop = walk_from(trees, start);
     if stop.left.is_empty() && stop.place.may_end() {
@@ -49,7 +49,7 @@ pub(crate) fn read_whole(trees: &[TokenTree], start: Place) -> Result<(), Fault>
 /// Skips what can be read from a state on. At an error it returns the trees after the longest prefix that can go on.
 pub(crate) fn walk_past<'a>(
     trees: &'a [TokenTree],
-    start: Place,
+    start: WalkState,
 ) -> Result<&'a [TokenTree], &'a [TokenTree]>
 {
     let stop = walk_from(trees, start);
@@ -63,7 +63,7 @@ pub(crate) fn walk_past<'a>(
 /// The state and the trees at which a walk stops.
 #[derive(Clone, Copy)]
 struct Stop<'a> {
-    place: Place,
+    place: WalkState,
     // The trees that are left.
     left: &'a [TokenTree],
     // The trees from the item's name on, or no trees if it has no name.
@@ -71,7 +71,7 @@ struct Stop<'a> {
 }
 
 /// Walks from a state on, as far as the signs are steps.
-fn walk_from<'a>(trees: &'a [TokenTree], start: Place) -> Stop<'a>
+fn walk_from<'a>(trees: &'a [TokenTree], start: WalkState) -> Stop<'a>
 {
     let mut place = start;
     let mut left = trees;
@@ -90,7 +90,10 @@ fn later<'a>(begins: bool, trees: &'a [TokenTree], named: &'a [TokenTree]) -> &'
 }
 
 /// One step: the next state, the trees after the sign, and whether the sign is the item's name.
-fn next_place<'a>(place: Place, trees: &'a [TokenTree]) -> Option<(Place, &'a [TokenTree], bool)>
+fn next_place<'a>(
+    place: WalkState,
+    trees: &'a [TokenTree],
+) -> Option<(WalkState, &'a [TokenTree], bool)>
 {
     let (class, after) = first_sign(trees)?;
     let next = place.step(class)?;

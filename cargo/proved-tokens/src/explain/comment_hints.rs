@@ -3,7 +3,7 @@
 
 use crate::shim::prelude::Grow;
 
-use crate::lexical::parts::Cursor;
+use crate::lexical::parts::TextCursor;
 use crate::shim::alloc::AllocError;
 
 /// What is at a cursor in a block comment.
@@ -18,14 +18,14 @@ pub enum Sign {
 }
 
 /// Returns what is at the cursor, and the cursor after it. Returns `None` at the end of the text.
-fn sign_at(at: Cursor<'_>) -> Option<(Sign, Cursor<'_>)>
+fn sign_at(at: TextCursor<'_>) -> Option<(Sign, TextCursor<'_>)>
 {
     let (_, after) = at.advance()?;
     if let Some(inside) = at.past("/*") {
         return Some((Sign::Opens, inside));
     }
-    if let Some(behind) = at.past("*/") {
-        return Some((Sign::Closes, behind));
+    if let Some(after_sign) = at.past("*/") {
+        return Some((Sign::Closes, after_sign));
     }
     Some((Sign::Other, after))
 }
@@ -47,8 +47,8 @@ fn sign_at(at: Cursor<'_>) -> Option<(Sign, Cursor<'_>)>
 /// [IfOk]: crate::contracts#std.IfOk
 /// [LeftComments]: crate::contracts#explain.HintWalk.LeftComments
 pub fn open_comments<'a>(
-    start: Cursor<'a>,
-) -> Result<(usize, Option<(Cursor<'a>, Cursor<'a>)>), AllocError>
+    start: TextCursor<'a>,
+) -> Result<(usize, Option<(TextCursor<'a>, TextCursor<'a>)>), AllocError>
 {
     let mut opened = Vec::new();
     let mut closed = None;

@@ -3,7 +3,7 @@
 
 use crate::explain::reason::Reason;
 use crate::explain::trouble::Trouble;
-use crate::lexical::parts::{Cursor, StringKind};
+use crate::lexical::parts::{StringKind, TextCursor};
 use crate::literal_escaper::{EscapeError, unescape_byte_str, unescape_c_str, unescape_str};
 use crate::shim::ops::Range;
 
@@ -16,11 +16,11 @@ pub struct Front {
 }
 
 /// What is at a cursor in the content of a string.
-pub enum Step<'a> {
+pub enum ContentItem<'a> {
     /// A unit, and the cursor after it.
-    Unit(Cursor<'a>),
+    Unit(TextCursor<'a>),
     /// An error, and the cursor after what was read for it.
-    Fault(EscapeError, Cursor<'a>),
+    Fault(EscapeError, TextCursor<'a>),
     /// The quote that ends the string.
     End,
 }
@@ -37,7 +37,7 @@ pub enum Step<'a> {
 /// [List]: crate::contracts#std.List
 /// [IsLeft]: crate::contracts#explain.Walk.IsLeft
 /// [chars]: crate::contracts#std.chars
-pub fn content<'a>(at: Cursor<'a>, end: Cursor<'a>) -> &'a str
+pub fn content<'a>(at: TextCursor<'a>, end: TextCursor<'a>) -> &'a str
 {
     let size = at.rest.len() - end.rest.len() - 1;
     &at.rest[..size]
@@ -77,7 +77,7 @@ fn read_front(content: &str, kind: StringKind) -> Option<Front>
 }
 
 /// Returns the cursor after CR LF, or after a backslash and a line end.
-fn past_line_end(at: Cursor<'_>) -> Option<Cursor<'_>>
+fn past_line_end(at: TextCursor<'_>) -> Option<TextCursor<'_>>
 {
     if let Some(end) = at.past("\r\n") {
         return Some(end);
@@ -89,20 +89,20 @@ fn past_line_end(at: Cursor<'_>) -> Option<Cursor<'_>>
 }
 
 /// Returns what is at the cursor in the content of a string. The quote before `end` closes the string.
-fn next_step<'a>(at: Cursor<'a>, end: Cursor<'a>, kind: StringKind) -> Step<'a>
+fn next_step<'a>(at: TextCursor<'a>, end: TextCursor<'a>, kind: StringKind) -> ContentItem<'a>
 {
     if let Some(after) = past_line_end(at) {
-        return Step::Unit(after);
+        return ContentItem::Unit(after);
     }
     match read_front(content(at, end), kind) {
-        Some(Front { size, error: None }) => Step::Unit(at.after_bytes(size)),
+        Some(Front { size, error: None }) => ContentItem::Unit(at.after_bytes(size)),
         Some(
             Front {
                 size,
                 error: Some(error),
             },
-        ) => Step::Fault(error, at.after_bytes(size)),
-        None => Step::End,
+        ) => ContentItem::Fault(error, at.after_bytes(size)),
+        None => ContentItem::End,
     }
 }
 
@@ -119,7 +119,7 @@ fn is_of_last(error: &EscapeError) -> bool
 }
 
 /// Returns the cursor before the last character between `at` and `end`.
-fn last_character<'a>(at: Cursor<'a>, end: Cursor<'a>) -> Cursor<'a>
+fn last_character<'a>(at: TextCursor<'a>, end: TextCursor<'a>) -> TextCursor<'a>
 {
     let mut last = at;
     while last.chars_before + 1 < end.chars_before {
@@ -142,7 +142,7 @@ fn last_character<'a>(at: Cursor<'a>, end: Cursor<'a>) -> Cursor<'a>
 /// [IsPast]: crate::contracts#explain.Walk.IsPast
 /// [length]: crate::contracts#std.length
 /// [IsFaulty]: crate::contracts#explain.Walk.IsFaulty
-pub fn faulty<'a>(at: Cursor<'a>, after: Cursor<'a>, error: EscapeError) -> Trouble<'a>
+pub fn faulty<'a>(at: TextCursor<'a>, after: TextCursor<'a>, error: EscapeError) -> Trouble<'a>
 {
     let at = if is_of_last(&error) {
         last_character(at, after)
@@ -163,31 +163,31 @@ pub fn faulty<'a>(at: Cursor<'a>, after: Cursor<'a>, error: EscapeError) -> Trou
 ///
 /// - `requires opens`: <code>[Passes] ([Exactly] ([front] kind)) at inside</code>
 /// - `requires closed`: <code>[Passes] [closed_body] inside end</code>
-/// - `requires none`: <code>[find] ([cooked] kind) ([chars] at.rest.now) ≡ [None]</code>
+/// - `requires none`: <code>[find] ([cooked_string] kind) ([chars] at.rest.now) ≡ [None]</code>
 /// - `ensures`: <code>[IsTrouble] at.entry result</code>
 ///
-/// [Passes]: crate::contracts#lexical.Step.Passes
+/// [Passes]: crate::contracts#lexical.RuleMatch.Passes
 /// [Exactly]: crate::contracts#lexical.Rule.Exactly
 /// [front]: crate::contracts#lexical.Quoted.front
 /// [closed_body]: crate::contracts#explain.Shapes.closed_body
 /// [find]: crate::contracts#lexical.Rule.find
-/// [cooked]: crate::contracts#lexical.Quoted.cooked
+/// [cooked_string]: crate::contracts#lexical.Quoted.cooked_string
 /// [chars]: crate::contracts#std.chars
 /// [None]: crate::contracts#std.None
 /// [IsTrouble]: crate::contracts#explain.Trouble.IsTrouble
 pub fn string_content<'a>(
-    at: Cursor<'a>,
-    inside: Cursor<'a>,
-    end: Cursor<'a>,
+    at: TextCursor<'a>,
+    inside: TextCursor<'a>,
+    end: TextCursor<'a>,
     kind: StringKind,
 ) -> Trouble<'a>
 {
     let mut place = inside;
     loop {
         match next_step(place, end, kind) {
-            Step::Unit(after) => place = after,
-            Step::Fault(error, after) => return faulty(place, after, error),
-            Step::End => unreachable!(),
+            ContentItem::Unit(after) => place = after,
+            ContentItem::Fault(error, after) => return faulty(place, after, error),
+            ContentItem::End => unreachable!(),
         }
     }
 }

@@ -5,7 +5,7 @@ use crate::explain::explained::{ExplainError, Explained, Opener, Stretch};
 use crate::explain::reason::Reason;
 use crate::explain::stuck::reason_at;
 use crate::lexical::Piece;
-use crate::lexical::parts::Cursor;
+use crate::lexical::parts::TextCursor;
 use crate::pm_span::parts::{bounds, fits_new, span_of};
 use crate::pm_stream::reading::{Ending, Lexed, TokenSink, walk};
 use crate::pm_token::Delimiter;
@@ -56,7 +56,7 @@ fn explain_at(base: u32, text: &str) -> Result<Option<Explained>, AllocError>
         stray,
     } = walk(base, text, &mut openers)?;
     if let Some(closer) = stray {
-        return Ok(Some(refused(text, rest, at, closer, opened)));
+        return Ok(Some(explain_closer(text, rest, at, closer, opened)));
     }
     if is_done(rest) {
         return Ok(left_open(opened));
@@ -101,7 +101,7 @@ impl<'a> TokenSink for Openers<'a> {
     }
 
     #[cfg_attr(not(debug_assertions), inline(always))]
-    fn doc(&mut self, _lexed: Lexed<'_>, _inner: bool, _said: &str) -> Result<(), AllocError> {
+    fn doc(&mut self, _lexed: Lexed<'_>, _inner: bool, _doc_body: &str) -> Result<(), AllocError> {
         Ok(())
     }
 
@@ -135,7 +135,7 @@ impl<'a> TokenSink for Openers<'a> {
 
 /// Explains that a closer matches no opener, or not the innermost one. The rest of the text begins with the closer, at
 /// the position `at`.
-fn refused(text: &str, rest: &str, at: u32, closer: Piece, openers: Vec<Opener>) -> Explained
+fn explain_closer(text: &str, rest: &str, at: u32, closer: Piece, openers: Vec<Opener>) -> Explained
 {
     let tail = &rest[closer.bytes..];
     let end = at + closer.chars as u32;
@@ -202,7 +202,7 @@ fn left_open(openers: Vec<Opener>) -> Option<Explained>
 /// Explains that no piece begins at this rest of a text, which is at the position `at`.
 fn stuck(text: &str, rest: &str, at: u32, first: bool, openers: Vec<Opener>) -> Explained
 {
-    let start = Cursor::new(rest);
+    let start = TextCursor::new(rest);
     let trouble = reason_at(start, first);
     let lo = at + trouble.at.chars_before as u32;
     let hi = at + trouble.after.chars_before as u32;

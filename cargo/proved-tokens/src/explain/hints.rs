@@ -6,7 +6,7 @@ use crate::explain::explained::{Explained, Stretch};
 use crate::explain::explaining::stretch;
 use crate::explain::quote_hints::nearest;
 use crate::explain::reason::Reason;
-use crate::lexical::parts::Cursor;
+use crate::lexical::parts::TextCursor;
 use crate::pm_span::parts::bounds;
 use crate::shim::alloc::AllocError;
 
@@ -59,7 +59,7 @@ pub fn advice(text: &str, explained: &Explained) -> Result<Option<Hint>, AllocEr
 /// Returns the hint for a block comment that doesn't end. `at` is its `/*`.
 fn comment_hint(text: &str, at: Stretch) -> Result<Hint, AllocError>
 {
-    let start = Cursor::new(&text[at.start..]);
+    let start = TextCursor::new(&text[at.start..]);
     let (lo, _) = bounds(at.span);
     let (depth, ended) = open_comments(start)?;
     let Some((from, to)) = ended else {
@@ -78,7 +78,7 @@ fn comment_hint(text: &str, at: Stretch) -> Result<Hint, AllocError>
 /// string.
 fn quote_hint(text: &str, at: Stretch) -> Option<Hint>
 {
-    let inside = Cursor::new(&text[at.end..]);
+    let inside = TextCursor::new(&text[at.end..]);
     let (_, lo) = bounds(at.span);
     let (from, to) = nearest(inside)?;
     Some(Hint::Quote(between(text, from, to, lo)))
@@ -86,7 +86,7 @@ fn quote_hint(text: &str, at: Stretch) -> Option<Hint>
 
 /// Returns the part of a text between two cursors. The cursors belong to a rest of the text that begins at the position
 /// `base`.
-fn between(text: &str, from: Cursor<'_>, to: Cursor<'_>, base: u32) -> Stretch
+fn between(text: &str, from: TextCursor<'_>, to: TextCursor<'_>, base: u32) -> Stretch
 {
     let lo = base + from.chars_before as u32;
     let hi = base + to.chars_before as u32;

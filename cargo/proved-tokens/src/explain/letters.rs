@@ -5,10 +5,10 @@ use crate::explain::quotes::{SingleKind, single};
 use crate::explain::reason::Reason;
 use crate::explain::strings::{raw_string, string};
 use crate::explain::trouble::Trouble;
-use crate::lexical::parts::{Cursor, StringKind, name};
+use crate::lexical::parts::{StringKind, TextCursor, name};
 
 /// Returns why no piece begins at the cursor, which is before `r#`. `inner` is after the `r#`.
-fn raw_name<'a>(at: Cursor<'a>, inner: Cursor<'a>) -> Trouble<'a>
+fn raw_name<'a>(at: TextCursor<'a>, inner: TextCursor<'a>) -> Trouble<'a>
 {
     if let Some(end) = name(inner) {
         return Trouble {
@@ -41,7 +41,7 @@ fn raw_name<'a>(at: Cursor<'a>, inner: Cursor<'a>) -> Trouble<'a>
 /// [find]: crate::contracts#lexical.Rule.find
 /// [quoted_literal]: crate::contracts#lexical.Literal.quoted_literal
 /// [IsTrouble]: crate::contracts#explain.Trouble.IsTrouble
-pub fn letter(at: Cursor<'_>) -> Trouble<'_>
+pub fn letter(at: TextCursor<'_>) -> Trouble<'_>
 {
     if let Some(inside) = at.past("b\"") {
         return string(at, inside, StringKind::Byte);

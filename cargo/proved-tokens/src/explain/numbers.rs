@@ -3,10 +3,10 @@
 
 use crate::explain::reason::Reason;
 use crate::explain::trouble::Trouble;
-use crate::lexical::parts::{Base, Class, Cursor, one, skip};
+use crate::lexical::parts::{Base, Class, TextCursor, one, skip};
 
 /// Returns the cursor after a character that may not follow a number.
-fn past_bad_end(end: Cursor<'_>) -> Cursor<'_>
+fn past_bad_end(end: TextCursor<'_>) -> TextCursor<'_>
 {
     let Some((_, after)) = end.advance() else {
         unreachable!()
@@ -15,7 +15,7 @@ fn past_bad_end(end: Cursor<'_>) -> Cursor<'_>
 }
 
 /// Returns why no number of this base begins at the cursor. `inside` is after the prefix of the base.
-fn based<'a>(at: Cursor<'a>, inside: Cursor<'a>, base: Base) -> Trouble<'a>
+fn no_based_number<'a>(at: TextCursor<'a>, inside: TextCursor<'a>, base: Base) -> Trouble<'a>
 {
     let start = skip(inside, Class::Underscore);
     match one(start, Class::DigitOf(base)) {
@@ -65,16 +65,16 @@ fn based<'a>(at: Cursor<'a>, inside: Cursor<'a>, base: Base) -> Trouble<'a>
 /// [number]: crate::contracts#lexical.Number.number
 /// [None]: crate::contracts#std.None
 /// [IsTrouble]: crate::contracts#explain.Trouble.IsTrouble
-pub fn number(at: Cursor<'_>) -> Trouble<'_>
+pub fn number(at: TextCursor<'_>) -> Trouble<'_>
 {
     if let Some(inside) = at.past("0x") {
-        return based(at, inside, Base::Hexadecimal);
+        return no_based_number(at, inside, Base::Hexadecimal);
     }
     if let Some(inside) = at.past("0o") {
-        return based(at, inside, Base::Octal);
+        return no_based_number(at, inside, Base::Octal);
     }
     if let Some(inside) = at.past("0b") {
-        return based(at, inside, Base::Binary);
+        return no_based_number(at, inside, Base::Binary);
     }
     let Some(first) = one(at, Class::Digit) else {
         unreachable!()

@@ -1,7 +1,7 @@
 // Made from crates/explain/src/quote_hints.rt by dev/erase: change that file, not this one.
 //! Finds the quote that came nearest to ending a raw string.
 
-use crate::lexical::parts::{Class, Cursor, skip, skip_to};
+use crate::lexical::parts::{Class, TextCursor, skip, skip_to};
 
 /// Returns the cursors before and after the quote with the most hash signs right after it, together with these. Of
 /// several such quotes it is the first.
@@ -17,7 +17,7 @@ use crate::lexical::parts::{Class, Cursor, skip, skip_to};
 /// [closed_raw_body]: crate::contracts#explain.Shapes.closed_raw_body
 /// [chars]: crate::contracts#std.chars
 /// [CameNearest]: crate::contracts#explain.HintWalk.CameNearest
-pub fn nearest(inside: Cursor<'_>) -> Option<(Cursor<'_>, Cursor<'_>)>
+pub fn nearest(inside: TextCursor<'_>) -> Option<(TextCursor<'_>, TextCursor<'_>)>
 {
     let mut best = None;
     let mut quote = skip_to(inside, b'"');
@@ -32,10 +32,10 @@ pub fn nearest(inside: Cursor<'_>) -> Option<(Cursor<'_>, Cursor<'_>)>
 /// Returns the pair of cursors with more characters between them: `best`, or `from` and `to`. If both have the same
 /// number, it is `best`.
 fn longer<'a>(
-    best: Option<(Cursor<'a>, Cursor<'a>)>,
-    from: Cursor<'a>,
-    to: Cursor<'a>,
-) -> Option<(Cursor<'a>, Cursor<'a>)>
+    best: Option<(TextCursor<'a>, TextCursor<'a>)>,
+    from: TextCursor<'a>,
+    to: TextCursor<'a>,
+) -> Option<(TextCursor<'a>, TextCursor<'a>)>
 {
     match best {
         Some((first, end))

@@ -4,7 +4,7 @@
 use crate::explain::reason::Reason;
 use crate::explain::single_contents::single_content;
 use crate::explain::trouble::Trouble;
-use crate::lexical::parts::{Class, Cursor, begins, name, one, one_that, skip};
+use crate::lexical::parts::{Class, TextCursor, begins, name, one, one_that, skip};
 
 /// What kind of literal has single quotes.
 #[derive(Clone, Copy)]
@@ -29,7 +29,7 @@ fn is_closed_alone(c: char) -> bool
 
 /// Returns the cursor after a pair: a character except `'`, backslash and LF, or a backslash and a character except LF.
 /// Returns `None` where a comment begins.
-fn past_single_pair(at: Cursor<'_>) -> Option<Cursor<'_>>
+fn past_single_pair(at: TextCursor<'_>) -> Option<TextCursor<'_>>
 {
     if begins(at.rest, "//") || begins(at.rest, "/*") {
         return None;
@@ -41,7 +41,7 @@ fn past_single_pair(at: Cursor<'_>) -> Option<Cursor<'_>>
 }
 
 /// Returns the cursor after the pairs up to the next `'`, and after that `'`.
-fn past_single_pairs(inside: Cursor<'_>) -> Option<Cursor<'_>>
+fn past_single_pairs(inside: TextCursor<'_>) -> Option<TextCursor<'_>>
 {
     let mut end = inside;
     while let Some(after) = past_single_pair(end) {
@@ -51,13 +51,13 @@ fn past_single_pairs(inside: Cursor<'_>) -> Option<Cursor<'_>>
 }
 
 /// Returns the cursor after one `'` or LF and the `'` that follows it.
-fn past_closed_alone(inside: Cursor<'_>) -> Option<Cursor<'_>>
+fn past_closed_alone(inside: TextCursor<'_>) -> Option<TextCursor<'_>>
 {
     one_that(inside, |c| is_closed_alone(c))?.past("'")
 }
 
 /// Returns the cursor after the `'` that closes a character literal.
-fn past_single(inside: Cursor<'_>) -> Option<Cursor<'_>>
+fn past_single(inside: TextCursor<'_>) -> Option<TextCursor<'_>>
 {
     match past_closed_alone(inside) {
         Some(end) => Some(end),
@@ -74,7 +74,7 @@ fn past_single(inside: Cursor<'_>) -> Option<Cursor<'_>>
 /// - `requires none`: <code>[find] ([single_rule] kind) ([chars] at.rest.now) ≡ [None]</code>
 /// - `ensures`: <code>[IsTrouble] at.entry result</code>
 ///
-/// [Passes]: crate::contracts#lexical.Step.Passes
+/// [Passes]: crate::contracts#lexical.RuleMatch.Passes
 /// [single_opening]: crate::contracts#explain.Shapes.single_opening
 /// [Exactly]: crate::contracts#lexical.Rule.Exactly
 /// [single_front]: crate::contracts#explain.Shapes.single_front
@@ -83,7 +83,7 @@ fn past_single(inside: Cursor<'_>) -> Option<Cursor<'_>>
 /// [chars]: crate::contracts#std.chars
 /// [None]: crate::contracts#std.None
 /// [IsTrouble]: crate::contracts#explain.Trouble.IsTrouble
-pub fn single<'a>(at: Cursor<'a>, inside: Cursor<'a>, kind: SingleKind) -> Trouble<'a>
+pub fn single<'a>(at: TextCursor<'a>, inside: TextCursor<'a>, kind: SingleKind) -> Trouble<'a>
 {
     match past_single(inside) {
         Some(end) => single_content(at, inside, end, kind),
@@ -98,10 +98,10 @@ pub fn single<'a>(at: Cursor<'a>, inside: Cursor<'a>, kind: SingleKind) -> Troub
 /// Returns why no raw lifetime begins at the cursor. `inside` is after the `'`, `inner` after `'r#`, and `end` after
 /// the name.
 fn raw_lifetime<'a>(
-    at: Cursor<'a>,
-    inside: Cursor<'a>,
-    inner: Cursor<'a>,
-    end: Cursor<'a>,
+    at: TextCursor<'a>,
+    inside: TextCursor<'a>,
+    inner: TextCursor<'a>,
+    end: TextCursor<'a>,
 ) -> Trouble<'a>
 {
     match end.past("'") {
@@ -115,7 +115,7 @@ fn raw_lifetime<'a>(
 }
 
 /// Returns why no lifetime of this name begins at the cursor. `inside` is after the `'`, and `end` after the name.
-fn lifetime<'a>(at: Cursor<'a>, inside: Cursor<'a>, end: Cursor<'a>) -> Trouble<'a>
+fn lifetime<'a>(at: TextCursor<'a>, inside: TextCursor<'a>, end: TextCursor<'a>) -> Trouble<'a>
 {
     if let Some(after) = end.past("'") {
         return single_content(at, inside, after, SingleKind::Character);
@@ -132,7 +132,11 @@ fn lifetime<'a>(at: Cursor<'a>, inside: Cursor<'a>, end: Cursor<'a>) -> Trouble<
 
 /// Returns why no piece begins at the cursor, which is before a `'` and a digit. `inside` is after the `'`, and `first`
 /// after the digit.
-fn digit_lifetime<'a>(at: Cursor<'a>, inside: Cursor<'a>, first: Cursor<'a>) -> Trouble<'a>
+fn digit_lifetime<'a>(
+    at: TextCursor<'a>,
+    inside: TextCursor<'a>,
+    first: TextCursor<'a>,
+) -> Trouble<'a>
 {
     let end = skip(first, Class::IdentifierContinue);
     match end.past("'") {
@@ -154,7 +158,7 @@ fn digit_lifetime<'a>(at: Cursor<'a>, inside: Cursor<'a>, first: Cursor<'a>) -> 
 /// - `requires none`: <code>[find] [character] ([chars] at.rest.now) ≡ [None]</code>
 /// - `ensures`: <code>[IsTrouble] at.entry result</code>
 ///
-/// [Passes]: crate::contracts#lexical.Step.Passes
+/// [Passes]: crate::contracts#lexical.RuleMatch.Passes
 /// [Exactly]: crate::contracts#lexical.Rule.Exactly
 /// [codes]: crate::contracts#std.codes
 /// [find_lone_quote]: crate::contracts#lexical.PieceFinder.find_lone_quote
@@ -163,7 +167,7 @@ fn digit_lifetime<'a>(at: Cursor<'a>, inside: Cursor<'a>, first: Cursor<'a>) -> 
 /// [find]: crate::contracts#lexical.Rule.find
 /// [character]: crate::contracts#lexical.SingleQuoted.character
 /// [IsTrouble]: crate::contracts#explain.Trouble.IsTrouble
-pub fn quote<'a>(at: Cursor<'a>, inside: Cursor<'a>) -> Trouble<'a>
+pub fn quote<'a>(at: TextCursor<'a>, inside: TextCursor<'a>) -> Trouble<'a>
 {
     if let Some(inner) = at.past("'r#") {
         if let Some(end) = name(inner) {

@@ -3,7 +3,7 @@
 
 use crate::explain::reason::Reason;
 use crate::explain::trouble::Trouble;
-use crate::lexical::parts::{Cursor, StringKind, begins};
+use crate::lexical::parts::{StringKind, TextCursor, begins};
 use crate::literal_escaper::EscapeError;
 
 /// Whether the content of a string of this kind may have the character. A CR is checked elsewhere.
@@ -17,7 +17,7 @@ fn may_stand(c: char, kind: StringKind) -> bool
 }
 
 /// Returns the cursor after a unit of a raw string with these hash signs.
-fn past_unit<'a>(at: Cursor<'a>, hashes: &str, kind: StringKind) -> Option<Cursor<'a>>
+fn past_unit<'a>(at: TextCursor<'a>, hashes: &str, kind: StringKind) -> Option<TextCursor<'a>>
 {
     let (c, after) = at.advance()?;
     if c == '"' && begins(after.rest, hashes) {
@@ -61,7 +61,7 @@ fn error_of(c: char, kind: StringKind) -> EscapeError
 /// - `requires none`: <code>[find] ([raw_string] kind) ([chars] at.rest.now) ≡ [None]</code>
 /// - `ensures`: <code>[IsTrouble] at.entry result</code>
 ///
-/// [Passes]: crate::contracts#lexical.Step.Passes
+/// [Passes]: crate::contracts#lexical.RuleMatch.Passes
 /// [Exactly]: crate::contracts#lexical.Rule.Exactly
 /// [raw_front]: crate::contracts#lexical.RawString.raw_front
 /// [Run]: crate::contracts#lexical.Rule.Run
@@ -77,11 +77,11 @@ fn error_of(c: char, kind: StringKind) -> EscapeError
 /// [None]: crate::contracts#std.None
 /// [IsTrouble]: crate::contracts#explain.Trouble.IsTrouble
 pub fn raw_content<'a>(
-    at: Cursor<'a>,
-    inside: Cursor<'a>,
-    quote: Cursor<'a>,
-    body: Cursor<'a>,
-    end: Cursor<'a>,
+    at: TextCursor<'a>,
+    inside: TextCursor<'a>,
+    quote: TextCursor<'a>,
+    body: TextCursor<'a>,
+    end: TextCursor<'a>,
     hashes: &str,
     kind: StringKind,
 ) -> Trouble<'a>

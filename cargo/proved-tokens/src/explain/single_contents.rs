@@ -5,7 +5,7 @@ use crate::explain::contents::{content, faulty};
 use crate::explain::quotes::SingleKind;
 use crate::explain::reason::Reason;
 use crate::explain::trouble::Trouble;
-use crate::lexical::parts::Cursor;
+use crate::lexical::parts::TextCursor;
 use crate::literal_escaper::{EscapeError, Mode, check_for_errors};
 
 /// Returns the escaper's mode for this kind of literal.
@@ -43,7 +43,7 @@ fn is_of_literal(error: &EscapeError) -> bool
 /// - `requires none`: <code>[find] ([single_rule] kind) ([chars] at.rest.now) ≡ [None]</code>
 /// - `ensures`: <code>[IsTrouble] at.entry result</code>
 ///
-/// [Passes]: crate::contracts#lexical.Step.Passes
+/// [Passes]: crate::contracts#lexical.RuleMatch.Passes
 /// [Exactly]: crate::contracts#lexical.Rule.Exactly
 /// [single_front]: crate::contracts#explain.Shapes.single_front
 /// [IsPast]: crate::contracts#explain.Walk.IsPast
@@ -57,9 +57,9 @@ fn is_of_literal(error: &EscapeError) -> bool
 /// [None]: crate::contracts#std.None
 /// [IsTrouble]: crate::contracts#explain.Trouble.IsTrouble
 pub fn single_content<'a>(
-    at: Cursor<'a>,
-    inside: Cursor<'a>,
-    end: Cursor<'a>,
+    at: TextCursor<'a>,
+    inside: TextCursor<'a>,
+    end: TextCursor<'a>,
     kind: SingleKind,
 ) -> Trouble<'a>
 {

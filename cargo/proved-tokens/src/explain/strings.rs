@@ -6,7 +6,7 @@ use crate::explain::raw_contents::raw_content;
 use crate::explain::reason::Reason;
 use crate::explain::trouble::Trouble;
 use crate::lexical::parts::{
-    Class, Cursor, StringKind, before, begins, one_that, skip, skip_to, skip_to_either,
+    Class, StringKind, TextCursor, before, begins, one_that, skip, skip_to, skip_to_either,
 };
 
 /// Whether the character is a pair by itself: any character except `"` and backslash.
@@ -16,7 +16,7 @@ fn stands_alone(c: char) -> bool
 }
 
 /// Returns the cursor after a pair: a character except `"` and backslash, or a backslash and any character.
-fn past_pair(at: Cursor<'_>) -> Option<Cursor<'_>>
+fn past_pair(at: TextCursor<'_>) -> Option<TextCursor<'_>>
 {
     match one_that(at, |c| stands_alone(c)) {
         Some(end) => Some(end),
@@ -25,7 +25,7 @@ fn past_pair(at: Cursor<'_>) -> Option<Cursor<'_>>
 }
 
 /// Returns the cursor after the first `"` that has no backslash before it in a pair.
-fn past_quote(inside: Cursor<'_>) -> Option<Cursor<'_>>
+fn past_quote(inside: TextCursor<'_>) -> Option<TextCursor<'_>>
 {
     let mut end = skip_to_either(inside, b'"', b'\\');
     while let Some(after) = past_pair(end) {
@@ -35,7 +35,7 @@ fn past_quote(inside: Cursor<'_>) -> Option<Cursor<'_>>
 }
 
 /// Returns the cursor after a character, or `None` where the closing quote and hash signs of the raw string are.
-fn past_raw_unit<'a>(at: Cursor<'a>, hashes: &str) -> Option<Cursor<'a>>
+fn past_raw_unit<'a>(at: TextCursor<'a>, hashes: &str) -> Option<TextCursor<'a>>
 {
     let (c, after) = at.advance()?;
     if c == '"' && begins(after.rest, hashes) {
@@ -45,7 +45,7 @@ fn past_raw_unit<'a>(at: Cursor<'a>, hashes: &str) -> Option<Cursor<'a>>
 }
 
 /// Returns the cursor after the first `"` with these hash signs after it, and after the hash signs.
-fn past_raw_quote<'a>(inside: Cursor<'a>, hashes: &str) -> Option<Cursor<'a>>
+fn past_raw_quote<'a>(inside: TextCursor<'a>, hashes: &str) -> Option<TextCursor<'a>>
 {
     let mut end = skip_to(inside, b'"');
     while let Some(after) = past_raw_unit(end, hashes) {
@@ -59,18 +59,18 @@ fn past_raw_quote<'a>(inside: Cursor<'a>, hashes: &str) -> Option<Cursor<'a>>
 /// # Contract
 ///
 /// - `requires opens`: <code>[Passes] ([Exactly] ([front] kind)) at inside</code>
-/// - `requires none`: <code>[find] ([cooked] kind) ([chars] at.rest.now) ≡ [None]</code>
+/// - `requires none`: <code>[find] ([cooked_string] kind) ([chars] at.rest.now) ≡ [None]</code>
 /// - `ensures`: <code>[IsTrouble] at.entry result</code>
 ///
-/// [Passes]: crate::contracts#lexical.Step.Passes
+/// [Passes]: crate::contracts#lexical.RuleMatch.Passes
 /// [Exactly]: crate::contracts#lexical.Rule.Exactly
 /// [front]: crate::contracts#lexical.Quoted.front
 /// [find]: crate::contracts#lexical.Rule.find
-/// [cooked]: crate::contracts#lexical.Quoted.cooked
+/// [cooked_string]: crate::contracts#lexical.Quoted.cooked_string
 /// [chars]: crate::contracts#std.chars
 /// [None]: crate::contracts#std.None
 /// [IsTrouble]: crate::contracts#explain.Trouble.IsTrouble
-pub fn string<'a>(at: Cursor<'a>, inside: Cursor<'a>, kind: StringKind) -> Trouble<'a>
+pub fn string<'a>(at: TextCursor<'a>, inside: TextCursor<'a>, kind: StringKind) -> Trouble<'a>
 {
     match past_quote(inside) {
         Some(end) => string_content(at, inside, end, kind),
@@ -92,7 +92,7 @@ pub fn string<'a>(at: Cursor<'a>, inside: Cursor<'a>, kind: StringKind) -> Troub
 /// - `requires none`: <code>[find] ([raw_rule] kind) ([chars] at.rest.now) ≡ [None]</code>
 /// - `ensures`: <code>[IsTrouble] at.entry result</code>
 ///
-/// [Passes]: crate::contracts#lexical.Step.Passes
+/// [Passes]: crate::contracts#lexical.RuleMatch.Passes
 /// [Exactly]: crate::contracts#lexical.Rule.Exactly
 /// [raw_front]: crate::contracts#lexical.RawString.raw_front
 /// [find]: crate::contracts#lexical.Rule.find
@@ -102,7 +102,7 @@ pub fn string<'a>(at: Cursor<'a>, inside: Cursor<'a>, kind: StringKind) -> Troub
 /// [found_identifier]: crate::contracts#lexical.PieceFinder.found_identifier
 /// [raw_rule]: crate::contracts#lexical.RawString.raw_string
 /// [IsTrouble]: crate::contracts#explain.Trouble.IsTrouble
-pub fn raw_string<'a>(at: Cursor<'a>, inside: Cursor<'a>, kind: StringKind) -> Trouble<'a>
+pub fn raw_string<'a>(at: TextCursor<'a>, inside: TextCursor<'a>, kind: StringKind) -> Trouble<'a>
 {
     let quote = skip(inside, Class::Hash);
     let Some(body) = quote.past("\"") else {
@@ -131,9 +131,9 @@ const MOST_HASHES: usize = 255;
 
 /// Returns the trouble for hash signs, from `inside` to `end`, with no quote after them.
 fn without_quote<'a>(
-    at: Cursor<'a>,
-    inside: Cursor<'a>,
-    end: Cursor<'a>,
+    at: TextCursor<'a>,
+    inside: TextCursor<'a>,
+    end: TextCursor<'a>,
     kind: StringKind,
 ) -> Trouble<'a>
 {
@@ -148,7 +148,7 @@ fn without_quote<'a>(
 }
 
 /// Returns the cursor after a character except `"`, or `at` itself at the end of the text. Returns `None` before a `"`.
-fn past_other(at: Cursor<'_>) -> Option<Cursor<'_>>
+fn past_other(at: TextCursor<'_>) -> Option<TextCursor<'_>>
 {
     if begins(at.rest, "\"") {
         return None;

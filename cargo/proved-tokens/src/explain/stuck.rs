@@ -8,11 +8,11 @@ use crate::explain::reason::Reason;
 use crate::explain::strings::string;
 use crate::explain::trouble::Trouble;
 use crate::lexical::parts::{
-    Cursor, PieceStart, StringKind, begins, piece_start_of, skip_comment, skip_to,
+    PieceStart, StringKind, TextCursor, begins, piece_start_of, skip_comment, skip_to,
 };
 
 /// Returns the cursors before and after the first CR, from `inside` on, that no LF follows.
-fn bare_return(inside: Cursor<'_>) -> Option<(Cursor<'_>, Cursor<'_>)>
+fn bare_return(inside: TextCursor<'_>) -> Option<(TextCursor<'_>, TextCursor<'_>)>
 {
     let mut at = skip_to(inside, b'\r');
     while let Some((_, after)) = at.advance() {
@@ -28,7 +28,7 @@ fn bare_return(inside: Cursor<'_>) -> Option<(Cursor<'_>, Cursor<'_>)>
 const DOC_FRONT: usize = 3;
 
 /// Returns why no comment is at the cursor, which is before what begins a comment.
-fn comment(at: Cursor<'_>) -> Trouble<'_>
+fn comment(at: TextCursor<'_>) -> Trouble<'_>
 {
     let Some(_) = skip_comment(at) else {
         let Some(after) = at.past("/*") else {
@@ -56,14 +56,14 @@ fn comment(at: Cursor<'_>) -> Trouble<'_>
 /// # Contract
 ///
 /// - `requires some`: <code>[chars] at.rest.now ≢ \[\]</code>
-/// - `requires none`: <code>[found] first ([chars] at.rest.now) ≡ [None]</code>
+/// - `requires none`: <code>[find_piece] first ([chars] at.rest.now) ≡ [None]</code>
 /// - `ensures`: <code>[IsTrouble] at.entry result</code>
 ///
 /// [chars]: crate::contracts#std.chars
-/// [found]: crate::contracts#lexical.PieceFinder.found
+/// [find_piece]: crate::contracts#lexical.PieceFinder.find_piece
 /// [None]: crate::contracts#std.None
 /// [IsTrouble]: crate::contracts#explain.Trouble.IsTrouble
-pub fn reason_at(at: Cursor<'_>, first: bool) -> Trouble<'_>
+pub fn reason_at(at: TextCursor<'_>, first: bool) -> Trouble<'_>
 {
     let Some((c, after)) = at.advance() else {
         unreachable!()

@@ -22,7 +22,7 @@ pub enum Gap {
 
 /// Where in a stream a gap is, as a chooser sees it.
 #[derive(Clone, Copy)]
-pub struct Place<'a> {
+pub struct GapContext<'a> {
     /// The token, opener or closer before the gap, with the trees that follow it in the same list. `None` at the
     /// beginning of the stream.
     pub before: Option<Step<'a>>,
@@ -43,7 +43,7 @@ pub trait Chooser {
     /// - `ensures`: <code>gap_gives self.old ([choice_of] place.entry result) self.new</code>
     ///
     /// [choice_of]: crate::contracts#layout.Written.choice_of
-    fn gap(&mut self, place: Place<'_>) -> Gap;
+    fn gap(&mut self, place: GapContext<'_>) -> Gap;
 }
 
 /// Returns the gap that is written where `chosen` is chosen. Nothing is written after a Joint mark. A space is written

@@ -2,7 +2,7 @@
 //! Writes a stream with chosen gaps.
 
 use crate::layout::errors::LayoutError;
-use crate::layout::gaps::{Chooser, Place, fitting, push_gap};
+use crate::layout::gaps::{Chooser, GapContext, fitting, push_gap};
 use crate::pm_stream::{Step, TokenStream, TokenTree};
 use crate::pm_token::parts::{TextBuilder, is_raw, name_of};
 use crate::pm_token::{Delimiter, Ident};
@@ -62,7 +62,7 @@ fn laid_out<C: Chooser>(
     let mut before = None;
     let mut depth: usize = 0;
     while let Some(step) = steps.try_next()? {
-        let place = Place {
+        let place = GapContext {
             before,
             after: Some(step),
             depth: depth_at(depth, step),
@@ -73,7 +73,7 @@ fn laid_out<C: Chooser>(
         depth = depth_past(depth, step);
         before = Some(step);
     }
-    let place = Place {
+    let place = GapContext {
         before,
         after: None,
         depth,

@@ -4,7 +4,7 @@
 //! ASCII is read byte by byte, with one table lookup for each byte. A character past ASCII is decoded first.
 
 use crate::lexical::class::{continues_identifier, is_white, starts_identifier};
-use crate::lexical::cursor::Cursor;
+use crate::lexical::cursor::TextCursor;
 
 /// The base of an integer's digits, which a prefix such as `0x` announces.
 #[derive(Clone, Copy)]
@@ -213,10 +213,10 @@ pub fn count_ascii(bytes: &[u8], class: Class) -> usize
 
 /// Returns the cursor after the ASCII characters of the class, at the first character that is none of them.
 #[cfg_attr(not(debug_assertions), inline(always))]
-fn skip_ascii(at: Cursor<'_>, class: Class) -> Cursor<'_>
+fn skip_ascii(at: TextCursor<'_>, class: Class) -> TextCursor<'_>
 {
     let size = count_ascii(at.rest.as_bytes(), class);
-    Cursor {
+    TextCursor {
         rest: &at.rest[size..],
         chars_before: at.chars_before + size,
     }
@@ -228,11 +228,11 @@ fn skip_ascii(at: Cursor<'_>, class: Class) -> Cursor<'_>
 ///
 /// - `ensures`: <code>[Passes] ([Run] ([is_in] class)) at.entry result</code>
 ///
-/// [Passes]: crate::contracts#lexical.Step.Passes
+/// [Passes]: crate::contracts#lexical.RuleMatch.Passes
 /// [Run]: crate::contracts#lexical.Rule.Run
 /// [is_in]: crate::contracts#lexical.Bytes.is_in
 #[inline]
-pub fn skip(at: Cursor<'_>, class: Class) -> Cursor<'_>
+pub fn skip(at: TextCursor<'_>, class: Class) -> TextCursor<'_>
 {
     let mut end = skip_ascii(at, class);
     while let Some(after) = one(end, class) {
@@ -247,11 +247,11 @@ pub fn skip(at: Cursor<'_>, class: Class) -> Cursor<'_>
 ///
 /// - `ensures`: <code>[Reads] ([One] ([is_in] class)) at.entry result</code>
 ///
-/// [Reads]: crate::contracts#lexical.Step.Reads
+/// [Reads]: crate::contracts#lexical.RuleMatch.Reads
 /// [One]: crate::contracts#lexical.Rule.One
 /// [is_in]: crate::contracts#lexical.Bytes.is_in
 #[inline]
-pub fn one(at: Cursor<'_>, class: Class) -> Option<Cursor<'_>>
+pub fn one(at: TextCursor<'_>, class: Class) -> Option<TextCursor<'_>>
 {
     let (c, after) = at.advance()?;
     if holds(class, c) { Some(after) } else { None }
@@ -267,7 +267,7 @@ pub fn one(at: Cursor<'_>, class: Class) -> Option<Cursor<'_>>
 /// [is_in]: crate::contracts#lexical.Bytes.is_in
 /// [chars]: crate::contracts#std.chars
 #[inline]
-pub fn is_next(at: Cursor<'_>, class: Class) -> bool
+pub fn is_next(at: TextCursor<'_>, class: Class) -> bool
 {
     match at.advance() {
         Some((c, _)) => holds(class, c),

@@ -1,14 +1,14 @@
 // Made from crates/lexical/src/comments.rt by dev/erase: change that file, not this one.
 //! Steps over comments.
 
-use crate::lexical::cursor::Cursor;
+use crate::lexical::cursor::TextCursor;
 use crate::lexical::docs::comment_kind;
 use crate::lexical::piece::PieceKind;
 use crate::lexical::search::{skip_to, skip_to_either};
 use crate::lexical::text::before;
 
 /// Returns the cursor after the line comment at the cursor, by the rule `line-comment`.
-fn skip_line(at: Cursor<'_>) -> Option<Cursor<'_>>
+fn skip_line(at: TextCursor<'_>) -> Option<TextCursor<'_>>
 {
     let after = at.past("//")?;
     Some(skip_to(after, b'\n'))
@@ -16,7 +16,7 @@ fn skip_line(at: Cursor<'_>) -> Option<Cursor<'_>>
 
 /// Moves past one `/*`, one `*/` or one other character. Returns the cursor there and how many block comments are open
 /// there, where `depth` are open at `at`.
-fn step(at: Cursor<'_>, depth: usize) -> Option<(Cursor<'_>, usize)>
+fn step(at: TextCursor<'_>, depth: usize) -> Option<(TextCursor<'_>, usize)>
 {
     let (_, after) = at.advance()?;
     if let Some(closed) = at.past("*/") {
@@ -29,7 +29,7 @@ fn step(at: Cursor<'_>, depth: usize) -> Option<(Cursor<'_>, usize)>
 }
 
 /// Returns the cursor after the block comment at the cursor, by the rule `block-comment`.
-fn skip_block(at: Cursor<'_>) -> Option<Cursor<'_>>
+fn skip_block(at: TextCursor<'_>) -> Option<TextCursor<'_>>
 {
     let mut end = at.past("/*")?;
     let mut depth = 1;
@@ -48,9 +48,9 @@ fn skip_block(at: Cursor<'_>) -> Option<Cursor<'_>>
 ///
 /// - `ensures`: <code>[Reads] rule.[comment] at.entry result</code>
 ///
-/// [Reads]: crate::contracts#lexical.Step.Reads
+/// [Reads]: crate::contracts#lexical.RuleMatch.Reads
 /// [comment]: crate::contracts#lexical.Comment.comment
-pub fn skip_comment(at: Cursor<'_>) -> Option<Cursor<'_>>
+pub fn skip_comment(at: TextCursor<'_>) -> Option<TextCursor<'_>>
 {
     match skip_line(at) {
         Some(end) => Some(end),
@@ -72,7 +72,7 @@ pub fn skip_comment(at: Cursor<'_>) -> Option<Cursor<'_>>
 /// [comment]: crate::contracts#lexical.Comment.comment
 /// [chars]: crate::contracts#std.chars
 #[inline(never)]
-pub fn comment(at: Cursor<'_>) -> Option<(PieceKind<'_>, Cursor<'_>)>
+pub fn comment(at: TextCursor<'_>) -> Option<(PieceKind<'_>, TextCursor<'_>)>
 {
     let end = skip_comment(at)?;
     let kind = comment_kind(before(at.rest, end.rest), end.rest)?;

@@ -5,7 +5,7 @@ use crate::lexical::text::{char_count, split_first, strip};
 
 /// The rest of a text, and how many characters come before it.
 #[derive(Clone, Copy)]
-pub struct Cursor<'a> {
+pub struct TextCursor<'a> {
     /// The text after the cursor.
     pub rest: &'a str,
     /// How many characters of the text come before the cursor.
@@ -13,7 +13,7 @@ pub struct Cursor<'a> {
     // The rest is valid UTF-8, and the count of characters cannot overflow.
 }
 
-impl<'a> Cursor<'a> {
+impl<'a> TextCursor<'a> {
     /// Returns the cursor at the start of a text.
     ///
     /// # Contract
@@ -25,7 +25,7 @@ impl<'a> Cursor<'a> {
     {
         // The contract of `iter` bounds how many bytes a text has, and so how many characters.
         let _bytes = text.as_bytes().iter();
-        Cursor {
+        TextCursor {
             rest: text,
             chars_before: 0,
         }
@@ -45,7 +45,7 @@ impl<'a> Cursor<'a> {
     pub fn advance(self) -> Option<(char, Self)>
     {
         let (first, rest) = split_first(self.rest)?;
-        let after = Cursor {
+        let after = TextCursor {
             rest,
             chars_before: self.chars_before + 1,
         };
@@ -61,13 +61,13 @@ impl<'a> Cursor<'a> {
     ///
     /// [IsTrue]: crate::contracts#std.IsTrue
     /// [all_ascii]: crate::contracts#lexical.Ascii.all_ascii
-    /// [Reads]: crate::contracts#lexical.Step.Reads
+    /// [Reads]: crate::contracts#lexical.RuleMatch.Reads
     /// [Exactly]: crate::contracts#lexical.Rule.Exactly
     #[cfg_attr(not(debug_assertions), inline(always))]
     pub fn past(self, front: &str) -> Option<Self>
     {
         let rest = strip(self.rest, front)?;
-        let after = Cursor {
+        let after = TextCursor {
             rest,
             chars_before: self.chars_before + front.len(),
         };
@@ -90,7 +90,7 @@ impl<'a> Cursor<'a> {
     /// [take]: crate::contracts#std.take
     pub fn after_bytes(self, size: usize) -> Self
     {
-        Cursor {
+        TextCursor {
             rest: &self.rest[size..],
             chars_before: self.chars_before + char_count(&self.rest[..size]),
         }

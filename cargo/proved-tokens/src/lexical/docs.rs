@@ -22,13 +22,13 @@ fn is_doc(comment: &str) -> bool
 /// Returns the text of a doc comment that `rest` follows, by the rule `doc-text`.
 fn doc_text<'a>(comment: &'a str, rest: &str) -> &'a str
 {
-    let said = &comment[3..];
+    let doc_body = &comment[3..];
     if begins(comment, "/*") {
-        before(said, "*/")
+        before(doc_body, "*/")
     } else if begins(rest, "\n") {
-        without_return(said)
+        without_return(doc_body)
     } else {
-        said
+        doc_body
     }
 }
 

@@ -2,7 +2,7 @@
 //! Escapes: what follows a backslash in a literal.
 
 use crate::lexical::bytes::{Base, Class, one, skip};
-use crate::lexical::cursor::Cursor;
+use crate::lexical::cursor::TextCursor;
 use crate::lexical::quoted::StringKind;
 use crate::lexical::skip::one as one_that;
 use crate::lexical::text::{before, begins};
@@ -25,19 +25,19 @@ pub fn is_letter(c: char, kind: StringKind) -> bool
 }
 
 /// Returns the cursor after the letter of a simple escape.
-fn simple(at: Cursor<'_>, kind: StringKind) -> Option<Cursor<'_>>
+fn simple(at: TextCursor<'_>, kind: StringKind) -> Option<TextCursor<'_>>
 {
     one_that(at, |c| is_letter(c, kind))
 }
 
 /// Returns the cursor after two hex digits.
-fn hex_pair(at: Cursor<'_>) -> Option<Cursor<'_>>
+fn hex_pair(at: TextCursor<'_>) -> Option<TextCursor<'_>>
 {
     one(one(at, Class::HexDigit)?, Class::HexDigit)
 }
 
 /// Returns the cursor after two hex digits if a literal of the kind allows them after `\x`.
-fn pair(at: Cursor<'_>, kind: StringKind) -> Option<Cursor<'_>>
+fn pair(at: TextCursor<'_>, kind: StringKind) -> Option<TextCursor<'_>>
 {
     match kind {
         StringKind::Plain => one(one(at, Class::DigitOf(Base::Octal))?, Class::HexDigit),
@@ -52,7 +52,7 @@ fn pair(at: Cursor<'_>, kind: StringKind) -> Option<Cursor<'_>>
 }
 
 /// Returns the cursor after `x` and its two digits, by the rule `hex-escape`.
-fn hex(at: Cursor<'_>, kind: StringKind) -> Option<Cursor<'_>>
+fn hex(at: TextCursor<'_>, kind: StringKind) -> Option<TextCursor<'_>>
 {
     pair(at.past("x")?, kind)
 }
@@ -100,7 +100,7 @@ pub fn writes_character(code: &[u8], kind: StringKind) -> bool
 }
 
 /// Returns the cursor after the code of a character: one hex digit and all hex digits and `_` after it.
-fn code(at: Cursor<'_>, kind: StringKind) -> Option<Cursor<'_>>
+fn code(at: TextCursor<'_>, kind: StringKind) -> Option<TextCursor<'_>>
 {
     let first = one(at, Class::HexDigit)?;
     let end = skip(first, Class::CodeDigit);
@@ -111,7 +111,7 @@ fn code(at: Cursor<'_>, kind: StringKind) -> Option<Cursor<'_>>
 }
 
 /// Returns the cursor after `u{`, the code of a character and `}`, by the rule `unicode-escape`.
-fn unicode(at: Cursor<'_>, kind: StringKind) -> Option<Cursor<'_>>
+fn unicode(at: TextCursor<'_>, kind: StringKind) -> Option<TextCursor<'_>>
 {
     code(at.past("u{")?, kind)?.past("}")
 }
@@ -122,9 +122,9 @@ fn unicode(at: Cursor<'_>, kind: StringKind) -> Option<Cursor<'_>>
 ///
 /// - `ensures`: <code>[Reads] (rule.[escape] kind) at.entry result</code>
 ///
-/// [Reads]: crate::contracts#lexical.Step.Reads
+/// [Reads]: crate::contracts#lexical.RuleMatch.Reads
 /// [escape]: crate::contracts#lexical.Quoted.escape
-pub fn escape(at: Cursor<'_>, kind: StringKind) -> Option<Cursor<'_>>
+pub fn escape(at: TextCursor<'_>, kind: StringKind) -> Option<TextCursor<'_>>
 {
     if let Some(end) = simple(at, kind) {
         return Some(end);

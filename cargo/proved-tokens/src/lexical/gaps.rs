@@ -2,8 +2,8 @@
 //! White characters, each of which is a gap.
 
 use crate::lexical::bytes::{Class, holds_ascii, skip};
-use crate::lexical::cursor::Cursor;
-use crate::lexical::quick::byte_at;
+use crate::lexical::cursor::TextCursor;
+use crate::lexical::fast_path::byte_at;
 
 /// Counts the spaces at the start, four at a time. It leaves up to three of them uncounted.
 #[cfg_attr(not(debug_assertions), inline(always))]
@@ -49,7 +49,7 @@ pub fn past_white(text: &str) -> (&str, usize)
 #[inline(never)]
 fn white_size(text: &str) -> usize
 {
-    skip(Cursor::new(text), Class::White).bytes_in(text)
+    skip(TextCursor::new(text), Class::White).bytes_in(text)
 }
 
 /// Splits the text after all white characters at its start, past ASCII too.

@@ -2,7 +2,7 @@
 //! Names and identifiers.
 
 use crate::lexical::bytes::{Class, one, skip};
-use crate::lexical::cursor::Cursor;
+use crate::lexical::cursor::TextCursor;
 use crate::lexical::piece::PieceKind;
 use crate::lexical::text::{before, begins, is_text};
 
@@ -12,9 +12,9 @@ use crate::lexical::text::{before, begins, is_text};
 ///
 /// - `ensures`: <code>[Reads] rule.[name] at.entry result</code>
 ///
-/// [Reads]: crate::contracts#lexical.Step.Reads
+/// [Reads]: crate::contracts#lexical.RuleMatch.Reads
 /// [name]: crate::contracts#lexical.Identifier.name
-pub fn name(at: Cursor<'_>) -> Option<Cursor<'_>>
+pub fn name(at: TextCursor<'_>) -> Option<TextCursor<'_>>
 {
     let after = one(at, Class::IdentifierStart)?;
     Some(skip(after, Class::IdentifierContinue))
@@ -60,10 +60,10 @@ pub fn is_reserved(name: &str) -> bool
 ///
 /// - `ensures`: <code>[Reads] rule.[raw_name] at.entry result</code>
 ///
-/// [Reads]: crate::contracts#lexical.Step.Reads
+/// [Reads]: crate::contracts#lexical.RuleMatch.Reads
 /// [raw_name]: crate::contracts#lexical.Identifier.raw_name
 #[inline(never)]
-pub fn raw_name(at: Cursor<'_>) -> Option<Cursor<'_>>
+pub fn raw_name(at: TextCursor<'_>) -> Option<TextCursor<'_>>
 {
     let end = name(at)?;
     if is_reserved(before(at.rest, end.rest)) {
@@ -78,14 +78,14 @@ pub fn raw_name(at: Cursor<'_>) -> Option<Cursor<'_>>
 /// # Contract
 ///
 /// - `requires`: <code>[begins_with] ([codes] \"r#\") ([chars] at.rest.now) ≡ raw</code>
-/// - `ensures`: <code>[Reads] (rule.[written] raw) at.entry result</code>
+/// - `ensures`: <code>[Reads] (rule.[any_identifier] raw) at.entry result</code>
 ///
 /// [begins_with]: crate::contracts#lexical.Text.begins_with
 /// [codes]: crate::contracts#std.codes
 /// [chars]: crate::contracts#std.chars
-/// [Reads]: crate::contracts#lexical.Step.Reads
-/// [written]: crate::contracts#lexical.Identifier.written
-pub fn written(at: Cursor<'_>, raw: bool) -> Option<Cursor<'_>>
+/// [Reads]: crate::contracts#lexical.RuleMatch.Reads
+/// [any_identifier]: crate::contracts#lexical.Identifier.any_identifier
+pub fn any_identifier(at: TextCursor<'_>, raw: bool) -> Option<TextCursor<'_>>
 {
     if raw {
         raw_name(at.past("r#")?)
@@ -111,10 +111,10 @@ pub fn written(at: Cursor<'_>, raw: bool) -> Option<Cursor<'_>>
 /// [found_identifier]: crate::contracts#lexical.PieceFinder.found_identifier
 #[cfg_attr(not(debug_assertions), inline(always))]
 pub fn identifier<'a>(
-    at: Cursor<'a>,
+    at: TextCursor<'a>,
     first: char,
-    after: Cursor<'a>,
-) -> Option<(PieceKind<'a>, Cursor<'a>)>
+    after: TextCursor<'a>,
+) -> Option<(PieceKind<'a>, TextCursor<'a>)>
 {
     if begins_literal(at.rest, first) {
         return None;

@@ -3,25 +3,25 @@
 
 use crate::lexical::class::{PieceStart, byte_start, piece_start_of};
 use crate::lexical::comments::comment;
-use crate::lexical::cursor::Cursor;
-use crate::lexical::identifiers::{identifier, name};
-use crate::lexical::literals::{literal, quoted};
-use crate::lexical::marks::{begins_comment, follows_quote, mark};
-use crate::lexical::numbers::number;
-use crate::lexical::piece::{Piece, PieceKind};
-use crate::lexical::quick::quoted::{
+use crate::lexical::cursor::TextCursor;
+use crate::lexical::fast_path::quoted::{
     bare_character, character, escaped_string, letter_character, plain_string, string,
     wide_character,
 };
-use crate::lexical::quick::{
-    Extent, byte_at, byte_literal, line_comment, lone_quote, long_number, quick, quick_literal,
+use crate::lexical::fast_path::{
+    Extent, byte_at, byte_literal, fast_literal, fast_piece, line_comment, lone_quote, long_number,
 };
+use crate::lexical::identifiers::{identifier, name};
+use crate::lexical::literals::{literal, skip_quoted};
+use crate::lexical::marks::{begins_comment, follows_quote, mark};
+use crate::lexical::numbers::number;
+use crate::lexical::piece::{Piece, PieceKind};
 use crate::lexical::text::strip;
 use crate::lexical::words::{count_few_plain, count_plain};
 
 /// Makes a piece of a literal that was read, if one was: its kind, and the cursor after it.
 #[cfg_attr(not(debug_assertions), inline(always))]
-fn as_literal(end: Option<Cursor<'_>>) -> Option<(PieceKind<'_>, Cursor<'_>)>
+fn as_literal(end: Option<TextCursor<'_>>) -> Option<(PieceKind<'_>, TextCursor<'_>)>
 {
     Some((PieceKind::Literal, end?))
 }
@@ -29,14 +29,14 @@ fn as_literal(end: Option<Cursor<'_>>) -> Option<(PieceKind<'_>, Cursor<'_>)>
 /// Returns the kind of the piece at the cursor, and the cursor after it. The first character decides which rules to
 /// try. `at_front` says whether the cursor is at byte offset 0 of a source.
 #[cfg_attr(not(debug_assertions), inline(always))]
-fn read_piece(at: Cursor<'_>, at_front: bool) -> Option<(PieceKind<'_>, Cursor<'_>)>
+fn read_piece(at: TextCursor<'_>, at_front: bool) -> Option<(PieceKind<'_>, TextCursor<'_>)>
 {
     let (first, after) = at.advance()?;
     match piece_start_of(first) {
         PieceStart::White => Some((PieceKind::Gap, after)),
         PieceStart::Letter => match identifier(at, first, after) {
             Some(name) => Some(name),
-            None => as_literal(quoted(at)),
+            None => as_literal(skip_quoted(at)),
         },
         PieceStart::Digit => as_literal(number(at)),
         PieceStart::Opener => match at.past("(/*ERROR*/)") {
@@ -52,7 +52,7 @@ fn read_piece(at: Cursor<'_>, at_front: bool) -> Option<(PieceKind<'_>, Cursor<'
         }
         PieceStart::Quote => {
             if !follows_quote(after) {
-                return as_literal(quoted(at));
+                return as_literal(skip_quoted(at));
             }
             let kind = PieceKind::Mark {
                 joint: true,
@@ -60,7 +60,7 @@ fn read_piece(at: Cursor<'_>, at_front: bool) -> Option<(PieceKind<'_>, Cursor<'
             };
             Some((kind, after))
         }
-        PieceStart::DoubleQuote => as_literal(quoted(at)),
+        PieceStart::DoubleQuote => as_literal(skip_quoted(at)),
         PieceStart::FrontMark => {
             if !at_front {
                 return None;
@@ -93,7 +93,7 @@ fn read_piece(at: Cursor<'_>, at_front: bool) -> Option<(PieceKind<'_>, Cursor<'
 #[cfg_attr(not(debug_assertions), inline(always))]
 pub fn piece_at(text: &str, first: bool) -> Option<Piece<'_>>
 {
-    match quick(text) {
+    match fast_piece(text) {
         Some(piece) => Some(piece),
         None => other_piece(text, first),
     }
@@ -261,7 +261,7 @@ fn other_string_piece(text: &str, first: bool) -> Option<Piece<'_>>
 #[inline(never)]
 fn piece_by_characters(text: &str, first: bool) -> Option<Piece<'_>>
 {
-    let (kind, end) = read_piece(Cursor::new(text), first)?;
+    let (kind, end) = read_piece(TextCursor::new(text), first)?;
     let piece = Piece {
         kind,
         bytes: end.bytes_in(text),
@@ -288,7 +288,7 @@ fn piece_by_characters(text: &str, first: bool) -> Option<Piece<'_>>
 /// [HasNone]: crate::contracts#lexical.Form.HasNone
 pub fn literal_at(text: &str) -> Option<usize>
 {
-    match quick_literal(text) {
+    match fast_literal(text) {
         Some(size) => Some(size),
         None => literal_by_characters(text),
     }
@@ -298,7 +298,7 @@ pub fn literal_at(text: &str) -> Option<usize>
 #[inline(never)]
 fn literal_by_characters(text: &str) -> Option<usize>
 {
-    let after = literal(Cursor::new(text))?;
+    let after = literal(TextCursor::new(text))?;
     Some(after.bytes_in(text))
 }
 
@@ -320,6 +320,6 @@ fn literal_by_characters(text: &str) -> Option<usize>
 /// [HasNone]: crate::contracts#lexical.Form.HasNone
 pub fn name_at(text: &str) -> Option<usize>
 {
-    let end = name(Cursor::new(text))?;
+    let end = name(TextCursor::new(text))?;
     Some(end.bytes_in(text))
 }

@@ -1,7 +1,7 @@
 // Made from crates/lexical/src/literals.rt by dev/erase: change that file, not this one.
 //! Literals.
 
-use crate::lexical::cursor::Cursor;
+use crate::lexical::cursor::TextCursor;
 use crate::lexical::numbers::number;
 use crate::lexical::quoted::{StringKind, string};
 use crate::lexical::raw_strings::raw_string;
@@ -13,10 +13,10 @@ use crate::lexical::single_quotes::single;
 ///
 /// - `ensures`: <code>[Reads] rule.[quoted_literal] at.entry result</code>
 ///
-/// [Reads]: crate::contracts#lexical.Step.Reads
+/// [Reads]: crate::contracts#lexical.RuleMatch.Reads
 /// [quoted_literal]: crate::contracts#lexical.Literal.quoted_literal
 #[inline(never)]
-pub fn quoted(at: Cursor<'_>) -> Option<Cursor<'_>>
+pub fn skip_quoted(at: TextCursor<'_>) -> Option<TextCursor<'_>>
 {
     if let Some(end) = any_string(at, "\"", "r", StringKind::Plain) {
         return Some(end);
@@ -36,11 +36,11 @@ pub fn quoted(at: Cursor<'_>) -> Option<Cursor<'_>>
 /// Returns the cursor after the string at the cursor. `front` opens it if it has escapes, and `raw_front` opens it if
 /// it is raw.
 fn any_string<'a>(
-    at: Cursor<'a>,
+    at: TextCursor<'a>,
     front: &str,
     raw_front: &str,
     kind: StringKind,
-) -> Option<Cursor<'a>>
+) -> Option<TextCursor<'a>>
 {
     match string(at, front, kind) {
         Some(end) => Some(end),
@@ -54,11 +54,11 @@ fn any_string<'a>(
 ///
 /// - `ensures`: <code>[Reads] rule.[literal] at.entry result</code>
 ///
-/// [Reads]: crate::contracts#lexical.Step.Reads
+/// [Reads]: crate::contracts#lexical.RuleMatch.Reads
 /// [literal]: crate::contracts#lexical.Literal.literal
-pub fn literal(at: Cursor<'_>) -> Option<Cursor<'_>>
+pub fn literal(at: TextCursor<'_>) -> Option<TextCursor<'_>>
 {
-    match quoted(at) {
+    match skip_quoted(at) {
         Some(end) => Some(end),
         None => number(at),
     }

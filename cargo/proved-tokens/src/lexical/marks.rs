@@ -2,8 +2,8 @@
 //! Punctuation marks and lone quotes.
 
 use crate::lexical::bytes::{Class, holds};
-use crate::lexical::cursor::Cursor;
-use crate::lexical::identifiers::written;
+use crate::lexical::cursor::TextCursor;
+use crate::lexical::identifiers::any_identifier;
 use crate::lexical::piece::PieceKind;
 use crate::lexical::text::{begins, split_first};
 
@@ -55,7 +55,7 @@ pub fn mark<'a>(mark: char, rest: &str) -> PieceKind<'a>
 
 /// Whether a `'` may come right before an identifier that ends at the cursor. It may not if a `'` follows the
 /// identifier, or if a `#` follows and the identifier is not raw.
-fn is_unbarred(end: Cursor<'_>, raw: bool) -> bool
+fn is_unbarred(end: TextCursor<'_>, raw: bool) -> bool
 {
     match end.advance() {
         Some((next, _)) => next != '\'' && (raw || next != '#'),
@@ -72,10 +72,10 @@ fn is_unbarred(end: Cursor<'_>, raw: bool) -> bool
 /// [follows]: crate::contracts#lexical.Mark.follows_quote
 /// [chars]: crate::contracts#std.chars
 #[inline(never)]
-pub fn follows_quote(at: Cursor<'_>) -> bool
+pub fn follows_quote(at: TextCursor<'_>) -> bool
 {
     let raw = begins(at.rest, "r#");
-    match written(at, raw) {
+    match any_identifier(at, raw) {
         Some(end) => is_unbarred(end, raw),
         None => false,
     }

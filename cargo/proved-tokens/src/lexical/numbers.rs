@@ -2,19 +2,19 @@
 //! Numbers, read by their characters.
 
 use crate::lexical::bytes::{Base, Class, is_next, one, skip};
-use crate::lexical::cursor::Cursor;
+use crate::lexical::cursor::TextCursor;
 use crate::lexical::quoted::suffix;
 use crate::lexical::text::begins;
 
 /// Returns the cursor after the digits at the cursor, by the rule `digits`.
-fn digits(at: Cursor<'_>) -> Option<Cursor<'_>>
+fn digits(at: TextCursor<'_>) -> Option<TextCursor<'_>>
 {
     let after = one(at, Class::Digit)?;
     Some(skip(after, Class::DigitOrUnderscore))
 }
 
 /// Returns the cursor after the suffix of a number, by the rule `number-end`.
-fn end(at: Cursor<'_>) -> Option<Cursor<'_>>
+fn end(at: TextCursor<'_>) -> Option<TextCursor<'_>>
 {
     let end = suffix(at);
     if is_next(end, Class::IdentifierContinue) {
@@ -25,7 +25,7 @@ fn end(at: Cursor<'_>) -> Option<Cursor<'_>>
 }
 
 /// Returns the cursor after the dot of a number, by the rule `dot`.
-fn dot(at: Cursor<'_>) -> Option<Cursor<'_>>
+fn dot(at: TextCursor<'_>) -> Option<TextCursor<'_>>
 {
     let end = at.past(".")?;
     if is_next(end, Class::BarsDot) {
@@ -36,7 +36,7 @@ fn dot(at: Cursor<'_>) -> Option<Cursor<'_>>
 }
 
 /// Returns the cursor after the exponent at the cursor, by the rule `exponent`.
-fn exponent(at: Cursor<'_>) -> Option<Cursor<'_>>
+fn exponent(at: TextCursor<'_>) -> Option<TextCursor<'_>>
 {
     let letter = one(at, Class::ExponentLetter)?;
     let sign = skip(letter, Class::Underscore);
@@ -48,7 +48,7 @@ fn exponent(at: Cursor<'_>) -> Option<Cursor<'_>>
 }
 
 /// Returns the cursor after a number's dot and everything that follows the dot in the number.
-fn fraction(at: Cursor<'_>) -> Option<Cursor<'_>>
+fn fraction(at: TextCursor<'_>) -> Option<TextCursor<'_>>
 {
     let after = skip(dot(at)?, Class::DigitOrUnderscore);
     match exponent(after) {
@@ -58,7 +58,7 @@ fn fraction(at: Cursor<'_>) -> Option<Cursor<'_>>
 }
 
 /// Returns the cursor after the part that makes a float of the digits before it.
-fn float_tail(at: Cursor<'_>) -> Option<Cursor<'_>>
+fn float_tail(at: TextCursor<'_>) -> Option<TextCursor<'_>>
 {
     match fraction(at) {
         Some(end) => Some(end),
@@ -67,7 +67,7 @@ fn float_tail(at: Cursor<'_>) -> Option<Cursor<'_>>
 }
 
 /// Returns the cursor after a number that begins with no prefix of a base.
-fn decimal(at: Cursor<'_>) -> Option<Cursor<'_>>
+fn decimal(at: TextCursor<'_>) -> Option<TextCursor<'_>>
 {
     let after = digits(at)?;
     match float_tail(after) {
@@ -78,7 +78,7 @@ fn decimal(at: Cursor<'_>) -> Option<Cursor<'_>>
 
 /// Returns the cursor after the digits of this base, by the rule `base-digits`. A digit that is too large for the base
 /// must not follow.
-fn digits_in(at: Cursor<'_>, base: Base) -> Option<Cursor<'_>>
+fn digits_in(at: TextCursor<'_>, base: Base) -> Option<TextCursor<'_>>
 {
     let first = one(skip(at, Class::Underscore), Class::DigitOf(base))?;
     let end = skip(first, Class::DigitOrUnderscoreOf(base));
@@ -90,20 +90,20 @@ fn digits_in(at: Cursor<'_>, base: Base) -> Option<Cursor<'_>>
 }
 
 /// Returns the cursor after the prefix of a base and its digits.
-fn prefixed<'a>(at: Cursor<'a>, prefix: &str, base: Base) -> Option<Cursor<'a>>
+fn prefix_and_digits<'a>(at: TextCursor<'a>, prefix: &str, base: Base) -> Option<TextCursor<'a>>
 {
     digits_in(at.past(prefix)?, base)
 }
 
 /// Returns the cursor after a prefix and its digits of base 16, 8 or 2, by the rule `based`.
-fn based(at: Cursor<'_>) -> Option<Cursor<'_>>
+fn based_number(at: TextCursor<'_>) -> Option<TextCursor<'_>>
 {
-    if let Some(end) = prefixed(at, "0x", Base::Hexadecimal) {
+    if let Some(end) = prefix_and_digits(at, "0x", Base::Hexadecimal) {
         return Some(end);
     }
-    match prefixed(at, "0o", Base::Octal) {
+    match prefix_and_digits(at, "0o", Base::Octal) {
         Some(end) => Some(end),
-        None => prefixed(at, "0b", Base::Binary),
+        None => prefix_and_digits(at, "0b", Base::Binary),
     }
 }
 
@@ -119,13 +119,13 @@ fn begins_based(text: &str) -> bool
 ///
 /// - `ensures`: <code>[Reads] rule.[number] at.entry result</code>
 ///
-/// [Reads]: crate::contracts#lexical.Step.Reads
+/// [Reads]: crate::contracts#lexical.RuleMatch.Reads
 /// [number]: crate::contracts#lexical.Number.number
 #[inline(never)]
-pub fn number(at: Cursor<'_>) -> Option<Cursor<'_>>
+pub fn number(at: TextCursor<'_>) -> Option<TextCursor<'_>>
 {
     if begins_based(at.rest) {
-        end(based(at)?)
+        end(based_number(at)?)
     } else {
         decimal(at)
     }

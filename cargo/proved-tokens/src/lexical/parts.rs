@@ -5,7 +5,7 @@
 pub use crate::lexical::bytes::{Base, Class, one, skip};
 pub use crate::lexical::class::{PieceStart, piece_start_of};
 pub use crate::lexical::comments::skip_comment;
-pub use crate::lexical::cursor::Cursor;
+pub use crate::lexical::cursor::TextCursor;
 pub use crate::lexical::identifiers::name;
 pub use crate::lexical::quoted::StringKind;
 pub use crate::lexical::search::{skip_to, skip_to_either};

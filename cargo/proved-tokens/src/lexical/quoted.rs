@@ -2,7 +2,7 @@
 //! Strings with escapes.
 
 use crate::lexical::contents::{count_allowed, may_stand};
-use crate::lexical::cursor::Cursor;
+use crate::lexical::cursor::TextCursor;
 use crate::lexical::escapes::escape;
 use crate::lexical::identifiers::name;
 use crate::lexical::skip::one;
@@ -26,9 +26,9 @@ pub enum StringKind {
 ///
 /// - `ensures`: <code>[Passes] rule.[suffix] at.entry result</code>
 ///
-/// [Passes]: crate::contracts#lexical.Step.Passes
+/// [Passes]: crate::contracts#lexical.RuleMatch.Passes
 /// [suffix]: crate::contracts#lexical.Quoted.suffix
-pub fn suffix(at: Cursor<'_>) -> Cursor<'_>
+pub fn suffix(at: TextCursor<'_>) -> TextCursor<'_>
 {
     match name(at) {
         Some(end) => end,
@@ -46,14 +46,14 @@ fn stands_for_itself(c: char, kind: StringKind) -> bool
 }
 
 /// Returns the cursor after one character that needs no escape.
-fn plain(at: Cursor<'_>, kind: StringKind) -> Option<Cursor<'_>>
+fn plain(at: TextCursor<'_>, kind: StringKind) -> Option<TextCursor<'_>>
 {
     one(at, |c| stands_for_itself(c, kind))
 }
 
 /// Returns the cursor after all characters that need no escape, at the first quote, backslash, CR or forbidden
 /// character.
-fn skip_plain(at: Cursor<'_>, kind: StringKind) -> Cursor<'_>
+fn skip_plain(at: TextCursor<'_>, kind: StringKind) -> TextCursor<'_>
 {
     let bytes = at.rest.as_bytes();
     let size = memchr3(b'"', b'\\', b'\r', bytes).unwrap_or(bytes.len());
@@ -61,7 +61,7 @@ fn skip_plain(at: Cursor<'_>, kind: StringKind) -> Cursor<'_>
 }
 
 /// Returns the cursor after what may follow a backslash in a string.
-fn escaped(at: Cursor<'_>, kind: StringKind) -> Option<Cursor<'_>>
+fn escape_or_line_end(at: TextCursor<'_>, kind: StringKind) -> Option<TextCursor<'_>>
 {
     if let Some(end) = at.past("\n") {
         return Some(end);
@@ -73,10 +73,10 @@ fn escaped(at: Cursor<'_>, kind: StringKind) -> Option<Cursor<'_>>
 }
 
 /// Returns the cursor after a unit of a string, by the rules `string-unit`, `byte-string-unit` and `c-string-unit`.
-fn unit(at: Cursor<'_>, kind: StringKind) -> Option<Cursor<'_>>
+fn unit(at: TextCursor<'_>, kind: StringKind) -> Option<TextCursor<'_>>
 {
     if let Some(escape) = at.past("\\") {
-        return escaped(escape, kind);
+        return escape_or_line_end(escape, kind);
     }
     match plain(at, kind) {
         Some(end) => Some(end),
@@ -95,13 +95,13 @@ fn unit(at: Cursor<'_>, kind: StringKind) -> Option<Cursor<'_>>
 ///
 /// [IsTrue]: crate::contracts#std.IsTrue
 /// [all_ascii]: crate::contracts#lexical.Ascii.all_ascii
-/// [Reads]: crate::contracts#lexical.Step.Reads
+/// [Reads]: crate::contracts#lexical.RuleMatch.Reads
 /// [Then]: crate::contracts#lexical.Rule.Then
 /// [Exactly]: crate::contracts#lexical.Rule.Exactly
 /// [body]: crate::contracts#lexical.Quoted.body
 /// [unit]: crate::contracts#lexical.Quoted.unit
 /// [codes]: crate::contracts#std.codes
-pub fn string<'a>(at: Cursor<'a>, front: &str, kind: StringKind) -> Option<Cursor<'a>>
+pub fn string<'a>(at: TextCursor<'a>, front: &str, kind: StringKind) -> Option<TextCursor<'a>>
 {
     let inside = at.past(front)?;
     let mut end = skip_plain(inside, kind);

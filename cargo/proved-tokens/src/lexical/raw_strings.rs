@@ -3,7 +3,7 @@
 
 use crate::lexical::bytes::{Class, skip};
 use crate::lexical::contents::{count_allowed, may_stand};
-use crate::lexical::cursor::Cursor;
+use crate::lexical::cursor::TextCursor;
 use crate::lexical::quoted::{StringKind, suffix};
 use crate::lexical::text::{before, begins};
 use crate::shim::memchr::memchr2;
@@ -12,7 +12,7 @@ use crate::shim::memchr::memchr2;
 const MOST_HASHES: usize = 255;
 
 /// Returns the hash signs at the cursor, at most 255, and the cursor after them, by the rule `raw-hashes`.
-fn hashes(at: Cursor<'_>) -> Option<(&str, Cursor<'_>)>
+fn hashes(at: TextCursor<'_>) -> Option<(&str, TextCursor<'_>)>
 {
     let end = skip(at, Class::Hash);
     let hashes = before(at.rest, end.rest);
@@ -24,7 +24,7 @@ fn hashes(at: Cursor<'_>) -> Option<(&str, Cursor<'_>)>
 
 /// Returns the cursor after all characters that a raw string may contain, at the first quote, CR or forbidden
 /// character.
-fn skip_plain(at: Cursor<'_>, kind: StringKind) -> Cursor<'_>
+fn skip_plain(at: TextCursor<'_>, kind: StringKind) -> TextCursor<'_>
 {
     let bytes = at.rest.as_bytes();
     let size = memchr2(b'"', b'\r', bytes).unwrap_or(bytes.len());
@@ -32,7 +32,7 @@ fn skip_plain(at: Cursor<'_>, kind: StringKind) -> Cursor<'_>
 }
 
 /// Returns the cursor after a unit of a raw string with these hash signs, by the rule `raw-unit`.
-fn raw_unit<'a>(at: Cursor<'a>, kind: StringKind, hashes: &str) -> Option<Cursor<'a>>
+fn raw_unit<'a>(at: TextCursor<'a>, kind: StringKind, hashes: &str) -> Option<TextCursor<'a>>
 {
     let (c, after) = at.advance()?;
     if c == '"' && begins(after.rest, hashes) {
@@ -58,10 +58,10 @@ fn raw_unit<'a>(at: Cursor<'a>, kind: StringKind, hashes: &str) -> Option<Cursor
 ///
 /// [IsTrue]: crate::contracts#std.IsTrue
 /// [all_ascii]: crate::contracts#lexical.Ascii.all_ascii
-/// [Reads]: crate::contracts#lexical.Step.Reads
+/// [Reads]: crate::contracts#lexical.RuleMatch.Reads
 /// [raw]: crate::contracts#lexical.RawString.raw
 /// [may_stand_raw]: crate::contracts#lexical.RawString.may_stand_raw
-pub fn raw_string<'a>(at: Cursor<'a>, front: &str, kind: StringKind) -> Option<Cursor<'a>>
+pub fn raw_string<'a>(at: TextCursor<'a>, front: &str, kind: StringKind) -> Option<TextCursor<'a>>
 {
     let (hashes, quote) = hashes(at.past(front)?)?;
     let mut end = quote.past("\"")?;

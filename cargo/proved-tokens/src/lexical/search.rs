@@ -3,7 +3,7 @@
 //!
 //! The search looks at bytes. No byte of another character is below 0x80, so it finds only the ASCII character.
 
-use crate::lexical::cursor::Cursor;
+use crate::lexical::cursor::TextCursor;
 use crate::shim::memchr::{memchr, memchr2};
 
 /// Returns the cursor at the first `stop`, an ASCII character, or at the end of the text if there is none.
@@ -13,10 +13,10 @@ use crate::shim::memchr::{memchr, memchr2};
 /// - `requires`: <code>stop &lt; 128</code>
 /// - `ensures`: <code>[Passes] ([Run] (λ c. [not] (c == stop))) at.entry result</code>
 ///
-/// [Passes]: crate::contracts#lexical.Step.Passes
+/// [Passes]: crate::contracts#lexical.RuleMatch.Passes
 /// [Run]: crate::contracts#lexical.Rule.Run
 /// [not]: crate::contracts#std.not
-pub fn skip_to(at: Cursor<'_>, stop: u8) -> Cursor<'_>
+pub fn skip_to(at: TextCursor<'_>, stop: u8) -> TextCursor<'_>
 {
     let bytes = at.rest.as_bytes();
     let size = memchr(stop, bytes).unwrap_or(bytes.len());
@@ -51,10 +51,10 @@ pub fn from_first(text: &str, stop: u8) -> &str
 /// - `requires ascii_b`: <code>b &lt; 128</code>
 /// - `ensures`: <code>[Passes] ([Run] (λ c. [not] (c == a \|\| c == b))) at.entry result</code>
 ///
-/// [Passes]: crate::contracts#lexical.Step.Passes
+/// [Passes]: crate::contracts#lexical.RuleMatch.Passes
 /// [Run]: crate::contracts#lexical.Rule.Run
 /// [not]: crate::contracts#std.not
-pub fn skip_to_either(at: Cursor<'_>, a: u8, b: u8) -> Cursor<'_>
+pub fn skip_to_either(at: TextCursor<'_>, a: u8, b: u8) -> TextCursor<'_>
 {
     let bytes = at.rest.as_bytes();
     let size = memchr2(a, b, bytes).unwrap_or(bytes.len());

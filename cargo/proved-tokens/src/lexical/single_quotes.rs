@@ -1,7 +1,7 @@
 // Made from crates/lexical/src/single_quotes.rt by dev/erase: change that file, not this one.
 //! Character literals and byte literals.
 
-use crate::lexical::cursor::Cursor;
+use crate::lexical::cursor::TextCursor;
 use crate::lexical::escapes::escape;
 use crate::lexical::quoted::{StringKind, suffix};
 use crate::lexical::skip::one;
@@ -22,13 +22,13 @@ pub fn stands_bare(c: char, kind: StringKind) -> bool
 }
 
 /// Returns the cursor after one character that needs no escape.
-fn bare(at: Cursor<'_>, kind: StringKind) -> Option<Cursor<'_>>
+fn bare(at: TextCursor<'_>, kind: StringKind) -> Option<TextCursor<'_>>
 {
     one(at, |c| stands_bare(c, kind))
 }
 
 /// Returns the cursor after one character that needs no escape, or after a backslash and its escape.
-fn unit(at: Cursor<'_>, kind: StringKind) -> Option<Cursor<'_>>
+fn unit(at: TextCursor<'_>, kind: StringKind) -> Option<TextCursor<'_>>
 {
     match bare(at, kind) {
         Some(end) => Some(end),
@@ -47,11 +47,11 @@ fn unit(at: Cursor<'_>, kind: StringKind) -> Option<Cursor<'_>>
 ///
 /// [IsTrue]: crate::contracts#std.IsTrue
 /// [all_ascii]: crate::contracts#lexical.Ascii.all_ascii
-/// [Reads]: crate::contracts#lexical.Step.Reads
+/// [Reads]: crate::contracts#lexical.RuleMatch.Reads
 /// [single]: crate::contracts#lexical.SingleQuoted.single
 /// [is_plain]: crate::contracts#lexical.SingleQuoted.is_plain
 /// [escape]: crate::contracts#lexical.Quoted.escape
-pub fn single<'a>(at: Cursor<'a>, front: &str, kind: StringKind) -> Option<Cursor<'a>>
+pub fn single<'a>(at: TextCursor<'a>, front: &str, kind: StringKind) -> Option<TextCursor<'a>>
 {
     let end = unit(at.past(front)?, kind)?;
     Some(suffix(end.past("'")?))

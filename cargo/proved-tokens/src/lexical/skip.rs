@@ -1,7 +1,7 @@
 // Made from crates/lexical/src/skip.rt by dev/erase: change that file, not this one.
 //! A step over one character that passes a test.
 
-use crate::lexical::cursor::Cursor;
+use crate::lexical::cursor::TextCursor;
 
 /// Returns the cursor after one character if the character passes the test, and otherwise `None`.
 ///
@@ -12,9 +12,9 @@ use crate::lexical::cursor::Cursor;
 ///   ([One] test) at.entry result</code>
 ///
 /// [Bool]: crate::contracts#std.Bool
-/// [Reads]: crate::contracts#lexical.Step.Reads
+/// [Reads]: crate::contracts#lexical.RuleMatch.Reads
 /// [One]: crate::contracts#lexical.Rule.One
-pub fn one<F: Fn(char) -> bool>(at: Cursor<'_>, passes: F) -> Option<Cursor<'_>>
+pub fn one<F: Fn(char) -> bool>(at: TextCursor<'_>, passes: F) -> Option<TextCursor<'_>>
 {
     let (c, after) = at.advance()?;
     if passes(c) { Some(after) } else { None }

@@ -89,7 +89,7 @@ fn count_plain_bytes(bytes: &[u8]) -> usize
 ///
 /// [IsTrue]: crate::contracts#std.IsTrue
 /// [list_all]: crate::contracts#std.list_all
-/// [is_plain_ascii]: crate::contracts#lexical.Word.is_plain_ascii
+/// [is_plain_ascii]: crate::contracts#lexical.MachineWord.is_plain_ascii
 /// [take]: crate::contracts#std.take
 #[cfg_attr(not(debug_assertions), inline(always))]
 pub fn count_plain(bytes: &[u8]) -> usize
@@ -112,7 +112,7 @@ pub fn count_plain(bytes: &[u8]) -> usize
 ///
 /// [IsTrue]: crate::contracts#std.IsTrue
 /// [list_all]: crate::contracts#std.list_all
-/// [is_plain_ascii]: crate::contracts#lexical.Word.is_plain_ascii
+/// [is_plain_ascii]: crate::contracts#lexical.MachineWord.is_plain_ascii
 /// [take]: crate::contracts#std.take
 #[cfg_attr(not(debug_assertions), inline(always))]
 pub fn count_few_plain(bytes: &[u8]) -> usize
@@ -165,7 +165,7 @@ fn count_line_bytes(bytes: &[u8]) -> usize
 /// [length]: crate::contracts#std.length
 /// [IsTrue]: crate::contracts#std.IsTrue
 /// [list_all]: crate::contracts#std.list_all
-/// [is_line_ascii]: crate::contracts#lexical.Word.is_line_ascii
+/// [is_line_ascii]: crate::contracts#lexical.MachineWord.is_line_ascii
 /// [take]: crate::contracts#std.take
 #[cfg_attr(not(debug_assertions), inline(always))]
 pub fn count_line(bytes: &[u8]) -> usize

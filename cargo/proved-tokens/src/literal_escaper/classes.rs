@@ -5,7 +5,7 @@
 
 /// A class of characters that the rules for contents name.
 #[derive(Clone, Copy)]
-pub enum Class {
+pub enum ContentClass {
     /// A character that is skipped after a backslash and a line end.
     Blank,
     /// White space.
@@ -83,17 +83,17 @@ static CLASSES: [u8; 128] = [
 
 /// Returns the bit of the class.
 #[cfg_attr(not(debug_assertions), inline(always))]
-fn bit(class: Class) -> u8
+fn bit(class: ContentClass) -> u8
 {
     match class {
-        Class::Blank => BLANK,
-        Class::White => WHITE,
-        Class::HexDigit => HEX,
-        Class::CodeCharacter => CODE,
-        Class::SimpleEscape => SIMPLE,
-        Class::StringSpecial => IN_STRING,
-        Class::CharSpecial => IN_CHAR,
-        Class::RawSpecial => IN_RAW,
+        ContentClass::Blank => BLANK,
+        ContentClass::White => WHITE,
+        ContentClass::HexDigit => HEX,
+        ContentClass::CodeCharacter => CODE,
+        ContentClass::SimpleEscape => SIMPLE,
+        ContentClass::StringSpecial => IN_STRING,
+        ContentClass::CharSpecial => IN_CHAR,
+        ContentClass::RawSpecial => IN_RAW,
     }
 }
 
@@ -103,15 +103,15 @@ fn bit(class: Class) -> u8
 ///
 /// - `ensures`: <code>result ≡ [is_in] class c</code>
 ///
-/// [is_in]: crate::contracts#literal_escaper.Class.is_in
+/// [is_in]: crate::contracts#literal_escaper.ContentClass.is_in
 #[cfg_attr(not(debug_assertions), inline(always))]
-pub fn holds(class: Class, c: char) -> bool
+pub fn holds(class: ContentClass, c: char) -> bool
 {
     if c.is_ascii() {
         return CLASSES[c as usize] & bit(class) != 0;
     }
     match class {
-        Class::White => c.is_whitespace(),
+        ContentClass::White => c.is_whitespace(),
         _ => false,
     }
 }

@@ -1,7 +1,7 @@
 // Made from crates/literal_escaper/src/escape.rt by dev/erase: change that file, not this one.
 //! Reads escapes: what follows a backslash.
 
-use crate::literal_escaper::classes::{Class, holds};
+use crate::literal_escaper::classes::{ContentClass, holds};
 use crate::literal_escaper::content_cursor::ContentCursor;
 use crate::literal_escaper::errors::EscapeError;
 use crate::literal_escaper::kind::{Unescape, character_of};
@@ -9,7 +9,7 @@ use crate::literal_escaper::kind::{Unescape, character_of};
 /// Returns the character that a letter after a backslash means, by the rule `item-letter`.
 fn simple_escape(c: char) -> Option<char>
 {
-    if !holds(Class::SimpleEscape, c) {
+    if !holds(ContentClass::SimpleEscape, c) {
         return None;
     }
     match c {
@@ -81,7 +81,7 @@ fn one_more(count: u32) -> u32
 }
 
 /// Returns the number with the digit after it. A number above 10FFFF stays as it is.
-fn extended(number: u32, digit: u32) -> u32
+fn append_digit(number: u32, digit: u32) -> u32
 {
     if number <= 0x10_FFFF {
         16 * number + digit
@@ -97,12 +97,12 @@ fn digits(at: ContentCursor<'_>) -> Code<'_>
     let mut number: u32 = 0;
     let mut after = at;
     while let Some((c, next)) = after.advance() {
-        if !holds(Class::CodeCharacter, c) {
+        if !holds(ContentClass::CodeCharacter, c) {
             break;
         }
         if let Some(digit) = c.to_digit(16) {
             count = one_more(count);
-            number = extended(number, digit);
+            number = append_digit(number, digit);
         }
         after = next;
     }
@@ -149,7 +149,7 @@ fn braced_escape<K: Unescape>(
     if c == '}' {
         return (Err(EscapeError::EmptyUnicodeEscape), after);
     }
-    if !holds(Class::HexDigit, c) {
+    if !holds(ContentClass::HexDigit, c) {
         return (Err(EscapeError::InvalidCharInUnicodeEscape), after);
     }
     rest_of_code::<K>(at)

@@ -1,7 +1,7 @@
 // Made from crates/literal_escaper/src/front.rt by dev/erase: change that file, not this one.
 //! Reads the items at the start of a content with escapes.
 
-use crate::literal_escaper::classes::{Class, holds};
+use crate::literal_escaper::classes::{ContentClass, holds};
 use crate::literal_escaper::content_cursor::ContentCursor;
 use crate::literal_escaper::errors::EscapeError;
 use crate::literal_escaper::escape::escape;
@@ -24,7 +24,7 @@ pub struct Front<'a, U: Copy> {
 /// Whether the character is skipped after a backslash and a line end.
 fn is_blank(c: char) -> bool
 {
-    holds(Class::Blank, c)
+    holds(ContentClass::Blank, c)
 }
 
 /// Returns whether a line end is among the blanks at the cursor, and the cursor after them.
@@ -46,7 +46,7 @@ fn skip_blanks(at: ContentCursor<'_>) -> (bool, ContentCursor<'_>)
 fn unskipped_white(start: ContentCursor<'_>, after: ContentCursor<'_>) -> Option<Range<usize>>
 {
     let (c, past) = after.advance()?;
-    if holds(Class::White, c) {
+    if holds(ContentClass::White, c) {
         Some(start.byte_offset()..past.byte_offset())
     } else {
         None
@@ -81,7 +81,7 @@ fn read_unit<K: Unescape>(
     after: ContentCursor<'_>,
 ) -> (Result<K::Unit, EscapeError>, ContentCursor<'_>)
 {
-    if !holds(Class::StringSpecial, c) {
+    if !holds(ContentClass::StringSpecial, c) {
         return (K::of_char(c), after);
     }
     match c {

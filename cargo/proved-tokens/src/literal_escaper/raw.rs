@@ -1,7 +1,7 @@
 // Made from crates/literal_escaper/src/raw.rt by dev/erase: change that file, not this one.
 //! Reads raw contents, item by item.
 
-use crate::literal_escaper::classes::{Class, holds};
+use crate::literal_escaper::classes::{ContentClass, holds};
 use crate::literal_escaper::content_cursor::ContentCursor;
 use crate::literal_escaper::errors::EscapeError;
 use crate::literal_escaper::front::Item;
@@ -10,7 +10,7 @@ use crate::literal_escaper::kind::CheckRaw;
 /// Returns the unit of a character of a raw content, or an error.
 fn unit<K: CheckRaw>(c: char) -> Result<K::Unit, EscapeError>
 {
-    if holds(Class::RawSpecial, c) {
+    if holds(ContentClass::RawSpecial, c) {
         Err(EscapeError::BareCarriageReturnInRawString)
     } else {
         K::of_char(c)

@@ -1,7 +1,7 @@
 // Made from crates/literal_escaper/src/single.rt by dev/erase: change that file, not this one.
 //! Reads contents that must be one unit.
 
-use crate::literal_escaper::classes::{Class, holds};
+use crate::literal_escaper::classes::{ContentClass, holds};
 use crate::literal_escaper::content_cursor::ContentCursor;
 use crate::literal_escaper::errors::EscapeError;
 use crate::literal_escaper::escape::escape;
@@ -13,7 +13,7 @@ fn first_unit<K: Unescape>(
     after: ContentCursor<'_>,
 ) -> (Result<K::Unit, EscapeError>, ContentCursor<'_>)
 {
-    if !holds(Class::CharSpecial, c) {
+    if !holds(ContentClass::CharSpecial, c) {
         return (K::of_char(c), after);
     }
     match c {

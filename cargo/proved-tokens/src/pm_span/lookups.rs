@@ -163,13 +163,14 @@ impl Span {
     /// # Contract
     ///
     /// - `requires`: <code>[Holds] map.now self</code>
-    /// - `ensures found`: <code>[SomeIff] result ([AreInOneFile] map.now self other) ([joined] self other)</code>
+    /// - `ensures found`: <code>[SomeIff] result ([AreInOneFile] map.now self other) ([covering_span] self
+    ///   other)</code>
     /// - `ensures held`: <code>[IfSome] result (λ span. [Holds] map.now span)</code>
     ///
     /// [Holds]: crate::contracts#pm_span.Files.Holds
     /// [SomeIff]: crate::contracts#std.SomeIff
     /// [AreInOneFile]: crate::contracts#pm_span.Lookup.AreInOneFile
-    /// [joined]: crate::contracts#pm_span.Lookup.joined
+    /// [covering_span]: crate::contracts#pm_span.Lookup.covering_span
     /// [IfSome]: crate::contracts#std.IfSome
     pub fn join(self, other: Span, map: &SourceMap) -> Option<Span>
     {

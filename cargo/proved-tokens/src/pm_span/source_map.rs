@@ -20,14 +20,14 @@ pub struct SourceMap {
     /// The files from 1 on.
     files: Vec<FileInfo>,
     /// The positions that each file takes.
-    places: Vec<Place>,
+    places: Vec<FileRange>,
     /// The largest position that may be used.
     limit: u32,
 }
 
 /// The positions that a file takes.
 #[derive(Clone, Copy)]
-struct Place {
+struct FileRange {
     /// The position before its first character.
     lo: u32,
     /// The position after its last character.
@@ -35,7 +35,7 @@ struct Place {
 }
 
 /// Returns how many of the files at these ascending positions begin at or before `position`.
-fn count_begun(places: &[Place], position: u32) -> usize
+fn count_begun(places: &[FileRange], position: u32) -> usize
 {
     let Some((last, earlier)) = places.split_last() else {
         return 0;
@@ -179,7 +179,7 @@ impl SourceMap {
     {
         let lo = self.last_hi() + 1;
         let file = FileInfo::new(text, lo)?;
-        self.places.push_fallibly(Place { lo, hi: file.hi() })?;
+        self.places.push_fallibly(FileRange { lo, hi: file.hi() })?;
         match self.files.push_fallibly(file) {
             Ok(()) => Ok(()),
             Err(_) => {

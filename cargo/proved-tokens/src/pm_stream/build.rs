@@ -34,14 +34,14 @@ impl TokenStream {
     /// - `requires`: <code>[IsFiniteIterable] I.into_iter_gives I.IntoIter.can_next I.IntoIter.remaining
     ///   trees</code>
     /// - `ensures ok`: <code>[IfOk] result (λ stream. [GivesAll] I.into_iter_gives I.IntoIter.next_gives trees (λ
-    ///   trees. stream ≡ [gathered] [split] trees))</code>
+    ///   trees. stream ≡ [trees_of_all] [split] trees))</code>
     /// - `ensures memory`: <code>[IfErr] result (λ \_. [GivesAnItem] I.into_iter_gives I.IntoIter.next_gives
     ///   trees)</code>
     ///
     /// [IsFiniteIterable]: crate::contracts#std.IsFiniteIterable
     /// [IfOk]: crate::contracts#std.IfOk
     /// [GivesAll]: crate::contracts#pm_stream.Building.GivesAll
-    /// [gathered]: crate::contracts#pm_stream.Building.gathered
+    /// [trees_of_all]: crate::contracts#pm_stream.Building.trees_of_all
     /// [split]: crate::contracts#pm_stream.Building.split
     /// [IfErr]: crate::contracts#std.IfErr
     /// [GivesAnItem]: crate::contracts#pm_stream.Building.GivesAnItem
@@ -64,14 +64,14 @@ impl TokenStream {
     /// - `requires`: <code>[IsFiniteIterable] I.into_iter_gives I.IntoIter.can_next I.IntoIter.remaining
     ///   streams</code>
     /// - `ensures ok`: <code>[IfOk] result (λ stream. [GivesAll] I.into_iter_gives I.IntoIter.next_gives streams (λ
-    ///   streams. stream ≡ [gathered] (λ stream. stream) streams))</code>
+    ///   streams. stream ≡ [trees_of_all] (λ stream. stream) streams))</code>
     /// - `ensures memory`: <code>[IfErr] result (λ \_. [GivesAnItem] I.into_iter_gives I.IntoIter.next_gives
     ///   streams)</code>
     ///
     /// [IsFiniteIterable]: crate::contracts#std.IsFiniteIterable
     /// [IfOk]: crate::contracts#std.IfOk
     /// [GivesAll]: crate::contracts#pm_stream.Building.GivesAll
-    /// [gathered]: crate::contracts#pm_stream.Building.gathered
+    /// [trees_of_all]: crate::contracts#pm_stream.Building.trees_of_all
     /// [IfErr]: crate::contracts#std.IfErr
     /// [GivesAnItem]: crate::contracts#pm_stream.Building.GivesAnItem
     pub fn from_streams<I: IntoIterator<Item = TokenStream>>(

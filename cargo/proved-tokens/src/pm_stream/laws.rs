@@ -9,10 +9,10 @@
 ///
 /// # Contract
 ///
-/// - `ensures`: <code>(stream : [Forest]) → [printed] stream ≡ [ruled] stream</code>
+/// - `ensures`: <code>(stream : [Forest]) → [printed] stream ≡ [text_by_rule] stream</code>
 ///
 /// [Forest]: crate::contracts#pm_stream.Forest.Forest
 /// [printed]: crate::contracts#pm_stream.Printed.printed
-/// [ruled]: crate::contracts#pm_stream.Rule.ruled
+/// [text_by_rule]: crate::contracts#pm_stream.PrinterRule.text_by_rule
 pub fn printed_by_the_rule()
 {}

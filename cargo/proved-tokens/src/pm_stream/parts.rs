@@ -76,11 +76,11 @@ pub fn set_stream(group: &mut Group, stream: TokenStream)
 ///
 /// # Contract
 ///
-/// - `ensures ok`: <code>[OnOk] result (stream.new ≡ [joined] stream.old ([split] (GroupTree group)))</code>
+/// - `ensures ok`: <code>[OnOk] result (stream.new ≡ [chain] stream.old ([split] (GroupTree group)))</code>
 /// - `ensures err`: <code>[OnErr] result (stream.new ≡ stream.old)</code>
 ///
 /// [OnOk]: crate::contracts#std.OnOk
-/// [joined]: crate::contracts#pm_stream.Forest.joined
+/// [chain]: crate::contracts#pm_stream.Forest.chain
 /// [split]: crate::contracts#pm_stream.Building.split
 /// [OnErr]: crate::contracts#std.OnErr
 #[cfg_attr(not(debug_assertions), inline(always))]
@@ -93,11 +93,11 @@ pub fn put_group(stream: &mut TokenStream, group: Group) -> Result<(), AllocErro
 ///
 /// # Contract
 ///
-/// - `ensures ok`: <code>[OnOk] result (stream.new ≡ [joined] stream.old ([split] (IdentTree ident)))</code>
+/// - `ensures ok`: <code>[OnOk] result (stream.new ≡ [chain] stream.old ([split] (IdentTree ident)))</code>
 /// - `ensures err`: <code>[OnErr] result (stream.new ≡ stream.old)</code>
 ///
 /// [OnOk]: crate::contracts#std.OnOk
-/// [joined]: crate::contracts#pm_stream.Forest.joined
+/// [chain]: crate::contracts#pm_stream.Forest.chain
 /// [split]: crate::contracts#pm_stream.Building.split
 /// [OnErr]: crate::contracts#std.OnErr
 #[cfg_attr(not(debug_assertions), inline(always))]
@@ -110,11 +110,11 @@ pub fn put_ident(stream: &mut TokenStream, ident: Ident) -> Result<(), AllocErro
 ///
 /// # Contract
 ///
-/// - `ensures ok`: <code>[OnOk] result (stream.new ≡ [joined] stream.old ([split] (PunctTree punct)))</code>
+/// - `ensures ok`: <code>[OnOk] result (stream.new ≡ [chain] stream.old ([split] (PunctTree punct)))</code>
 /// - `ensures err`: <code>[OnErr] result (stream.new ≡ stream.old)</code>
 ///
 /// [OnOk]: crate::contracts#std.OnOk
-/// [joined]: crate::contracts#pm_stream.Forest.joined
+/// [chain]: crate::contracts#pm_stream.Forest.chain
 /// [split]: crate::contracts#pm_stream.Building.split
 /// [OnErr]: crate::contracts#std.OnErr
 #[cfg_attr(not(debug_assertions), inline(always))]
@@ -128,12 +128,11 @@ pub fn put_punct(stream: &mut TokenStream, punct: Punct) -> Result<(), AllocErro
 ///
 /// # Contract
 ///
-/// - `ensures ok`: <code>[OnOk] result (stream.new ≡ [joined] stream.old ([split] (LiteralTree
-///   literal)))</code>
+/// - `ensures ok`: <code>[OnOk] result (stream.new ≡ [chain] stream.old ([split] (LiteralTree literal)))</code>
 /// - `ensures err`: <code>[OnErr] result (stream.new ≡ stream.old)</code>
 ///
 /// [OnOk]: crate::contracts#std.OnOk
-/// [joined]: crate::contracts#pm_stream.Forest.joined
+/// [chain]: crate::contracts#pm_stream.Forest.chain
 /// [split]: crate::contracts#pm_stream.Building.split
 /// [OnErr]: crate::contracts#std.OnErr
 #[cfg_attr(not(debug_assertions), inline(always))]

@@ -118,19 +118,19 @@ pub trait TokenSink {
     /// [HasTaken]: crate::contracts#pm_stream.Taken.HasTaken
     fn literal(&mut self, lexed: Lexed<'_>) -> Result<(), AllocError>;
 
-    /// Takes a doc comment, instead of all the tokens that it expands to. `said` is its text without the comment's
+    /// Takes a doc comment, instead of all the tokens that it expands to. `doc_body` is its text without the comment's
     /// marks.
     ///
     /// # Contract
     ///
-    /// - `requires`: <code>[CanTake] took self.old lexed (kinds.Doc inner said)</code>
+    /// - `requires`: <code>[CanTake] took self.old lexed (kinds.Doc inner doc_body)</code>
     /// - `ensures`: <code>[OnOk] result ([HasTaken] took self.old self.new lexed.entry (kinds.Doc inner
-    ///   said.entry))</code>
+    ///   doc_body.entry))</code>
     ///
     /// [CanTake]: crate::contracts#pm_stream.Taken.CanTake
     /// [OnOk]: crate::contracts#std.OnOk
     /// [HasTaken]: crate::contracts#pm_stream.Taken.HasTaken
-    fn doc(&mut self, lexed: Lexed<'_>, inner: bool, said: &str) -> Result<(), AllocError>;
+    fn doc(&mut self, lexed: Lexed<'_>, inner: bool, doc_body: &str) -> Result<(), AllocError>;
 
     /// Takes a piece that is no token: the front mark, a comment that is no doc comment, or a white character. ASCII
     /// white characters right after a piece are passed to [`white`](TokenSink::white) instead.

@@ -57,17 +57,17 @@ pub fn reprint(text: &str) -> Result<String, ParseError>
 fn reprint_at(base: u32, text: &str) -> Result<String, ParseError>
 {
     let mut printer = Printer {
-        draft: TextBuilder::with_room(text.len())?,
+        text_out: TextBuilder::with_room(text.len())?,
         gap: false,
     };
     read(base, text, &mut printer)?;
-    Ok(printer.draft.into_string())
+    Ok(printer.text_out.into_string())
 }
 
 /// A sink that prints the tokens.
 struct Printer {
     /// The printed text of what was read so far.
-    draft: TextBuilder,
+    text_out: TextBuilder,
     /// Whether a space goes before what is printed next.
     gap: bool,
 }
@@ -110,8 +110,8 @@ impl TokenSink for Printer {
     }
 
     #[cfg_attr(not(debug_assertions), inline(always))]
-    fn doc(&mut self, _lexed: Lexed<'_>, inner: bool, said: &str) -> Result<(), AllocError> {
-        self.push_doc(inner, said)
+    fn doc(&mut self, _lexed: Lexed<'_>, inner: bool, doc_body: &str) -> Result<(), AllocError> {
+        self.push_doc(inner, doc_body)
     }
 
     #[cfg_attr(not(debug_assertions), inline(always))]
@@ -139,7 +139,7 @@ impl TokenSink for Printer {
         delimiter: Delimiter,
         _group: OpenGroup,
     ) -> Result<(), AllocError> {
-        push_ending(&mut self.draft, delimiter)?;
+        push_ending(&mut self.text_out, delimiter)?;
         self.gap = true;
         Ok(())
     }
@@ -150,9 +150,9 @@ impl Printer {
     fn write(&mut self, text: &str) -> Result<(), AllocError>
     {
         if self.gap {
-            self.draft.push(' ')?;
+            self.text_out.push(' ')?;
         }
-        self.draft.push_text(text)
+        self.text_out.push_text(text)
     }
 
     /// Prints the character, after a space if one goes before it. This is faster than `write` with a text of one
@@ -160,9 +160,9 @@ impl Printer {
     fn write_char(&mut self, c: char) -> Result<(), AllocError>
     {
         if self.gap {
-            self.draft.push(' ')?;
+            self.text_out.push(' ')?;
         }
-        self.draft.push(c)
+        self.text_out.push(c)
     }
 
     /// Prints a doc comment: the mark `#`, the mark `!` if it is inner, and the group of its text.
@@ -170,8 +170,8 @@ impl Printer {
     fn push_doc(&mut self, inner: bool, text: &str) -> Result<(), AllocError>
     {
         self.write(doc_front(inner))?;
-        self.draft.push_string(text)?;
-        self.draft.push(']')?;
+        self.text_out.push_string(text)?;
+        self.text_out.push(']')?;
         self.gap = true;
         Ok(())
     }
@@ -190,15 +190,15 @@ impl Printer {
 }
 
 /// Prints the closer of a group, with a space before `}`.
-fn push_ending(draft: &mut TextBuilder, delimiter: Delimiter) -> Result<(), AllocError>
+fn push_ending(text_out: &mut TextBuilder, delimiter: Delimiter) -> Result<(), AllocError>
 {
     match delimiter {
-        Delimiter::Parenthesis => draft.push(')'),
+        Delimiter::Parenthesis => text_out.push(')'),
         Delimiter::Brace => {
-            draft.push(' ')?;
-            draft.push('}')
+            text_out.push(' ')?;
+            text_out.push('}')
         }
-        Delimiter::Bracket => draft.push(']'),
+        Delimiter::Bracket => text_out.push(']'),
         Delimiter::None => Ok(()),
     }
 }

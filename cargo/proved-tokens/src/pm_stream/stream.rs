@@ -187,7 +187,7 @@ impl TokenStream {
     /// [HoldsEach]: crate::contracts#pm_stream.HeldSpans.HoldsEach
     pub fn trees(&self) -> &[TokenTree]
     {
-        listed(&self.trees)
+        listed_trees(&self.trees)
     }
 
     /// Removes and returns the last group, if the trees have no other owner. Drops the tokens after the group.
@@ -205,7 +205,7 @@ impl TokenStream {
         let Some(shared) = &mut self.trees else {
             return Err(outer);
         };
-        outer.built();
+        outer.prove_built();
         let way = Group {
             delimiter: Delimiter::None,
             stream: outer,
@@ -218,14 +218,14 @@ impl TokenStream {
     }
 
     /// States that every stream is `built`. It computes nothing: its contract hands the type's invariant to proofs.
-    fn built(&self)
+    fn prove_built(&self)
     {
         let _ = &self.trees;
     }
 }
 
 /// Returns the trees in the list, or none without a list.
-fn listed(trees: &Option<Rc<Vec<TokenTree>>>) -> &[TokenTree]
+fn listed_trees(trees: &Option<Rc<Vec<TokenTree>>>) -> &[TokenTree]
 {
     match trees {
         Some(trees) => trees.as_slice(),
@@ -337,7 +337,7 @@ impl Group {
     /// [IsBuilt]: crate::contracts#pm_stream.Forest.IsBuilt
     pub fn stream_ref(&self) -> &TokenStream
     {
-        self.stream.built();
+        self.stream.prove_built();
         &self.stream
     }
 
@@ -372,7 +372,7 @@ impl Group {
     pub fn span(&self) -> Span
     {
         // These calls compute nothing. Their contracts say that the stream is `built`, and that `lo` is at most `hi`.
-        self.stream.built();
+        self.stream.prove_built();
         bounds(self.span);
         self.span
     }

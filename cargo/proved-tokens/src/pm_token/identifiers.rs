@@ -47,7 +47,7 @@ impl Ident {
 
     /// Makes the identifier of this name, if the name is valid.
     #[cfg_attr(not(debug_assertions), inline(always))]
-    fn checked(name: &str, raw: bool, span: Span) -> Result<Ident, IdentError>
+    fn valid_ident(name: &str, raw: bool, span: Span) -> Result<Ident, IdentError>
     {
         match fault(name, raw) {
             Some(error) => Err(error),
@@ -86,7 +86,7 @@ impl Ident {
     #[cfg_attr(not(debug_assertions), inline(always))]
     pub fn new(name: &str, span: Span) -> Result<Ident, IdentError>
     {
-        Ident::checked(name, false, span)
+        Ident::valid_ident(name, false, span)
     }
 
     /// Makes the raw identifier of this name, which is given without `r#`, with this span.
@@ -116,7 +116,7 @@ impl Ident {
     #[cfg_attr(not(debug_assertions), inline(always))]
     pub fn new_raw(name: &str, span: Span) -> Result<Ident, IdentError>
     {
-        Ident::checked(name, true, span)
+        Ident::valid_ident(name, true, span)
     }
 
     /// Returns whether `text` is how the identifier is written: a raw `a` is written `r#a`, and not `a`.

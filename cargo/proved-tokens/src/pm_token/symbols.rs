@@ -149,13 +149,13 @@ impl Symbol {
     /// [chars]: crate::contracts#std.chars
     /// [IsText]: crate::contracts#pm_token.Text.IsText
     #[cfg_attr(not(debug_assertions), inline(always))]
-    pub fn joined(front: &str, back: &str) -> Option<Symbol>
+    pub fn concatenation(front: &str, back: &str) -> Option<Symbol>
     {
         if front.len() > ROOM || back.len() > ROOM - front.len() {
             return None;
         }
         Some(Symbol {
-            text: Text::Short(Short::joined(front, back)),
+            text: Text::Short(Short::concatenation(front, back)),
         })
     }
 
@@ -182,7 +182,7 @@ impl Symbol {
     #[cfg_attr(not(debug_assertions), inline(always))]
     pub fn concat(front: &str, back: &str) -> Result<Symbol, AllocError>
     {
-        match Symbol::joined(front, back) {
+        match Symbol::concatenation(front, back) {
             Some(text) => Ok(text),
             None => Symbol::long_concat(front, back),
         }

@@ -9,14 +9,14 @@ use crate::proc_macro2::Delimiter;
 pub enum Kind {
     /// No atom. It is before the first atom of a list and after the last.
     Nothing,
-    Word(Word),
+    Lexeme(Lexeme),
     Sign(Sign),
     Group(Delimiter),
 }
 
 /// A name, a keyword, a literal or a lifetime.
 #[derive(Clone, Copy, PartialEq)]
-pub enum Word {
+pub enum Lexeme {
     Name,
     /// The name of a kind of fragment in a macro's matcher, such as `expr`.
     Fragment,
@@ -174,18 +174,18 @@ impl Atom {
     /// The number of its tokens. A group counts as its opener.
     pub fn tokens(&self) -> usize {
         match self.kind {
-            Kind::Word(Word::Lifetime) => 2,
+            Kind::Lexeme(Lexeme::Lifetime) => 2,
             Kind::Sign(_) => self.width,
             _ => 1,
         }
     }
 
-    pub fn is_word(&self, word: Word) -> bool {
-        matches!(self.kind, Kind::Word(own) if own == word)
+    pub fn is_word(&self, word: Lexeme) -> bool {
+        matches!(self.kind, Kind::Lexeme(own) if own == word)
     }
 
     pub fn is_any_word(&self) -> bool {
-        matches!(self.kind, Kind::Word(_))
+        matches!(self.kind, Kind::Lexeme(_))
     }
 
     /// Whether it is this mark.
@@ -238,14 +238,20 @@ impl Atom {
     pub fn is_name(&self) -> bool {
         matches!(
             self.kind,
-            Kind::Word(Word::Name | Word::Fragment | Word::Literal | Word::String | Word::Lifetime)
+            Kind::Lexeme(
+                Lexeme::Name
+                    | Lexeme::Fragment
+                    | Lexeme::Literal
+                    | Lexeme::String
+                    | Lexeme::Lifetime
+            )
         )
     }
 
     /// Whether an operator after it has two sides.
     pub fn is_value(&self) -> bool {
         match self.kind {
-            Kind::Word(_) => self.is_name() || self.is_word(Word::Await),
+            Kind::Lexeme(_) => self.is_name() || self.is_word(Lexeme::Await),
             Kind::Group(_) => self.role != Role::Attribute,
             _ => self.role == Role::Greater || self.role == Role::After,
         }
@@ -253,29 +259,29 @@ impl Atom {
 }
 
 /// Returns what an identifier with this text is.
-pub fn word_of(text: &str) -> Word {
+pub fn word_of(text: &str) -> Lexeme {
     match text.as_bytes() {
-        b"await" => Word::Await,
-        b"else" => Word::Else,
-        b"extern" => Word::Extern,
-        b"fn" => Word::Fn,
-        b"for" => Word::For,
-        b"if" => Word::If,
-        b"impl" => Word::Impl,
-        b"in" => Word::In,
-        b"let" => Word::Let,
-        b"loop" => Word::Loop,
-        b"macro_rules" => Word::MacroRules,
-        b"match" => Word::Match,
-        b"enum" | b"mod" | b"struct" | b"trait" => Word::Item,
-        b"async" | b"const" | b"move" | b"mut" | b"static" | b"unsafe" => Word::Prefix,
-        b"pub" => Word::Pub,
-        b"break" | b"return" | b"yield" => Word::Return,
-        b"where" => Word::Where,
-        b"while" => Word::While,
-        b"as" | b"continue" | b"dyn" | b"ref" | b"type" | b"use" => Word::Keyword,
-        b"block" | b"expr" | b"ident" | b"item" | b"lifetime" | b"literal" => Word::Fragment,
-        b"meta" | b"pat" | b"path" | b"stmt" | b"tt" | b"ty" | b"vis" => Word::Fragment,
-        _ => Word::Name,
+        b"await" => Lexeme::Await,
+        b"else" => Lexeme::Else,
+        b"extern" => Lexeme::Extern,
+        b"fn" => Lexeme::Fn,
+        b"for" => Lexeme::For,
+        b"if" => Lexeme::If,
+        b"impl" => Lexeme::Impl,
+        b"in" => Lexeme::In,
+        b"let" => Lexeme::Let,
+        b"loop" => Lexeme::Loop,
+        b"macro_rules" => Lexeme::MacroRules,
+        b"match" => Lexeme::Match,
+        b"enum" | b"mod" | b"struct" | b"trait" => Lexeme::Item,
+        b"async" | b"const" | b"move" | b"mut" | b"static" | b"unsafe" => Lexeme::Prefix,
+        b"pub" => Lexeme::Pub,
+        b"break" | b"return" | b"yield" => Lexeme::Return,
+        b"where" => Lexeme::Where,
+        b"while" => Lexeme::While,
+        b"as" | b"continue" | b"dyn" | b"ref" | b"type" | b"use" => Lexeme::Keyword,
+        b"block" | b"expr" | b"ident" | b"item" | b"lifetime" | b"literal" => Lexeme::Fragment,
+        b"meta" | b"pat" | b"path" | b"stmt" | b"tt" | b"ty" | b"vis" => Lexeme::Fragment,
+        _ => Lexeme::Name,
     }
 }

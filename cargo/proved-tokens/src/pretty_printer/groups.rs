@@ -1,8 +1,8 @@
 // Made from crates/pretty_printer/src/groups.rt by dev/erase: change that file, not this one.
 //! Breaks the lines of groups and of items.
 
-use crate::pretty_printer::atoms::{Atom, Kind, Role, Word};
-use crate::pretty_printer::lines::{Step, Task, WIDTH, deeper};
+use crate::pretty_printer::atoms::{Atom, Kind, Lexeme, Role};
+use crate::pretty_printer::lines::{LayStep, Task, WIDTH, deeper};
 use crate::pretty_printer::tree::{Form, NOWHERE, Node, Tree};
 use crate::layout::Gap;
 
@@ -27,14 +27,14 @@ impl Tree {
         }
         // The last part goes on over the next lines, as if there were no delimiters.
         let last = *self.node(own.last);
-        self.open_group(Step::Shut, task);
+        self.open_group(LayStep::Shut, task);
         self.put(own.from, last.first);
         self.lead(&own, last.first);
         self.lay(own.last, task.indent, task.tail.saturating_add(1));
     }
 
     /// Writes the opener of a group, and leaves its closer to this step.
-    fn open_group(&mut self, step: Step, task: &Task) {
+    fn open_group(&mut self, step: LayStep, task: &Task) {
         self.put_mark();
         self.is_shut = false;
         self.push(step, task, NOWHERE, NOWHERE);
@@ -49,12 +49,12 @@ impl Tree {
         }
         let mut lines = *task;
         lines.node = group;
-        self.open_group(Step::Close, &lines);
+        self.open_group(LayStep::Close, &lines);
         self.push_parts(self.step_of(&own), &lines, group);
     }
 
     /// Leaves the parts of a list to this step. Their lines are deeper than those of the task.
-    fn push_parts(&mut self, step: Step, task: &Task, list: usize) {
+    fn push_parts(&mut self, step: LayStep, task: &Task, list: usize) {
         let mut parts = *task;
         parts.node = list;
         parts.indent = deeper(task.indent);
@@ -62,7 +62,7 @@ impl Tree {
     }
 
     /// Returns the step that writes the parts of a group.
-    fn step_of(&self, own: &Node) -> Step {
+    fn step_of(&self, own: &Node) -> LayStep {
         let atom = self.atom(own.first);
         let several = own.child != own.last;
         let list = atom.is_list() && !matches!(atom.role, Role::Params | Role::Repeated);
@@ -70,9 +70,9 @@ impl Tree {
         let most = if meta { usize::MAX } else { SHORT };
         let short = list && several && self.are_short(own.from, own.until, Role::Comma, most);
         match atom.role {
-            Role::Use if self.has(own.from, own.until, Role::Use) => Step::Names,
-            role if role == Role::Use || short => Step::Fill,
-            _ => Step::Part,
+            Role::Use if self.has(own.from, own.until, Role::Use) => LayStep::Names,
+            role if role == Role::Use || short => LayStep::Fill,
+            _ => LayStep::Part,
         }
     }
 
@@ -103,8 +103,8 @@ impl Tree {
         }
         let fills = match task.step {
             // A path in imports with inner lists has its own line.
-            Step::Names => !self.has(last.first, part.end, Role::Path),
-            step => step == Step::Fill,
+            LayStep::Names => !self.has(last.first, part.end, Role::Path),
+            step => step == LayStep::Fill,
         };
         if !first && fills && self.fits(part, 2) {
             self.lead(own, part.first);
@@ -131,8 +131,13 @@ impl Tree {
     fn is_item(&self, part: &Node) -> bool {
         let begins = matches!(
             self.atom(part.first).kind,
-            Kind::Word(
-                Word::Pub | Word::Fn | Word::Impl | Word::Item | Word::Prefix | Word::Keyword
+            Kind::Lexeme(
+                Lexeme::Pub
+                    | Lexeme::Fn
+                    | Lexeme::Impl
+                    | Lexeme::Item
+                    | Lexeme::Prefix
+                    | Lexeme::Keyword
             )
         );
         begins && (self.atom(part.end).is_mark(';') || self.previous(part.end).is_brace())
@@ -143,15 +148,15 @@ impl Tree {
         let atom = *self.atom(child.first);
         if child.form == Form::Bounds {
             self.write(own, task.at, child.first);
-            if task.step == Step::Broken && self.is_shut {
+            if task.step == LayStep::Broken && self.is_shut {
                 // They go on after the parameters.
                 self.lead(own, child.first);
             } else {
                 self.begin_line(child.first, task.indent);
             }
             self.put(child.first, child.from);
-            self.leave(Step::Apart, task, child);
-            return self.push_parts(Step::Part, task, task.child);
+            self.leave(LayStep::Apart, task, child);
+            return self.push_parts(LayStep::Part, task, task.child);
         }
         if child.first >= own.until {
             return self.next_body(task, own, child, &atom);
@@ -162,7 +167,7 @@ impl Tree {
             return self.push(task.step, task, child.next, task.at);
         }
         self.reach(task, own, child, false);
-        self.leave(Step::Broken, task, child);
+        self.leave(LayStep::Broken, task, child);
         if atom.role == Role::Params {
             return self.lay_lines(task, task.child);
         }
@@ -172,9 +177,9 @@ impl Tree {
 
     /// Writes the body of an item. An empty one after a head of several lines has two lines.
     fn next_body(&mut self, task: &Task, own: &Node, child: &Node, brace: &Atom) {
-        self.reach(task, own, child, task.step == Step::Apart);
-        self.leave(Step::Next, task, child);
-        if task.step != Step::Next && !brace.is_full() {
+        self.reach(task, own, child, task.step == LayStep::Apart);
+        self.leave(LayStep::Next, task, child);
+        if task.step != LayStep::Next && !brace.is_full() {
             self.put_mark();
             return self.close(child, task.indent);
         }

@@ -1,7 +1,7 @@
 // Made from crates/pretty_printer/src/parts.rt by dev/erase: change that file, not this one.
 //! Reads the parts of lists: statements, items, arms, fields and arguments.
 
-use crate::pretty_printer::atoms::{Kind, Role, Word};
+use crate::pretty_printer::atoms::{Kind, Lexeme, Role};
 use crate::pretty_printer::tree::{Form, NOWHERE, Node, Tree};
 
 /// The width in characters up to which a part is not read, because no rule breaks its line.
@@ -86,13 +86,14 @@ impl Tree {
         for index in first..end {
             let own = self.atom(index);
             match own.kind {
-                Kind::Word(Word::Impl | Word::Item) if block => {
+                Kind::Lexeme(Lexeme::Impl | Lexeme::Item) if block => {
                     return self.read_item(first, index, end);
                 }
-                Kind::Word(Word::Fn) if block && self.find_role(index, end, Role::Params) < end => {
+                Kind::Lexeme(Lexeme::Fn)
+                    if block && self.find_role(index, end, Role::Params) < end => {
                     return self.read_item(first, index, end);
                 }
-                Kind::Word(Word::Pub | Word::Prefix | Word::Extern | Word::String) => {}
+                Kind::Lexeme(Lexeme::Pub | Lexeme::Prefix | Lexeme::Extern | Lexeme::String) => {}
                 _ if own.is_list() || own.role == Role::Hash => {}
                 _ => break,
             }
@@ -103,7 +104,7 @@ impl Tree {
     /// Reads an item, whose keyword is the atom at `at`: its generics, its parameters, its bounds and its body.
     fn read_item(&mut self, first: usize, at: usize, end: usize) -> usize {
         let node = self.push_node(Form::Item, first, end);
-        let impls = self.atom(at).is_word(Word::Impl);
+        let impls = self.atom(at).is_word(Lexeme::Impl);
         let last = *self.previous(end);
         let stop = end.saturating_sub(last.is_brace() as usize);
         let head = self.find_role(at, stop, Role::Where);

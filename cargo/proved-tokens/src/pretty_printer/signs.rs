@@ -3,7 +3,7 @@
 
 use crate::shim::prelude::Grow;
 
-use crate::pretty_printer::atoms::{Atom, Kind, Role, Sign, Word};
+use crate::pretty_printer::atoms::{Atom, Kind, Lexeme, Role, Sign};
 use crate::pretty_printer::roles::{Head, State, is_item};
 use crate::pretty_printer::tree::{NOWHERE, Tree};
 
@@ -40,9 +40,9 @@ pub fn pair_angles(tree: &mut Tree, index: usize, end: usize) {
 /// Returns whether no type goes on with the atom after this one.
 fn ends_types(atom: &Atom, previous: &Atom) -> bool {
     match atom.kind {
-        Kind::Word(word) => matches!(
+        Kind::Lexeme(word) => matches!(
             word,
-            Word::String | Word::If | Word::Let | Word::Match | Word::Else
+            Lexeme::String | Lexeme::If | Lexeme::Let | Lexeme::Match | Lexeme::Else
         ),
         // Braces may be an argument, as in `f::<{ N }>()`.
         Kind::Group(_) => {
@@ -119,7 +119,7 @@ fn bang_role(previous: &Atom, next: &Atom, value: bool) -> Role {
     let called = previous.is_any_word() && value && !next.is_sign();
     if previous.is_mark('#') {
         Role::Hash
-    } else if called || previous.is_word(Word::MacroRules) {
+    } else if called || previous.is_word(Lexeme::MacroRules) {
         Role::Bang
     } else if matches!(previous.kind, Kind::Sign(Sign::Arrow)) {
         // It is a type.
@@ -163,7 +163,10 @@ pub fn wants_space(tree: &Tree, index: usize, previous: &Atom, next: &Atom, role
         return is_wide(tree, index, previous, next);
     }
     if next.is_sign() && matches!(role, Role::Path | Role::Range | Role::Less) {
-        let opens = matches!(previous.kind, Kind::Word(Word::Impl | Word::For | Word::Fn));
+        let opens = matches!(
+            previous.kind,
+            Kind::Lexeme(Lexeme::Impl | Lexeme::For | Lexeme::Fn)
+        );
         let keyword = previous.is_any_word() && !previous.is_name();
         return keyword && !(opens && role == Role::Less);
     }
@@ -171,10 +174,10 @@ pub fn wants_space(tree: &Tree, index: usize, previous: &Atom, next: &Atom, role
         return true;
     }
     match previous.kind {
-        Kind::Word(Word::Pub) => !next.is_round(),
-        Kind::Word(Word::Fn | Word::Await | Word::MacroRules) => false,
-        Kind::Word(Word::Lifetime) => true,
-        Kind::Word(_) => !previous.is_name(),
+        Kind::Lexeme(Lexeme::Pub) => !next.is_round(),
+        Kind::Lexeme(Lexeme::Fn | Lexeme::Await | Lexeme::MacroRules) => false,
+        Kind::Lexeme(Lexeme::Lifetime) => true,
+        Kind::Lexeme(_) => !previous.is_name(),
         _ => previous.is_brace() || previous.role == Role::Attribute,
     }
 }
@@ -191,7 +194,7 @@ fn is_wide(tree: &Tree, index: usize, previous: &Atom, next: &Atom) -> bool {
     match previous.role {
         Role::Colon => {
             let dollar = tree.atom(index.saturating_sub(3));
-            !(dollar.is_mark('$') && next.is_word(Word::Fragment))
+            !(dollar.is_mark('$') && next.is_word(Lexeme::Fragment))
         }
         Role::Bang => !next.is_list(),
         Role::Plain | Role::Between | Role::Arm | Role::BarClose => true,

@@ -63,7 +63,7 @@ impl StreamBuilder {
         match &mut self.trees {
             Trees::Listed(list) => push(list, tree)?,
             Trees::Shared(stream) => {
-                let mut list = listed(stream, more.saturating_add(1))?;
+                let mut list = copy_list(stream, more.saturating_add(1))?;
                 push(&mut list, tree)?;
                 self.trees = Trees::Listed(list);
             }
@@ -78,7 +78,7 @@ impl StreamBuilder {
         match &mut self.trees {
             Trees::Listed(list) => copy_onto(list, tree)?,
             Trees::Shared(stream) => {
-                let mut list = listed(stream, more.saturating_add(1))?;
+                let mut list = copy_list(stream, more.saturating_add(1))?;
                 copy_onto(&mut list, tree)?;
                 self.trees = Trees::Listed(list);
             }
@@ -97,7 +97,7 @@ impl StreamBuilder {
                 push_copies(list, trees)?;
             }
             Trees::Shared(stream) => {
-                let mut list = listed(stream, more.saturating_add(trees.len()))?;
+                let mut list = copy_list(stream, more.saturating_add(trees.len()))?;
                 push_copies(&mut list, trees)?;
                 self.trees = Trees::Listed(list);
             }
@@ -136,7 +136,7 @@ impl StreamBuilder {
 
 /// Returns a list of copies of the stream's trees, with room for `more` trees but at most `MOST_ROOM` in all.
 #[inline(never)]
-fn listed(stream: &TokenStream, more: usize) -> Result<Vec<TokenTree>, AllocError>
+fn copy_list(stream: &TokenStream, more: usize) -> Result<Vec<TokenTree>, AllocError>
 {
     let trees = stream.trees();
     let room = trees.len().saturating_add(more).min(MOST_ROOM);

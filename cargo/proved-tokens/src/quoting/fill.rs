@@ -11,14 +11,14 @@ use crate::quoting::errors::TemplateError;
 use crate::quoting::holes::Hole;
 use crate::quoting::interpolation::{FoundInterpolation, Repetition, interpolation_at};
 use crate::quoting::putting::put_name;
-use crate::quoting::respace::{regrouped, spaced};
-use crate::quoting::turns::{checked, turns_of};
+use crate::quoting::respace::{mark_as, with_contents};
+use crate::quoting::turns::{check_turns, turns_of};
 use crate::proc_macro2::{Group, Punct, Spacing, TokenStream, TokenTree};
 use crate::shim::alloc::AllocError;
 
 /// Returns the template with its holes filled in these turns of repetitions, the outermost first. Groups may nest up
 /// to `depth` deep.
-pub(crate) fn filled(
+pub(crate) fn fill_template(
     template: &TokenStream,
     holes: &[Hole<'_>],
     turns: &[usize],
@@ -31,7 +31,7 @@ pub(crate) fn filled(
     Ok(out.finish()?)
 }
 
-/// Adds the trees of the template to the stream, with their holes filled as `filled` does.
+/// Adds the trees of the template to the stream, with their holes filled as `fill_template` does.
 fn fill_onto(
     out: &mut StreamBuilder,
     template: &[TokenTree],
@@ -46,7 +46,7 @@ fn fill_onto(
             None => {
                 if let TokenTree::Group(group) = tree {
                     let inside = filled_inside(group, holes, turns, depth)?;
-                    out.put(TokenTree::Group(regrouped(group, inside)), after.len())?;
+                    out.put(TokenTree::Group(with_contents(group, inside)), after.len())?;
                 } else {
                     out.put(apart_before(tree, after)?, after.len())?;
                 }
@@ -69,7 +69,7 @@ fn fill_onto(
 fn apart_before(tree: &TokenTree, after: &[TokenTree]) -> Result<TokenTree, AllocError>
 {
     match tree {
-        TokenTree::Punct(mark) if has_meaning(after) => Ok(TokenTree::Punct(spaced(
+        TokenTree::Punct(mark) if has_meaning(after) => Ok(TokenTree::Punct(mark_as(
             mark,
             Spacing::Alone,
         ))),
@@ -102,7 +102,7 @@ fn filled_inside(
     if are_fixed(template.trees()) {
         return Ok(template.try_clone()?);
     }
-    filled(template, holes, turns, inner)
+    fill_template(template, holes, turns, inner)
 }
 
 /// Returns whether no tree is a group or a `#`, so that filling changes nothing.
@@ -144,7 +144,7 @@ pub(crate) fn repeat_onto(
     let Some(count) = turns_of(trees, holes, turns)? else {
         return Err(TemplateError::NoList(body.span()));
     };
-    checked(trees, holes, turns, inner, count)?;
+    check_turns(trees, holes, turns, inner, count)?;
     for turn in 0..count {
         separate(out, repetition.separator, turn, trees.len())?;
         fill_turn(out, trees, holes, turns, turn, inner)?;
@@ -189,7 +189,7 @@ fn separate(
 ) -> Result<(), AllocError>
 {
     match separator {
-        Some(mark) if turn > 0 => out.put(TokenTree::Punct(spaced(mark, Spacing::Alone)), more),
+        Some(mark) if turn > 0 => out.put(TokenTree::Punct(mark_as(mark, Spacing::Alone)), more),
         _ => Ok(()),
     }
 }

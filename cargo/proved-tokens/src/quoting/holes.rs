@@ -35,10 +35,10 @@ impl<'a> Hole<'a> {
     ///
     /// # Contract
     ///
-    /// - `ensures`: <code>[named] result ≡ record { name = [chars] name.now; filling = [OneStream] stream.now
-    ///   }</code>
+    /// - `ensures`: <code>[name_and_filling] result ≡ record { name = [chars] name.now; filling = [OneStream]
+    ///   stream.now }</code>
     ///
-    /// [named]: crate::contracts#quoting.Given.named
+    /// [name_and_filling]: crate::contracts#quoting.Given.name_and_filling
     /// [chars]: crate::contracts#std.chars
     /// [OneStream]: crate::contracts#quoting.Items.One
     pub fn one(name: &'a str, stream: &'a TokenStream) -> Hole<'a>
@@ -53,10 +53,10 @@ impl<'a> Hole<'a> {
     ///
     /// # Contract
     ///
-    /// - `ensures`: <code>[named] result ≡ record { name = [chars] name.now; filling = [EachStream] ([each_of]
-    ///   [OneStream] streams.now) }</code>
+    /// - `ensures`: <code>[name_and_filling] result ≡ record { name = [chars] name.now; filling = [EachStream]
+    ///   ([each_of] [OneStream] streams.now) }</code>
     ///
-    /// [named]: crate::contracts#quoting.Given.named
+    /// [name_and_filling]: crate::contracts#quoting.Given.name_and_filling
     /// [chars]: crate::contracts#std.chars
     /// [EachStream]: crate::contracts#quoting.Items.Each
     /// [each_of]: crate::contracts#quoting.Items.each_of
@@ -75,10 +75,10 @@ impl<'a> Hole<'a> {
     ///
     /// # Contract
     ///
-    /// - `ensures`: <code>[named] result ≡ record { name = [chars] name.now; filling = [value_of] value.now
-    ///   }</code>
+    /// - `ensures`: <code>[name_and_filling] result ≡ record { name = [chars] name.now; filling = [value_of]
+    ///   value.now }</code>
     ///
-    /// [named]: crate::contracts#quoting.Given.named
+    /// [name_and_filling]: crate::contracts#quoting.Given.name_and_filling
     /// [chars]: crate::contracts#std.chars
     /// [value_of]: crate::contracts#quoting.Values.value_of
     pub fn of(name: &'a str, value: &'a Value<'a>) -> Hole<'a>
@@ -181,7 +181,7 @@ fn item_len(item: &Item) -> Option<usize>
 /// The tree that names a hole in a template.
 #[derive(Clone, Copy)]
 pub(crate) enum HoleName<'a> {
-    Word(&'a Ident),
+    IdentName(&'a Ident),
     Digits(&'a Literal),
 }
 
@@ -190,7 +190,7 @@ impl<'a> HoleName<'a> {
     pub(crate) fn span(&self) -> Span
     {
         match self {
-            HoleName::Word(ident) => ident.span(),
+            HoleName::IdentName(ident) => ident.span(),
             HoleName::Digits(literal) => literal.span(),
         }
     }
@@ -199,13 +199,13 @@ impl<'a> HoleName<'a> {
     fn is(&self, text: &str) -> bool
     {
         match self {
-            HoleName::Word(ident) => ident.eq_str(text),
+            HoleName::IdentName(ident) => ident.eq_str(text),
             HoleName::Digits(literal) => literal.text() == text,
         }
     }
 
     /// Returns the value of the first hole of this name.
-    fn found<'h>(&self, holes: &[Hole<'h>]) -> Option<Filling<'h>>
+    fn filling_of_name<'h>(&self, holes: &[Hole<'h>]) -> Option<Filling<'h>>
     {
         for hole in holes {
             if self.is(hole.name) {
@@ -218,7 +218,7 @@ impl<'a> HoleName<'a> {
     /// Returns the value of the first hole of this name in these turns of repetitions, the outermost first.
     pub(crate) fn filling<'h>(&self, holes: &[Hole<'h>], turns: &[usize]) -> Option<Filling<'h>>
     {
-        let mut filling = self.found(holes)?;
+        let mut filling = self.filling_of_name(holes)?;
         for turn in turns {
             filling = filling.in_turn(*turn);
         }

@@ -30,12 +30,12 @@ pub(crate) fn interpolation_at<'a>(
     if !is_mark(tree, '#') {
         return None;
     }
-    begun(after)
+    interpolation_after(after)
 }
 
 /// Returns the hole or the repetition that a `#` before these trees begins.
 #[inline(never)]
-fn begun(after: &[TokenTree]) -> Option<FoundInterpolation<'_>>
+fn interpolation_after(after: &[TokenTree]) -> Option<FoundInterpolation<'_>>
 {
     let (first, rest) = after.split_first()?;
     if let TokenTree::Group(body) = first {
@@ -70,7 +70,7 @@ fn repetition_of<'a>(body: &'a Group, after: &'a [TokenTree]) -> Option<FoundInt
 fn name_of(tree: &TokenTree) -> Option<HoleName<'_>>
 {
     match tree {
-        TokenTree::Ident(ident) => Some(HoleName::Word(ident)),
+        TokenTree::Ident(ident) => Some(HoleName::IdentName(ident)),
         TokenTree::Literal(literal) if all_digits(literal.text()) => Some(HoleName::Digits(
             literal,
         )),

@@ -40,7 +40,7 @@ impl Values {
     /// [OnErr]: crate::contracts#std.OnErr
     pub fn push(&mut self, value: Value<'_>) -> Result<(), AllocError>
     {
-        let item = kept(value)?;
+        let item = item_filling(value)?;
         self.put(item)
     }
 
@@ -65,7 +65,7 @@ impl Values {
 }
 
 /// Returns a copy of the value for a list, which owns its tokens.
-fn kept(value: Value<'_>) -> Result<Item, AllocError>
+fn item_filling(value: Value<'_>) -> Result<Item, AllocError>
 {
     match value {
         Value::Nothing => Ok(Item::Stream(TokenStream::new())),

@@ -10,7 +10,7 @@ use crate::quoting::fill::{are_fixed, has_meaning, repeat_onto};
 use crate::quoting::holes::Hole;
 use crate::quoting::interpolation::{FoundInterpolation, interpolation_at};
 use crate::quoting::putting::put_name;
-use crate::quoting::respace::spaced;
+use crate::quoting::respace::mark_as;
 use crate::pm_stream::parts;
 use crate::proc_macro2::{Group, Spacing, TokenStream, TokenTree};
 
@@ -105,7 +105,7 @@ fn change(
         TokenTree::Group(group) => fill_group(group, holes, depth),
         TokenTree::Punct(mark) => {
             if apart {
-                *mark = spaced(mark, Spacing::Alone);
+                *mark = mark_as(mark, Spacing::Alone);
             }
             Ok(())
         }

@@ -6,7 +6,7 @@ use crate::shim::prelude::TryClone;
 use crate::quoting::errors::QuoteError;
 use crate::quoting::faults::are_well_spaced;
 use crate::quoting::laws;
-use crate::quoting::respace::respaced;
+use crate::quoting::respace::respace_marks;
 use crate::proc_macro2::{TokenStream, TokenTree};
 use crate::shim::alloc::AllocError;
 
@@ -38,11 +38,11 @@ impl Quote {
     ///
     /// # Contract
     ///
-    /// - `ensures ok`: <code>[OnOk] result (self.new ≡ [joined] self.old ([split] tree))</code>
+    /// - `ensures ok`: <code>[OnOk] result (self.new ≡ [chain] self.old ([split] tree))</code>
     /// - `ensures err`: <code>[OnErr] result (self.new ≡ self.old)</code>
     ///
     /// [OnOk]: crate::contracts#std.OnOk
-    /// [joined]: crate::contracts#pm_stream.Forest.joined
+    /// [chain]: crate::contracts#pm_stream.Forest.chain
     /// [split]: crate::contracts#pm_stream.Building.split
     /// [OnErr]: crate::contracts#std.OnErr
     pub fn push(&mut self, tree: TokenTree) -> Result<(), AllocError>
@@ -56,11 +56,11 @@ impl Quote {
     ///
     /// # Contract
     ///
-    /// - `ensures ok`: <code>[OnOk] result (self.new ≡ [joined] self.old stream)</code>
+    /// - `ensures ok`: <code>[OnOk] result (self.new ≡ [chain] self.old stream)</code>
     /// - `ensures err`: <code>[OnErr] result (self.new ≡ self.old)</code>
     ///
     /// [OnOk]: crate::contracts#std.OnOk
-    /// [joined]: crate::contracts#pm_stream.Forest.joined
+    /// [chain]: crate::contracts#pm_stream.Forest.chain
     /// [OnErr]: crate::contracts#std.OnErr
     pub fn push_stream(&mut self, stream: TokenStream) -> Result<(), AllocError>
     {
@@ -98,8 +98,8 @@ impl Quote {
     ///
     /// # Contract
     ///
-    /// - `ensures ok`: <code>[IfOk] result (λ stream. (stream ≡ [respaced] self.now) × ([first_fault] self.now ≡
-    ///   [None]))</code>
+    /// - `ensures ok`: <code>[IfOk] result (λ stream. (stream ≡ [respace_marks] self.now) × ([first_fault] self.now
+    ///   ≡ [None]))</code>
     /// - `ensures spaced`: <code>[IfOk] result [IsWellSpaced]</code>
     /// - `ensures keeps`: <code>[IfOk] result ([KeepsAllItMay] self.now)</code>
     /// - `ensures unchanged`: <code>[IfOk] result (λ stream. [IsWellSpaced] self.now → stream ≡ self.now)</code>
@@ -107,7 +107,7 @@ impl Quote {
     /// - `ensures hopeless`: <code>[IfErr] result ([HopelessIfNamed] self.now)</code>
     ///
     /// [IfOk]: crate::contracts#std.IfOk
-    /// [respaced]: crate::contracts#quoting.Respaced.respaced
+    /// [respace_marks]: crate::contracts#quoting.Respaced.respace_marks
     /// [first_fault]: crate::contracts#quoting.Fault.first_fault
     /// [None]: crate::contracts#std.None
     /// [IsWellSpaced]: crate::contracts#pm_stream.WellSpaced.IsWellSpaced
@@ -126,6 +126,6 @@ impl Quote {
         if are_well_spaced(self.pushed.trees())? {
             return Ok(self.pushed.try_clone()?);
         }
-        Ok(respaced(&self.pushed)?)
+        Ok(respace_marks(&self.pushed)?)
     }
 }

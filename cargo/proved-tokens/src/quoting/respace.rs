@@ -11,7 +11,7 @@ use crate::proc_macro2::{Group, Punct, Spacing, TokenStream, TokenTree, laws};
 use crate::shim::alloc::AllocError;
 
 /// Returns the stream with its marks respaced at any depth. Fails if memory runs out.
-pub(crate) fn respaced(stream: &TokenStream) -> Result<TokenStream, AllocError>
+pub(crate) fn respace_marks(stream: &TokenStream) -> Result<TokenStream, AllocError>
 {
     let mut outer: Vec<RespacedList<'_>> = Vec::new();
     let mut here = RespacedList::new(stream);
@@ -72,7 +72,7 @@ impl<'a> RespacedList<'a> {
         if let TokenTree::Punct(mark) = tree {
             let spacing = kept_spacing(mark, after);
             if spacing != mark.spacing() {
-                return self.replace(TokenTree::Punct(spaced(mark, spacing)));
+                return self.replace(TokenTree::Punct(mark_as(mark, spacing)));
             }
         }
         self.keep(tree)
@@ -91,7 +91,9 @@ impl<'a> RespacedList<'a> {
         let RespacedList { changed, .. } = inner;
         match changed {
             None => self.keep(tree),
-            Some(changed) => { self.replace(TokenTree::Group(regrouped(group, changed))) }
+            Some(changed) => {
+                self.replace(TokenTree::Group(with_contents(group, changed)))
+            }
         }
     }
 
@@ -110,7 +112,7 @@ impl<'a> RespacedList<'a> {
     {
         let mut changed = match self.changed.take() {
             Some(changed) => changed,
-            None => copied(&self.trees[..self.done])?,
+            None => copy_trees(&self.trees[..self.done])?,
         };
         put(&mut changed, tree)?;
         self.changed = Some(changed);
@@ -134,7 +136,7 @@ impl<'a> RespacedList<'a> {
 }
 
 /// Returns a stream of copies of the trees. A copy of a group shares its contents.
-fn copied(trees: &[TokenTree]) -> Result<TokenStream, AllocError>
+fn copy_trees(trees: &[TokenTree]) -> Result<TokenStream, AllocError>
 {
     let mut stream = TokenStream::new();
     for tree in trees {
@@ -162,7 +164,7 @@ fn kept_spacing(mark: &Punct, after: &[TokenTree]) -> Spacing
 }
 
 /// Returns the mark with this spacing and the same span.
-pub(crate) fn spaced(mark: &Punct, spacing: Spacing) -> Punct
+pub(crate) fn mark_as(mark: &Punct, spacing: Spacing) -> Punct
 {
     let span = mark.span();
     let mut spaced = Punct::new(mark.as_char(), spacing);
@@ -171,7 +173,7 @@ pub(crate) fn spaced(mark: &Punct, spacing: Spacing) -> Punct
 }
 
 /// Returns the group with these contents, and with the same delimiters and span.
-pub(crate) fn regrouped(group: &Group, stream: TokenStream) -> Group
+pub(crate) fn with_contents(group: &Group, stream: TokenStream) -> Group
 {
     let mut regrouped = Group::new(group.delimiter(), stream);
     regrouped.set_span(group.span());

@@ -2,7 +2,7 @@
 //! The calls of `Quote` that fill a template.
 
 use crate::quoting::errors::TemplateError;
-use crate::quoting::fill::filled;
+use crate::quoting::fill::fill_template;
 use crate::quoting::holes::Hole;
 use crate::quoting::owned::filled_in_place;
 use crate::quoting::quote::Quote;
@@ -29,25 +29,25 @@ impl Quote {
     ///
     /// # Contract
     ///
-    /// - `ensures ok`: <code>[OnOk] result ((stream : [Forest]) × ([filled] ([named_all] holes.now) template.now ≡
-    ///   [Ok] stream) × (self.new ≡ [joined] self.old stream))</code>
-    /// - `ensures fault`: <code>[IfErr] result (λ fault. [UnlessMemory] fault ([filled] ([named_all] holes.now)
-    ///   template.now ≡ [Err] fault))</code>
+    /// - `ensures ok`: <code>[OnOk] result ((stream : [Forest]) × ([fill_template] ([named_all] holes.now)
+    ///   template.now ≡ [Ok] stream) × (self.new ≡ [chain] self.old stream))</code>
+    /// - `ensures fault`: <code>[IfErr] result (λ fault. [UnlessMemory] fault ([fill_template] ([named_all]
+    ///   holes.now) template.now ≡ [Err] fault))</code>
     /// - `ensures kept`: <code>[OnErr] result (self.new ≡ self.old)</code>
     ///
     /// [OnOk]: crate::contracts#std.OnOk
     /// [Forest]: crate::contracts#pm_stream.Forest.Forest
-    /// [filled]: crate::contracts#quoting.Filled.filled
+    /// [fill_template]: crate::contracts#quoting.Filled.fill_template
     /// [named_all]: crate::contracts#quoting.Given.named_all
     /// [Ok]: crate::contracts#std.Ok
-    /// [joined]: crate::contracts#pm_stream.Forest.joined
+    /// [chain]: crate::contracts#pm_stream.Forest.chain
     /// [IfErr]: crate::contracts#std.IfErr
     /// [UnlessMemory]: crate::contracts#quoting.Given.UnlessMemory
     /// [Err]: crate::contracts#std.Err
     /// [OnErr]: crate::contracts#std.OnErr
     pub fn fill(&mut self, template: &TokenStream, holes: &[Hole<'_>]) -> Result<(), TemplateError>
     {
-        let stream = filled(template, holes, &[], DEPTH_LIMIT)?;
+        let stream = fill_template(template, holes, &[], DEPTH_LIMIT)?;
         self.push_stream(stream)?;
         Ok(())
     }
@@ -66,8 +66,8 @@ impl Quote {
     /// # Contract
     ///
     /// - `ensures ok`: <code>[OnOk] result ((trees : [Forest]) × (stream : [Forest]) × [ParsesTo] ([next_lo]
-    ///   map.old) ([chars] template.now) trees × ([filled] ([named_all] holes.now) trees ≡ [Ok] stream) × (self.new
-    ///   ≡ [joined] self.old stream))</code>
+    ///   map.old) ([chars] template.now) trees × ([fill_template] ([named_all] holes.now) trees ≡ [Ok] stream) ×
+    ///   (self.new ≡ [chain] self.old stream))</code>
     /// - `ensures fault`: <code>[IfErr] result ([IsTextFault] ([next_lo] map.old) ([chars] template.now)
     ///   ([named_all] holes.now))</code>
     /// - `ensures map_full`: <code>(result ≡ [Err] (TemplateError.Parse ParseError.MapFull)) ↔ ([Fits] map.old
@@ -80,10 +80,10 @@ impl Quote {
     /// [ParsesTo]: crate::contracts#pm_stream.Parsing.ParsesTo
     /// [next_lo]: crate::contracts#pm_span.Files.next_lo
     /// [chars]: crate::contracts#std.chars
-    /// [filled]: crate::contracts#quoting.Filled.filled
+    /// [fill_template]: crate::contracts#quoting.Filled.fill_template
     /// [named_all]: crate::contracts#quoting.Given.named_all
     /// [Ok]: crate::contracts#std.Ok
-    /// [joined]: crate::contracts#pm_stream.Forest.joined
+    /// [chain]: crate::contracts#pm_stream.Forest.chain
     /// [IfErr]: crate::contracts#std.IfErr
     /// [IsTextFault]: crate::contracts#quoting.TextFault.IsTextFault
     /// [Err]: crate::contracts#std.Err

@@ -51,7 +51,7 @@ fn named_length(
 
 /// Checks the names in a repetition of `count` turns, also in the repetitions inside it. Groups may nest up to `depth`
 /// deep. Fails with the first error in reading order.
-pub(crate) fn checked(
+pub(crate) fn check_turns(
     trees: &[TokenTree],
     holes: &[Hole<'_>],
     turns: &[usize],
@@ -65,7 +65,7 @@ pub(crate) fn checked(
             let Some(inner) = depth.checked_sub(1) else {
                 return Err(TemplateError::TooDeep(group.span()));
             };
-            checked(group.stream_ref().trees(), holes, turns, inner, count)?;
+            check_turns(group.stream_ref().trees(), holes, turns, inner, count)?;
         } else {
             interpolation_checked(tree, after, holes, turns, count)?;
         }

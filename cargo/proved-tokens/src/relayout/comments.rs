@@ -3,7 +3,7 @@
 
 use crate::relayout::errors::RelayoutError;
 use crate::relayout::literals::{escaped_text, plain_front, strip};
-use crate::lexical::parts::{Cursor, before, begins, skip_to_either};
+use crate::lexical::parts::{TextCursor, before, begins, skip_to_either};
 use crate::lexical::{PieceKind, literal_at, past_white, piece_at};
 use crate::pm_token::parts::{TextBuilder, string_literal};
 use crate::pm_token::{ConversionErrorKind, Literal};
@@ -121,36 +121,36 @@ fn push_attribute<'a>(
         if let Some(rest) = strip(more, "\"]\n") {
             return push_doc(out, kept, text, inner, front, rest);
         }
-        if let Some((said, rest)) = escaped_text(front, more)? {
-            return push_doc(out, kept, text, inner, said.as_str(), rest);
+        if let Some((doc_body, rest)) = escaped_text(front, more)? {
+            return push_doc(out, kept, text, inner, doc_body.as_str(), rest);
         }
     }
     let Some((literal, rest)) = split_literal(after) else {
         return Ok(None);
     };
-    let Some(said) = text_of(literal)? else {
+    let Some(doc_body) = text_of(literal)? else {
         return Ok(None);
     };
-    push_doc(out, kept, text, inner, said.as_str(), rest)
+    push_doc(out, kept, text, inner, doc_body.as_str(), rest)
 }
 
-/// Writes the comment for an attribute whose text is `said`, if a one-line comment can hold that text, and returns
+/// Writes the comment for an attribute whose text is `doc_body`, if a one-line comment can hold that text, and returns
 /// `rest`, which follows the attribute's line. Otherwise it returns `None` and writes nothing.
 fn push_doc<'a>(
     out: &mut TextBuilder,
     kept: &str,
     text: &str,
     inner: bool,
-    said: &str,
+    doc_body: &str,
     rest: &'a str,
 ) -> Result<Option<&'a str>, AllocError>
 {
-    if !is_doc_line(inner, said) {
+    if !is_doc_line(inner, doc_body) {
         return Ok(None);
     }
     out.push_text(before(kept, text))?;
     out.push_text(front_of(inner))?;
-    out.push_text(said)?;
+    out.push_text(doc_body)?;
     out.push('\n')?;
     Ok(Some(rest))
 }
@@ -250,7 +250,7 @@ fn is_doc_line(inner: bool, text: &str) -> bool
 /// Whether the text has neither LF nor CR in it.
 fn is_in_line(text: &str) -> bool
 {
-    skip_to_either(Cursor::new(text), b'\n', b'\r')
+    skip_to_either(TextCursor::new(text), b'\n', b'\r')
         .rest
         .is_empty()
 }

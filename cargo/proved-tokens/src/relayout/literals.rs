@@ -27,19 +27,19 @@ pub(crate) fn escaped_text<'a>(
         return Ok(None);
     }
     // No text is longer than the content of its literal.
-    let mut said = TextBuilder::with_room(front.len() + size)?;
-    said.push_text(front)?;
+    let mut doc_body = TextBuilder::with_room(front.len() + size)?;
+    doc_body.push_text(front)?;
     let mut rest = after;
     while !rest.is_empty() {
-        if let Some(behind) = strip(rest, "\"]\n") {
-            return Ok(Some((said.into_string(), behind)));
+        if let Some(after_unit) = strip(rest, "\"]\n") {
+            return Ok(Some((doc_body.into_string(), after_unit)));
         }
-        let Some((c, behind)) = split_unit(rest) else {
+        let Some((c, after_unit)) = split_unit(rest) else {
             return Ok(None);
         };
-        said.push(c)?;
-        let (plain, left) = split_plain(behind);
-        said.push_text(plain)?;
+        doc_body.push(c)?;
+        let (plain, left) = split_plain(after_unit);
+        doc_body.push_text(plain)?;
         rest = left;
     }
     Ok(None)
@@ -113,8 +113,8 @@ fn split_unit(text: &str) -> Option<(char, &str)>
             None
         };
     }
-    let (letter, behind) = split_first(after)?;
-    Some((meaning(letter)?, behind))
+    let (letter, after_unit) = split_first(after)?;
+    Some((meaning(letter)?, after_unit))
 }
 
 /// The first character of a text, and the text after it.

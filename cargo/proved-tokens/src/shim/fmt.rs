@@ -26,10 +26,10 @@ impl<W: Write> Formatter<W> {
         self.out.write_char(c)
     }
 
-    /// Contract: writes what `write!` is told, or answers the writer's error.
+    /// Contract: writes the arguments of `write!`, or answers the writer's error.
     #[inline]
-    pub fn write_fmt(&mut self, told: core::fmt::Arguments<'_>) -> Result {
-        self.out.write_fmt(told)
+    pub fn write_fmt(&mut self, arguments: core::fmt::Arguments<'_>) -> Result {
+        self.out.write_fmt(arguments)
     }
 }
 

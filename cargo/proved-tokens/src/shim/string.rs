@@ -13,7 +13,7 @@ pub trait GrowText: Sized {
     fn push_str_fallibly(&mut self, text: &str) -> Result<(), AllocError>;
 
     /// Contract: puts the text of a `write!` at the end.
-    fn write_fmt(&mut self, told: fmt::Arguments<'_>) -> Result<(), AllocError>;
+    fn write_fmt(&mut self, arguments: fmt::Arguments<'_>) -> Result<(), AllocError>;
 }
 
 impl GrowText for String {
@@ -28,8 +28,8 @@ impl GrowText for String {
         Ok(())
     }
 
-    fn write_fmt(&mut self, told: fmt::Arguments<'_>) -> Result<(), AllocError> {
-        let written = fmt::Write::write_fmt(self, told);
+    fn write_fmt(&mut self, arguments: fmt::Arguments<'_>) -> Result<(), AllocError> {
+        let written = fmt::Write::write_fmt(self, arguments);
         debug_assert!(written.is_ok(), "a text takes all that is written");
         Ok(())
     }
@@ -39,8 +39,8 @@ impl GrowText for String {
 #[doc(hidden)]
 #[macro_export]
 macro_rules! format_by_shim {
-    ($($told:tt)*) => {
-        ::core::result::Result::Ok::<_, $crate::shim::alloc::AllocError>(::std::format!($($told)*))
+    ($($argument:tt)*) => {
+        ::core::result::Result::Ok::<_, $crate::shim::alloc::AllocError>(::std::format!($($argument)*))
     };
 }
 
@@ -62,7 +62,7 @@ mod tests {
     }
 
     #[test]
-    fn what_is_told_is_printed() -> Result<(), AllocError> {
+    fn what_is_reported_is_printed() -> Result<(), AllocError> {
         assert_eq!(crate::format_by_shim!("{:?} {}", "a", 1)?, "\"a\" 1");
         Ok(())
     }

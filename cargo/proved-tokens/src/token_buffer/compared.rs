@@ -57,7 +57,7 @@ fn are_same_literals(literal: LiteralText<'_>, other: LiteralText<'_>) -> bool
     match (literal, other) {
         (LiteralText::Source(text), LiteralText::Source(other)) => is_same(text, other),
         (LiteralText::Doc(text), LiteralText::Doc(other)) => is_same(text, other),
-        (LiteralText::Source(text), LiteralText::Doc(said)) => is_string_of(text, said),
-        (LiteralText::Doc(said), LiteralText::Source(text)) => is_string_of(text, said),
+        (LiteralText::Source(text), LiteralText::Doc(doc_body)) => is_string_of(text, doc_body),
+        (LiteralText::Doc(doc_body), LiteralText::Source(text)) => is_string_of(text, doc_body),
     }
 }

@@ -73,15 +73,15 @@ impl<'t> TokenSink for Filling<'t> {
     }
 
     #[cfg_attr(not(debug_assertions), inline(always))]
-    fn doc(&mut self, lexed: Lexed<'_>, inner: bool, said: &str) -> Result<(), AllocError> {
+    fn doc(&mut self, lexed: Lexed<'_>, inner: bool, doc_body: &str) -> Result<(), AllocError> {
         let at = lexed.at;
         let end = at + lexed.piece.chars as u32;
         let (begin, _) = self.bytes(lexed);
         let lo = begin + 3;
         let text = Entry::DocText {
-            closing: (lexed.piece.bytes - 3 - said.len()) as u8,
+            closing: (lexed.piece.bytes - 3 - doc_body.len()) as u8,
             lo,
-            hi: lo + said.len() as u32,
+            hi: lo + doc_body.len() as u32,
             at,
         };
         self.push_doc(inner, text, at, end)

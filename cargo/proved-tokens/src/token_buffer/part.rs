@@ -25,11 +25,11 @@ pub enum Part<'a> {
 /// # Contract
 ///
 /// - `requires`: <code>[IsWithin] text.now entry</code>
-/// - `ensures`: <code>[part_event] result ≡ [unplaced] ([event_of] text.now entry)</code>
+/// - `ensures`: <code>[part_event] result ≡ [at_zero] ([event_of] text.now entry)</code>
 ///
 /// [IsWithin]: crate::contracts#token_buffer.Entries.IsWithin
 /// [part_event]: crate::contracts#token_buffer.Parts.part_event
-/// [unplaced]: crate::contracts#token_buffer.Parts.unplaced
+/// [at_zero]: crate::contracts#token_buffer.Parts.at_zero
 /// [event_of]: crate::contracts#token_buffer.Entries.event_of
 #[cfg_attr(not(debug_assertions), inline(always))]
 pub fn part_of(text: &str, entry: Entry) -> Part<'_>

@@ -1,21 +1,22 @@
-//! What `to_pretty_string` answers of the streams of `crates/pretty_tests/stdin`, compared with the record beside it.
+//! What `to_pretty_string` answers of the streams of `crates/pretty_printer_tests/stdin`, compared with the record
+//! beside it.
 #![cfg(feature = "pretty_printer")]
 
 #[allow(clippy::complexity, clippy::style, unreachable_code, unused_imports)]
-mod pretty_tests;
+mod pretty_printer_tests;
 use std::fs;
 use std::path::Path;
 
 /// What is written of these rows, and how many of them are none.
 fn written(lines: &str, whole: bool) -> (String, usize) {
     let mut out = Vec::new();
-    let wrong = pretty_tests::write_rows(lines, whole, &mut out).expect("a list is written to");
+    let wrong = pretty_printer_tests::write_rows(lines, whole, &mut out).expect("a list is written to");
     (String::from_utf8(out).expect("a record is a text"), wrong)
 }
 
 #[test]
 fn each_stream_is_written_as_recorded() {
-    let crates = Path::new(env!("CARGO_MANIFEST_DIR")).join("../../crates/pretty_tests");
+    let crates = Path::new(env!("CARGO_MANIFEST_DIR")).join("../../crates/pretty_printer_tests");
     let streams = fs::read_to_string(crates.join("stdin")).expect("the streams are there");
     let record = fs::read_to_string(crates.join("stdout")).expect("the record is there");
     let (written, wrong) = written(&streams, false);

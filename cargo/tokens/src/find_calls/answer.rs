@@ -35,7 +35,7 @@ pub fn print_calls<W: Write>(
     let buffer = match TokenBuffer::new(text) {
         Ok(buffer) => buffer,
         Err(BufferError::TooLong) => return Err(Failure::MapFull),
-        Err(BufferError::Parse(error)) => return Err(Failure::unparsed(error, &map)),
+        Err(BufferError::Parse(error)) => return Err(Failure::parse_failure(error, &map)),
     _ => unreachable!("each case is above"),
 };
     let spans = calls(name, buffer.begin())?;

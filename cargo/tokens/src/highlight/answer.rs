@@ -2,7 +2,7 @@
 //! Writes a text with its pieces marked.
 
 use crate::highlight::format::Format;
-use crate::highlight::marking::marked;
+use crate::highlight::marking::mark_pieces;
 use crate::highlight::page::frame_of;
 use crate::messages::Failure;
 use proved_tokens::shim::io::Write;
@@ -19,7 +19,7 @@ pub fn write_marked<W: Write>(
     writer: &mut W,
 ) -> Result<(), Failure>
 {
-    let body = marked(format, text)?;
+    let body = mark_pieces(format, text)?;
     let frame = frame_of(format);
     Ok(write!(writer, "{}{body}{}", frame.head, frame.foot)?)
 }

@@ -16,7 +16,7 @@ use proved_tokens::shim::alloc::AllocError;
 /// A closer that matches no opener is marked as an error, and so is an opener that is never closed. If the text could
 /// not be read to its end, openers that still wait are not marked, since their closers may follow. Where no piece
 /// begins, the part that is wrong is marked with the reason, and the text around it is marked as not read.
-pub fn marked(format: Format, text: &str) -> Result<String, Failure>
+pub fn mark_pieces(format: Format, text: &str) -> Result<String, Failure>
 {
     let mut styling = Styling {
         delimiters: styles_of_delimiters(text)?,
@@ -29,7 +29,7 @@ pub fn marked(format: Format, text: &str) -> Result<String, Failure>
         styling.is_after_quote = styling.is_after_quote & next.white.is_empty();
         let Some(piece) = next.piece else {
             sheet.push_piece(Style::Bare, next.white)?;
-            let answer = explained(next.rest)?;
+            let answer = explanation_of(next.rest)?;
             push_unread(&mut sheet, &answer, next.rest)?;
             return Ok(sheet.out);
         };
@@ -86,7 +86,7 @@ fn is_quote(kind: PieceKind<'_>) -> bool
 }
 
 /// Returns why the text doesn't parse, if it doesn't.
-fn explained(text: &str) -> Result<Option<Explained>, Failure>
+fn explanation_of(text: &str) -> Result<Option<Explained>, Failure>
 {
     match explain(text) {
         Ok(answer) => Ok(answer),

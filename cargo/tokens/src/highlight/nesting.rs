@@ -82,12 +82,12 @@ impl Nesting {
     /// Takes a closer.
     fn close(&mut self, closer: char) -> Result<(), AllocError>
     {
-        let style = self.matched(closer);
+        let style = self.take_match(closer);
         Ok(self.styles.push_fallibly(style)?)
     }
 
     /// Removes the opener that the closer matches and the openers inside it, and returns the style of the pair.
-    fn matched(&mut self, closer: char) -> Style
+    fn take_match(&mut self, closer: char) -> Style
     {
         if !self.awaited.has(closer) {
             return Style::StrayCloser;

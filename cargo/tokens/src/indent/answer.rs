@@ -1,7 +1,7 @@
 // Made from crates/indent/src/answer.rt by dev/erase: change that file, not this one.
 //! Writes a text with its lines indented, or checks that they are.
 
-use crate::indent::choosing::{Step, choices};
+use crate::indent::choosing::{IndentStyle, choices};
 use proved_tokens::explain::{ExplainError, explain};
 use crate::messages::Failure;
 use proved_tokens::proc_macro2::{SourceMap, TokenStream};
@@ -14,7 +14,7 @@ use proved_tokens::shim::io::Write;
 /// write fails: a prefix of the text may have been written then.
 pub fn print_text<W: Write>(
     text: &str,
-    step: Step,
+    step: IndentStyle,
     writer: &mut W,
 ) -> Result<(), Failure>
 {
@@ -30,14 +30,14 @@ pub fn print_text<W: Write>(
 /// Returns whether indenting its lines leaves the text as it is.
 ///
 /// Returns `Fault`, `MapFull` or `Memory` as an error, for the same reasons as `print_text`.
-pub fn is_indented(text: &str, step: Step) -> Result<bool, Failure>
+pub fn is_indented(text: &str, step: IndentStyle) -> Result<bool, Failure>
 {
     let indented = indent(text, step)?;
     Ok(indented.as_str() == text)
 }
 
 /// Returns the text with its lines indented. It finds out whether the text parses without building trees.
-fn indent(text: &str, step: Step) -> Result<String, Failure>
+fn indent(text: &str, step: IndentStyle) -> Result<String, Failure>
 {
     match explain(text) {
         Ok(None) => indent_parsed(text, step),
@@ -54,12 +54,12 @@ fn fault_of(text: &str) -> Failure
     let mut map = SourceMap::new();
     match TokenStream::from_str(text, &mut map) {
         Ok(_) => unreachable!(),
-        Err(error) => Failure::unparsed(error, &map),
+        Err(error) => Failure::parse_failure(error, &map),
     }
 }
 
 /// Returns a text that parses with its lines indented. The only error is that memory runs out.
-fn indent_parsed(text: &str, step: Step) -> Result<String, Failure>
+fn indent_parsed(text: &str, step: IndentStyle) -> Result<String, Failure>
 {
     let choices = choices(text, step)?;
     match relayout(text, choices.as_slice()) {

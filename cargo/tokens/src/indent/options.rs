@@ -3,7 +3,7 @@
 
 use proved_tokens::shim::prelude::GrowText;
 
-use crate::indent::choosing::Step;
+use crate::indent::choosing::IndentStyle;
 use crate::messages::Failure;
 
 /// The usage line.
@@ -12,7 +12,7 @@ pub const USAGE: &str = "indent [--check] [--width N | --tabs] [FILE]";
 /// The options and the file of the command line.
 pub struct Options {
     /// By how much each open group indents a line.
-    pub step: Step,
+    pub step: IndentStyle,
     /// Whether the text is only checked.
     pub check: bool,
     /// The path of the file. `-` is standard input.
@@ -25,20 +25,20 @@ pub struct Options {
 /// Returns `Usage` if a word begins with `-` and is no option, if no number up to 255 follows `--width`, or if there
 /// are several paths. Returns `Memory` if memory runs out.
 pub fn options_of(words: &[String]) -> Result<Options, Failure> {
-    let mut step = Step::Spaces(4);
+    let mut step = IndentStyle::Spaces(4);
     let mut check = false;
     let mut path: Option<&str> = None;
     let mut wants_width = false;
     for word in words {
         let word = word.as_str();
         if wants_width {
-            step = Step::Spaces(width_of(word)?);
+            step = IndentStyle::Spaces(width_of(word)?);
             wants_width = false;
             continue;
         }
         match word {
             "--width" => wants_width = true,
-            "--tabs" => step = Step::Tab,
+            "--tabs" => step = IndentStyle::Tab,
             "--check" => check = true,
             _ if path.is_some() || is_unknown(word) => return Err(Failure::Usage(USAGE)),
             _ => path = Some(word),

@@ -27,7 +27,7 @@ pub enum Failure {
 impl Failure {
     /// Returns the failure for a text that was not parsed into the map: `Fault` with the line and column of the syntax
     /// error, `MapFull`, or `Memory`.
-    pub fn unparsed(error: ParseError, map: &SourceMap) -> Failure
+    pub fn parse_failure(error: ParseError, map: &SourceMap) -> Failure
     {
         match error {
             ParseError::Lex(fault) => Failure::Fault(fault.span().start(map)),

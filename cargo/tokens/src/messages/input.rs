@@ -61,13 +61,13 @@ fn text_of<R: Read>(mut reader: R) -> Result<String, Failure>
 {
     let mut bytes = Vec::new();
     match reader.read_to_end(&mut bytes) {
-        Ok(_) => decoded(bytes),
+        Ok(_) => decode(bytes),
         Err(error) => Err(Failure::reading(error)),
     }
 }
 
 /// Returns the bytes as a text.
-fn decoded(bytes: Vec<u8>) -> Result<String, Failure>
+fn decode(bytes: Vec<u8>) -> Result<String, Failure>
 {
     match String::from_utf8(bytes) {
         Ok(text) => Ok(text),

@@ -6,7 +6,7 @@ use proved_tokens::shim::prelude::{Grow, GrowText};
 use proved_tokens::shim::alloc::AllocError;
 
 /// Returns the text as it is written in a string of JSON.
-pub fn escaped(text: &str) -> Result<String, AllocError>
+pub fn json_escape(text: &str) -> Result<String, AllocError>
 {
     let mut out = String::new();
     for c in text.chars() {

@@ -39,13 +39,13 @@ pub fn lines_of(
     let map = map_of(text)?;
     let buffer = match TokenBuffer::new(text) {
         Ok(buffer) => buffer,
-        Err(BufferError::Parse(error)) => return Err(Failure::unparsed(error, &map)),
+        Err(BufferError::Parse(error)) => return Err(Failure::parse_failure(error, &map)),
         Err(BufferError::TooLong) => return lines_by_trees(form, path, text),
     _ => unreachable!("each case is above"),
 };
     match lines_in(form, path, &map, buffer.begin())? {
         Ok(lines) => Ok(Ok(lines)),
-        Err(stop) => Ok(Err(stop.unlisted(&map))),
+        Err(stop) => Ok(Err(stop.at_position(&map))),
     }
 }
 
@@ -70,11 +70,11 @@ fn lines_by_trees(
     let mut map = SourceMap::new();
     let stream = match TokenStream::from_str(text, &mut map) {
         Ok(stream) => stream,
-        Err(error) => return Err(Failure::unparsed(error, &map)),
+        Err(error) => return Err(Failure::parse_failure(error, &map)),
     };
     match entries(stream.trees())? {
         Ok(entries) => Ok(Ok(all_lines(form, path, &map, entries.as_slice())?)),
-        Err(stop) => Ok(Err(stop.unlisted(&map))),
+        Err(stop) => Ok(Err(stop.at_position(&map))),
     }
 }
 
@@ -106,19 +106,19 @@ pub fn entry_line(
     let start = start_of(first_of(entry.header), map);
     match entry.name {
         Some(name) => {
-            let name = spelled(name)?;
-            line_of(form, path, entry.shown(name.as_str(), start))
+            let name = spelling_of(name)?;
+            line_of(form, path, entry.shown_line(name.as_str(), start))
         }
         None => {
             let header = one_line(header_of(entry, map))?;
-            line_of(form, path, entry.shown(header.as_str(), start))
+            line_of(form, path, entry.shown_line(header.as_str(), start))
         }
     }
 }
 
 impl<'a> Entry<'a> {
     /// The entry as it is shown, with this name or header and this start.
-    fn shown<'b>(&self, name: &'b str, start: LineColumn) -> Shown<'b>
+    fn shown_line<'b>(&self, name: &'b str, start: LineColumn) -> Shown<'b>
     {
         Shown {
             depth: self.depth,
@@ -131,7 +131,7 @@ impl<'a> Entry<'a> {
 }
 
 /// The name as it is written, with `r#` if it is raw.
-fn spelled(name: &Ident) -> Result<String, AllocError>
+fn spelling_of(name: &Ident) -> Result<String, AllocError>
 {
     let mut out = String::new();
     write!(out, "{name}")?;
@@ -171,7 +171,7 @@ fn start_of(span: Span, map: &SourceMap) -> LineColumn
 
 impl Stop {
     /// The error with its line and column.
-    fn unlisted(self, map: &SourceMap) -> Unlisted {
+    fn at_position(self, map: &SourceMap) -> Unlisted {
         let fault = self.fault;
         let start = self.place(map);
         Unlisted { start, fault }

@@ -13,7 +13,7 @@ use proved_tokens::shim::alloc::AllocError;
 use proved_tokens::token_buffer::Cursor;
 
 /// An item that has been read.
-struct Step {
+struct ReadItem {
     /// The line of the item, if it is listed.
     line: Option<String>,
     /// The number of its trees.
@@ -50,14 +50,14 @@ pub fn lines_in(
             Ok(step) => step,
             Err(stop) => return Ok(Err(stop)),
         };
-        let Step {
+        let ReadItem {
             line,
             count,
             has_body,
         } = step;
         push_line(&mut lines, line)?;
         let last = past(level.rest, count - 1);
-        levels.push_fallibly(passed(level, count, last))?;
+        levels.push_fallibly(advance(level, count, last))?;
         if !has_body {
             continue 'walk;
         }
@@ -113,7 +113,7 @@ fn past(cursor: Cursor<'_>, count: usize) -> Cursor<'_>
 }
 
 /// The level after so many more of its trees. `last` is the cursor at the last of these trees.
-fn passed<'a>(level: Level<'a>, count: usize, last: Cursor<'a>) -> Level<'a>
+fn advance<'a>(level: Level<'a>, count: usize, last: Cursor<'a>) -> Level<'a>
 {
     let rest = past(last, 1);
     Level {
@@ -130,7 +130,7 @@ fn step_of(
     map: &SourceMap,
     depth: usize,
     level: &Level<'_>,
-) -> Result<Result<Step, Stop>, AllocError>
+) -> Result<Result<ReadItem, Stop>, AllocError>
 {
     let (_, left) = level.trees.as_slice().split_at(level.at);
     let item = match split_any_item(left) {
@@ -142,7 +142,7 @@ fn step_of(
         Err(stop) => return Ok(Err(stop)),
     };
     let line = listed_line(form, path, map, &entry)?;
-    Ok(Ok(Step {
+    Ok(Ok(ReadItem {
         line,
         count: item.trees.len(),
         has_body: item.body().is_some(),

@@ -6,7 +6,7 @@ use proved_tokens::shim::prelude::GrowText;
 use crate::outline::names::word_of;
 use crate::outline::options::Form;
 use proved_tokens::declarations::ItemKind;
-use crate::messages::escaped;
+use crate::messages::json_escape;
 use proved_tokens::proc_macro2::LineColumn;
 use proved_tokens::shim::alloc::AllocError;
 
@@ -60,9 +60,9 @@ fn json(path: &str, shown: Shown<'_>) -> Result<String, AllocError>
     let line = shown.start.line;
     // The type is wide enough that the sum cannot overflow.
     let column = shown.start.column as u128 + 1;
-    let file = escaped(path)?;
+    let file = json_escape(path)?;
     let word = word_of(shown.kind);
-    let name = escaped(shown.name)?;
+    let name = json_escape(shown.name)?;
     let depth = shown.depth;
     write!(
         out,

@@ -30,7 +30,7 @@ pub struct Options {
 
 /// The meaning of an argument.
 #[derive(Clone, Copy, Debug, PartialEq, Eq)]
-enum Word {
+enum ArgumentKind {
     Json,
     Ctags,
     Unknown,
@@ -46,7 +46,7 @@ pub fn options_of(words: &[String]) -> Result<Options, Failure>
     let mut options = Options::new();
     for word in words {
         match word_of(word.as_str()) {
-            Word::Unknown => return Err(Failure::Usage(USAGE)),
+            ArgumentKind::Unknown => return Err(Failure::Usage(USAGE)),
             known => options.take(known, word.as_str())?,
         }
     }
@@ -55,22 +55,22 @@ pub fn options_of(words: &[String]) -> Result<Options, Failure>
 }
 
 /// The meaning of an argument.
-fn word_of(word: &str) -> Word
+fn word_of(word: &str) -> ArgumentKind
 {
     match word {
-        "--json" => Word::Json,
-        "--ctags" => Word::Ctags,
+        "--json" => ArgumentKind::Json,
+        "--ctags" => ArgumentKind::Ctags,
         _ => other_word(word),
     }
 }
 
 /// The meaning of an argument that is no known option.
-fn other_word(word: &str) -> Word
+fn other_word(word: &str) -> ArgumentKind
 {
     match word.as_bytes() {
-        [b'-'] => Word::Path,
-        [b'-', ..] => Word::Unknown,
-        _ => Word::Path,
+        [b'-'] => ArgumentKind::Path,
+        [b'-', ..] => ArgumentKind::Unknown,
+        _ => ArgumentKind::Path,
     }
 }
 
@@ -85,13 +85,13 @@ impl Options {
     }
 
     /// Takes one argument into account.
-    fn take(&mut self, known: Word, word: &str) -> Result<(), AllocError>
+    fn take(&mut self, known: ArgumentKind, word: &str) -> Result<(), AllocError>
     {
         match known {
-            Word::Json => self.form = Form::Json,
-            Word::Ctags => self.form = Form::Ctags,
-            Word::Path => self.push_path(word)?,
-            Word::Unknown => {}
+            ArgumentKind::Json => self.form = Form::Json,
+            ArgumentKind::Ctags => self.form = Form::Ctags,
+            ArgumentKind::Path => self.push_path(word)?,
+            ArgumentKind::Unknown => {}
         }
         Ok(())
     }

@@ -1,7 +1,7 @@
 // Made from crates/pretty/src/script.rt by dev/erase: change that file, not this one.
 //! The first line of a script.
 
-use proved_tokens::lexical::parts::{Class, Cursor, before, begins, skip, skip_to};
+use proved_tokens::lexical::parts::{Class, TextCursor, before, begins, skip, skip_to};
 use proved_tokens::pm_token::parts::TextBuilder;
 use proved_tokens::shim::alloc::AllocError;
 
@@ -14,7 +14,7 @@ pub fn split_script(text: &str) -> (&str, &str)
     if !is_script(text) {
         return ("", text);
     }
-    let code = skip_to(Cursor::new(text), b'\n').rest;
+    let code = skip_to(TextCursor::new(text), b'\n').rest;
     (before(text, code), code)
 }
 
@@ -22,7 +22,7 @@ pub fn split_script(text: &str) -> (&str, &str)
 fn is_script(text: &str) -> bool
 {
     match strip(text, "#!") {
-        Some(rest) => !begins(skip(Cursor::new(rest), Class::White).rest, "["),
+        Some(rest) => !begins(skip(TextCursor::new(rest), Class::White).rest, "["),
         None => false,
     }
 }

@@ -2,10 +2,10 @@
 //! Writes what is found in a text.
 
 use crate::rust_check::colours::Colours;
-use crate::rust_check::finding::{Finding, Place};
+use crate::rust_check::finding::{Finding, TextPosition};
 use crate::rust_check::options::Form;
-use crate::rust_check::place::{byte_count, last_line, split_chars};
-use crate::rust_check::told::tell_hidden;
+use crate::rust_check::report::tell_hidden;
+use crate::rust_check::text_position::{byte_count, last_line, split_chars};
 use crate::rust_check::writing::{write_excerpt, write_message};
 use proved_tokens::explain::{ExplainError, Explained, Hint, Reason, Stretch, advice, explain};
 use crate::messages::Failure;
@@ -28,8 +28,8 @@ pub fn check_all<W: Write>(
     if !hidden {
         return Ok(faulty);
     }
-    let told = tell_hidden(form, path, text, writer)?;
-    Ok(faulty || told)
+    let report = tell_hidden(form, path, text, writer)?;
+    Ok(faulty || report)
 }
 
 /// Writes why the text of the file at this path doesn't parse, and returns whether it has an error. Nothing is written
@@ -232,7 +232,7 @@ fn found_at<'a>(name: &'static str, says: &'static str, text: &'a str, span: Spa
     let (before, rest) = split_chars(text, lo.saturating_sub(FIRST));
     let (here, _) = split_chars(rest, hi - lo);
     let line = last_line(before);
-    let place = Place {
+    let place = TextPosition {
         line: line.number,
         column: char_count(line.text),
         begin: byte_count(before),

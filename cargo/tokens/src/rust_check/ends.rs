@@ -1,7 +1,7 @@
 // Made from crates/rust_check/src/ends.rt by dev/erase: change that file, not this one.
 //! What is odd about the line ends of a text.
 
-use crate::rust_check::finding::{Finding, Place};
+use crate::rust_check::finding::{Finding, TextPosition};
 use crate::rust_check::options::Form;
 use crate::rust_check::writing::write_line;
 use proved_tokens::shim::io;
@@ -38,7 +38,7 @@ pub fn tell_line_ends<W: Write>(
     writer: &mut W,
 ) -> io::Result<()>
 {
-    let mut place = Place::front();
+    let mut place = TextPosition::front();
     let mut ends = LineEnds {
         style: Style::Unknown,
         after_return: false,
@@ -66,7 +66,7 @@ fn tell_end<W: Write>(
     form: Form,
     path: &str,
     ends: LineEnds,
-    place: Place,
+    place: TextPosition,
     c: char,
     rest: &str,
     found: &mut bool,
@@ -88,7 +88,12 @@ fn tell_end<W: Write>(
 }
 
 /// Returns the finding for something odd at this place. It has no line of the source.
-pub fn odd<'a>(name: &'static str, says: &'static str, here: &'a str, place: Place) -> Finding<'a>
+pub fn odd<'a>(
+    name: &'static str,
+    says: &'static str,
+    here: &'a str,
+    place: TextPosition,
+) -> Finding<'a>
 {
     Finding {
         name,
@@ -114,13 +119,17 @@ impl LineEnds {
     fn after(self, c: char) -> LineEnds
     {
         LineEnds {
-            style: if c == '\n' { self.joined() } else { self.style },
+            style: if c == '\n' {
+                self.joint_style()
+            } else {
+                self.style
+            },
             after_return: c == '\r',
         }
     }
 
     /// Returns how lines end once LF is read here.
-    fn joined(self) -> Style
+    fn joint_style(self) -> Style
     {
         match self.style {
             Style::Unknown if self.after_return => Style::Return,

@@ -3,7 +3,7 @@
 
 /// A position in a text.
 #[derive(Clone, Copy, Debug, PartialEq, Eq)]
-pub struct Place {
+pub struct TextPosition {
     /// The line, counted from 1.
     pub line: usize,
     /// The number of characters before it on its line.
@@ -12,11 +12,11 @@ pub struct Place {
     pub begin: usize,
 }
 
-impl Place {
+impl TextPosition {
     /// Returns the position at which a text begins.
-    pub fn front() -> Place
+    pub fn front() -> TextPosition
     {
-        Place {
+        TextPosition {
             line: 1,
             column: 0,
             begin: 0,
@@ -24,17 +24,17 @@ impl Place {
     }
 
     /// Returns the position after the character `c`, if `c` is at this position. A new line begins after LF.
-    pub fn after(self, c: char) -> Place
+    pub fn after(self, c: char) -> TextPosition
     {
         let begin = self.begin + c.len_utf8();
         if c == '\n' {
-            Place {
+            TextPosition {
                 line: self.line + 1,
                 column: 0,
                 begin,
             }
         } else {
-            Place {
+            TextPosition {
                 line: self.line,
                 column: self.column + 1,
                 begin,
@@ -51,7 +51,7 @@ pub struct Finding<'a> {
     /// What it is, in a few words.
     pub says: &'static str,
     /// Where it begins.
-    pub place: Place,
+    pub place: TextPosition,
     /// The text before it on its line.
     pub front: &'a str,
     /// The text that it is about.

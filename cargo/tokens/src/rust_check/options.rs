@@ -46,7 +46,7 @@ pub enum Request {
 
 /// What one word of the command line means.
 #[derive(Clone, Copy, Debug, PartialEq, Eq)]
-enum Word {
+enum ArgumentKind {
     Short,
     Json,
     Hidden,
@@ -66,9 +66,9 @@ pub fn request_of(words: &[String]) -> Result<Request, Failure>
     let mut options = Options::new();
     for word in words {
         match word_of(word.as_str()) {
-            Word::Help => return Ok(Request::Help),
-            Word::Version => return Ok(Request::Version),
-            Word::Unknown => return Err(Failure::Usage(USAGE)),
+            ArgumentKind::Help => return Ok(Request::Help),
+            ArgumentKind::Version => return Ok(Request::Version),
+            ArgumentKind::Unknown => return Err(Failure::Usage(USAGE)),
             known => options.take(known, word.as_str())?,
         }
     }
@@ -77,27 +77,27 @@ pub fn request_of(words: &[String]) -> Result<Request, Failure>
 }
 
 /// Returns what the word means.
-fn word_of(word: &str) -> Word
+fn word_of(word: &str) -> ArgumentKind
 {
     match word {
-        "--short" => Word::Short,
-        "--json" => Word::Json,
-        "--hidden" => Word::Hidden,
-        "--color=always" => Word::Colour(true),
-        "--color=never" => Word::Colour(false),
-        "--help" => Word::Help,
-        "--version" => Word::Version,
+        "--short" => ArgumentKind::Short,
+        "--json" => ArgumentKind::Json,
+        "--hidden" => ArgumentKind::Hidden,
+        "--color=always" => ArgumentKind::Colour(true),
+        "--color=never" => ArgumentKind::Colour(false),
+        "--help" => ArgumentKind::Help,
+        "--version" => ArgumentKind::Version,
         _ => other_word(word),
     }
 }
 
 /// Returns what a word means that is none of the known options.
-fn other_word(word: &str) -> Word
+fn other_word(word: &str) -> ArgumentKind
 {
     match word.as_bytes() {
-        [b'-'] => Word::Path,
-        [b'-', ..] => Word::Unknown,
-        _ => Word::Path,
+        [b'-'] => ArgumentKind::Path,
+        [b'-', ..] => ArgumentKind::Unknown,
+        _ => ArgumentKind::Path,
     }
 }
 
@@ -114,14 +114,14 @@ impl Options {
     }
 
     /// Applies a known word, and takes it as a path if it is one.
-    fn take(&mut self, known: Word, word: &str) -> Result<(), AllocError>
+    fn take(&mut self, known: ArgumentKind, word: &str) -> Result<(), AllocError>
     {
         match known {
-            Word::Short => self.form = Form::Short,
-            Word::Json => self.form = Form::Json,
-            Word::Hidden => self.hidden = true,
-            Word::Colour(coloured) => self.coloured = coloured,
-            Word::Path => self.push_path(word)?,
+            ArgumentKind::Short => self.form = Form::Short,
+            ArgumentKind::Json => self.form = Form::Json,
+            ArgumentKind::Hidden => self.hidden = true,
+            ArgumentKind::Colour(coloured) => self.coloured = coloured,
+            ArgumentKind::Path => self.push_path(word)?,
             _ => {}
         }
         Ok(())

@@ -4,11 +4,11 @@
 use proved_tokens::shim::prelude::format;
 
 use crate::rust_check::colours::Colours;
-use crate::rust_check::finding::{Finding, Place};
+use crate::rust_check::finding::{Finding, TextPosition};
 use crate::rust_check::options::Form;
-use crate::rust_check::place::{byte_count, first_line};
 use crate::rust_check::shown::{shown_line, spaces, underline};
-use crate::messages::escaped;
+use crate::rust_check::text_position::{byte_count, first_line};
+use crate::messages::json_escape;
 use proved_tokens::shim::io;
 use proved_tokens::shim::io::Write;
 
@@ -127,9 +127,9 @@ fn write_json_what<W: Write>(
     writer: &mut W,
 ) -> io::Result<()>
 {
-    let file = escaped(path)?;
+    let file = json_escape(path)?;
     let name = finding.name;
-    let says = escaped(finding.says)?;
+    let says = json_escape(finding.says)?;
     write!(
         writer,
         "{{\"file\":\"{file}\",\"reason\":\"{name}\",\"message\":\"{says}\","
@@ -139,7 +139,7 @@ fn write_json_what<W: Write>(
 /// Writes the second part of the JSON object: where the finding is.
 fn write_json_where<W: Write>(finding: &Finding<'_>, writer: &mut W) -> io::Result<()>
 {
-    let Place {
+    let TextPosition {
         line,
         column,
         begin,

@@ -1,7 +1,7 @@
 // Made from crates/same/src/comparing.rt by dev/erase: change that file, not this one.
 //! Compares two texts, word by word.
 
-use crate::same::said::Said;
+use crate::same::source_word::SourceWord;
 use crate::same::words::Words;
 use proved_tokens::pm_token::parts::TextBuilder;
 use proved_tokens::shim::alloc::AllocError;
@@ -30,7 +30,10 @@ pub fn difference<'a>(
 }
 
 /// Whether there is another word and it is the same as the first.
-fn is_same(one: Said<'_>, other: Option<Said<'_>>) -> Result<bool, AllocError>
+fn is_same(
+    one: SourceWord<'_>,
+    other: Option<SourceWord<'_>>,
+) -> Result<bool, AllocError>
 {
     match other {
         Some(other) => is_alike(one, other),
@@ -39,20 +42,25 @@ fn is_same(one: Said<'_>, other: Option<Said<'_>>) -> Result<bool, AllocError>
 }
 
 /// Whether the two words are the same.
-fn is_alike(one: Said<'_>, other: Said<'_>) -> Result<bool, AllocError>
+fn is_alike(one: SourceWord<'_>, other: SourceWord<'_>) -> Result<bool, AllocError>
 {
     Ok(match (one, other) {
-        (Said::Name(raw, name), Said::Name(other_raw, other)) => raw == other_raw && name == other,
-        (Said::Mark(joint, mark), Said::Mark(other_joint, other)) => {
+        (SourceWord::Name(raw, name), SourceWord::Name(other_raw, other)) => raw == other_raw
+            && name == other,
+        (SourceWord::Mark(joint, mark), SourceWord::Mark(other_joint, other)) => {
             joint == other_joint && mark == other
         }
-        (Said::Literal(text), Said::Literal(other)) => text == other,
-        (Said::DocText(text), Said::DocText(other)) => text == other,
-        (Said::DocText(text), Said::Literal(literal)) => is_string_of(text, literal)?,
-        (Said::Literal(literal), Said::DocText(text)) => is_string_of(text, literal)?,
-        (Said::Opener(delimiter), Said::Opener(other)) => delimiter == other,
-        (Said::Closer(delimiter), Said::Closer(other)) => delimiter == other,
-        (Said::Comment(text), Said::Comment(other)) => text == other,
+        (SourceWord::Literal(text), SourceWord::Literal(other)) => text == other,
+        (SourceWord::DocText(text), SourceWord::DocText(other)) => text == other,
+        (SourceWord::DocText(text), SourceWord::Literal(literal)) => is_string_of(
+            text, literal,
+        )?,
+        (SourceWord::Literal(literal), SourceWord::DocText(text)) => is_string_of(
+            text, literal,
+        )?,
+        (SourceWord::Opener(delimiter), SourceWord::Opener(other)) => delimiter == other,
+        (SourceWord::Closer(delimiter), SourceWord::Closer(other)) => delimiter == other,
+        (SourceWord::Comment(text), SourceWord::Comment(other)) => text == other,
         _ => false,
     })
 }

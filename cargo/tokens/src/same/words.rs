@@ -1,7 +1,7 @@
 // Made from crates/same/src/words.rt by dev/erase: change that file, not this one.
 //! The words of a text that are compared: its tokens in order and, if wanted, its comments.
 
-use crate::same::said::{DocStep, Said, after, alone, delimiter};
+use crate::same::source_word::{DocStep, SourceWord, after, alone, delimiter};
 use proved_tokens::lexical::parts::begins;
 use proved_tokens::lexical::{PieceKind, PieceWalk, PlacedPiece, pieces};
 use proved_tokens::pm_token::Delimiter;
@@ -33,7 +33,7 @@ impl<'a> Words<'a> {
     /// Returns the next word, and sets `here` to the text from that word on. Returns `None` at the end, where `here` is
     /// empty.
     #[cfg_attr(not(debug_assertions), inline(always))]
-    pub fn next(&mut self) -> Option<Said<'a>>
+    pub fn next(&mut self) -> Option<SourceWord<'a>>
     {
         // The inlined body lets the loops of the callers keep the walk in registers, as `next_piece` does.
         if let Some(step) = self.step {
@@ -42,22 +42,22 @@ impl<'a> Words<'a> {
         loop {
             let next = self.walk.next_after_white();
             self.here = next.rest;
-            if let Some(said) = self.begin(next.piece?) {
-                return Some(said);
+            if let Some(source_word) = self.begin(next.piece?) {
+                return Some(source_word);
             }
         }
     }
 
     /// Returns the first word of the piece, if it has one.
-    fn begin(&mut self, next: PlacedPiece<'a>) -> Option<Said<'a>>
+    fn begin(&mut self, next: PlacedPiece<'a>) -> Option<SourceWord<'a>>
     {
         match next.piece.kind {
             PieceKind::FrontMark => None,
-            PieceKind::Gap if self.comments && begins(next.text, "/") => Some(Said::Comment(
+            PieceKind::Gap if self.comments && begins(next.text, "/") => Some(SourceWord::Comment(
                 next.text,
             )),
             PieceKind::Gap => None,
-            PieceKind::Doc { .. } if self.comments => Some(Said::Comment(next.text)),
+            PieceKind::Doc { .. } if self.comments => Some(SourceWord::Comment(next.text)),
             PieceKind::Doc { inner, text } => {
                 self.doc = text;
                 let step = if inner {
@@ -67,26 +67,26 @@ impl<'a> Words<'a> {
                 };
                 Some(self.take_step(step))
             }
-            PieceKind::Opener(c) => Some(Said::Opener(delimiter(c))),
-            PieceKind::Closer(c) => Some(Said::Closer(delimiter(c))),
-            PieceKind::Literal => Some(Said::Literal(next.text)),
-            PieceKind::Mark { joint, mark } => Some(Said::Mark(joint, mark)),
-            PieceKind::Name { raw, name } => Some(Said::Name(raw, name)),
+            PieceKind::Opener(c) => Some(SourceWord::Opener(delimiter(c))),
+            PieceKind::Closer(c) => Some(SourceWord::Closer(delimiter(c))),
+            PieceKind::Literal => Some(SourceWord::Literal(next.text)),
+            PieceKind::Mark { joint, mark } => Some(SourceWord::Mark(joint, mark)),
+            PieceKind::Name { raw, name } => Some(SourceWord::Name(raw, name)),
         }
     }
 
     /// Returns the token of this step of the doc comment.
-    fn take_step(&mut self, step: DocStep) -> Said<'a>
+    fn take_step(&mut self, step: DocStep) -> SourceWord<'a>
     {
         self.step = after(step);
         match step {
             DocStep::Hash | DocStep::InnerHash => alone('#'),
             DocStep::Bang => alone('!'),
-            DocStep::Opener => Said::Opener(Delimiter::Bracket),
-            DocStep::Name => Said::Name(false, "doc"),
+            DocStep::Opener => SourceWord::Opener(Delimiter::Bracket),
+            DocStep::Name => SourceWord::Name(false, "doc"),
             DocStep::Equals => alone('='),
-            DocStep::Text => Said::DocText(self.doc_text()),
-            DocStep::Closer => Said::Closer(Delimiter::Bracket),
+            DocStep::Text => SourceWord::DocText(self.doc_text()),
+            DocStep::Closer => SourceWord::Closer(Delimiter::Bracket),
         }
     }
 

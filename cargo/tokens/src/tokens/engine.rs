@@ -53,8 +53,8 @@ fn output_of(mode: OutputMode, input: Vec<u8>) -> Result<RunOutput, RunError>
 fn output_of_text(mode: OutputMode, text: &str) -> Result<RunOutput, ParseError>
 {
     match mode {
-        OutputMode::Print => printed(text),
-        OutputMode::Spans => placed(text),
+        OutputMode::Print => print_output(text),
+        OutputMode::Spans => span_output(text),
     }
 }
 
@@ -81,7 +81,7 @@ fn refusal(error: ParseError, map: &SourceMap) -> RunError
 }
 
 /// Returns the printed text and a line feed.
-fn printed(text: &str) -> Result<RunOutput, ParseError>
+fn print_output(text: &str) -> Result<RunOutput, ParseError>
 {
     let mut printed = reprint(text)?;
     printed.push_str_fallibly("\n")?;
@@ -89,7 +89,7 @@ fn printed(text: &str) -> Result<RunOutput, ParseError>
 }
 
 /// Returns the trees, each of which makes a line of the output.
-fn placed(text: &str) -> Result<RunOutput, ParseError>
+fn span_output(text: &str) -> Result<RunOutput, ParseError>
 {
     Ok(RunOutput::Trees(place_trees(text)?))
 }

@@ -6,7 +6,7 @@ use Rattle.declarations.specs.rules.Names.{G, seq, one, word, Named, Bounds, OfT
 use Rattle.declarations.specs.rules.Names.{Rest}
 use Rattle.declarations.specs.rules.Types.{type, bounds}
 use Rattle.declarations.specs.rules.Parts.{with_bounds, generics, where_clause}
-use Rattle.declarations.specs.declared.class.Class.TheVariants as signs
+use Rattle.declarations.specs.declared.class.SignClass.TheVariants as signs
 
 -- ---- what an item ends with
 
@@ -47,8 +47,8 @@ struct_rest = Either
     (Then where_clause body_end)
 
 -- the rest of an enum, a union or an `impl`: a where clause and a body
-abbrev pub braced : G
-braced = Then where_clause braces
+abbrev pub where_and_body : G
+where_and_body = Then where_clause braces
 
 -- the rest of a function after its parameters: a return type, a where clause, and a body or `;`
 abbrev pub returning : G
@@ -60,8 +60,8 @@ abbrev pub function_rest : G
 function_rest = seq (Mark Fields ∷ Sign is_round ∷ returning ∷ [])
 
 -- the rest of a constant or a static: its type and its value
-abbrev pub typed : G
-typed = seq (Mark Rest ∷ one signs.Colon ∷ Mark OfType ∷ type ∷ constant_value ∷ semicolon ∷ [])
+abbrev pub type_and_value : G
+type_and_value = seq (Mark Rest ∷ one signs.Colon ∷ Mark OfType ∷ type ∷ constant_value ∷ semicolon ∷ [])
 
 -- `=`, the type of an alias and a where clause, or nothing
 abbrev pub alias_value : G
@@ -79,4 +79,4 @@ trait_rest = Either
 
 -- the rest of a constant after its name
 abbrev pub constant_rest : G
-constant_rest = Then generics typed
+constant_rest = Then generics type_and_value

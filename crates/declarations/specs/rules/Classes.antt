@@ -1,13 +1,13 @@
 -- The list of all classes of signs, and tests of classes.
 use Rattle.std.specs.Prelude.{ℕ, ◌==◌, Bool, true, false, ◌&&◌, ◌||◌, List, [], ◌∷◌}
-use Rattle.declarations.specs.declared.class.Class.{Class}
-use Rattle.declarations.specs.declared.class.Class.TheVariants as signs
+use Rattle.declarations.specs.declared.class.SignClass.{SignClass}
+use Rattle.declarations.specs.declared.class.SignClass.TheVariants as signs
 use Rattle.declarations.specs.declared.class.Keyword.{Keyword}
 use Rattle.declarations.specs.declared.class.Keyword.TheVariants as keywords
 use Rattle.declarations.specs.declared.class.Word.TheVariants as words
 
 -- the number of a class, which is its position in the list of all classes
-abbrev pub code : Class → ℕ
+abbrev pub code : SignClass → ℕ
 code (signs.Word words.Auto) = 0
 code (signs.Word words.Default) = 1
 code (signs.Word words.Safe) = 2
@@ -76,7 +76,7 @@ code signs.Infix = 64
 code signs.Mark = 65
 
 -- all classes
-abbrev pub classes : List Class
+abbrev pub classes : List SignClass
 classes =
     (signs.Word words.Auto) ∷ (signs.Word words.Default) ∷ (signs.Word words.Safe) ∷ (signs.Word words.Union) ∷
     (signs.Word words.Plain) ∷ (signs.Keyword keywords.Async) ∷ (signs.Keyword keywords.Const) ∷
@@ -104,44 +104,44 @@ any_of p [] = false
 any_of p (x ∷ xs) = p x || any_of p xs
 
 -- whether all classes pass the test
-abbrev pub every : (Class → Bool) → Bool
+abbrev pub every : (SignClass → Bool) → Bool
 every p = all_of p classes
 
 -- whether a class passes the test
-abbrev pub any : (Class → Bool) → Bool
+abbrev pub any : (SignClass → Bool) → Bool
 any p = any_of p classes
 
 -- ---- tests of classes
 
 -- whether the class is this one
-abbrev pub is : Class → Class → Bool
+abbrev pub is : SignClass → SignClass → Bool
 is x c = code x == code c
 
 -- whether the class is one of these
-abbrev pub one_of : List Class → Class → Bool
+abbrev pub one_of : List SignClass → SignClass → Bool
 one_of [] c = false
 one_of (x ∷ xs) c = is x c || one_of xs c
 
 -- whether the class is this keyword
-abbrev pub keyword : Keyword → Class → Bool
+abbrev pub keyword : Keyword → SignClass → Bool
 keyword k = is (signs.Keyword k)
 
 -- whether the class is a keyword
-abbrev pub is_keyword : Class → Bool
+abbrev pub is_keyword : SignClass → Bool
 is_keyword (signs.Keyword _) = true
 is_keyword _ = false
 
 -- whether the class is a word, which can be a name
-abbrev pub is_word : Class → Bool
+abbrev pub is_word : SignClass → Bool
 is_word (signs.Word _) = true
 is_word _ = false
 
 -- whether the sign opens an angle bracket
-abbrev pub opens : Class → Bool
+abbrev pub opens : SignClass → Bool
 opens = one_of (signs.Less ∷ signs.LessJoint ∷ [])
 
 -- whether the sign is a group in parentheses
-abbrev pub is_round : Class → Bool
+abbrev pub is_round : SignClass → Bool
 is_round signs.Parentheses = true
 is_round signs.Restriction = true
 is_round _ = false

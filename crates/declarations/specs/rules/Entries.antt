@@ -2,15 +2,15 @@
 use Rattle.std.specs.Prelude.{Bool, ◌||◌, [], ◌∷◌}
 use Rattle.grammars.specs.Grammar.{Mark, Sign, To, Then, Either, Many, perhaps}
 use Rattle.declarations.specs.rules.Classes.{is, is_keyword, is_word, one_of}
-use Rattle.declarations.specs.rules.Names.{G, seq, alt, one, listed, Named, Value, Body, Rest}
+use Rattle.declarations.specs.rules.Names.{G, seq, alt, one, comma_list, Named, Value, Body, Rest}
 use Rattle.declarations.specs.rules.Names.{Expression, ExpressionOpen, ExpressionWhole, Closure}
 use Rattle.declarations.specs.rules.Types.{angle}
 use Rattle.declarations.specs.rules.Expressions.{from_range, one_operand}
-use Rattle.declarations.specs.declared.class.Class.{Class}
-use Rattle.declarations.specs.declared.class.Class.TheVariants as signs
+use Rattle.declarations.specs.declared.class.SignClass.{SignClass}
+use Rattle.declarations.specs.declared.class.SignClass.TheVariants as signs
 
 -- whether the sign can be a segment of an entry's path: any identifier except `_`, `true` and `false`
-abbrev pub is_entry_segment : Class → Bool
+abbrev pub is_entry_segment : SignClass → Bool
 is_entry_segment c =
     is_word c || (is_keyword c || one_of (signs.SelfValue ∷ signs.SelfType ∷ signs.Super ∷ signs.Crate ∷ signs.As
     ∷ signs.Await ∷ signs.Jump ∷ []) c)
@@ -32,7 +32,7 @@ abbrev pub entry_path : G
 entry_path = Then (perhaps (one signs.PathSeparator)) segments
 
 -- whether the sign can follow an operand in an expression, but cannot begin the value of an entry
-abbrev pub continues : Class → Bool
+abbrev pub continues : SignClass → Bool
 continues = one_of (signs.Equals ∷ signs.Greater ∷ signs.Arrow ∷ [])
 
 -- the value of an entry: an expression that begins with neither `=` nor `>` nor `->`
@@ -53,7 +53,7 @@ abbrev pub with_value : G
 with_value = seq (Mark Rest ∷ one signs.Equals ∷ Mark Value ∷ entry_value ∷ [])
 
 -- whether the sign is a group with delimiters
-abbrev pub is_list : Class → Bool
+abbrev pub is_list : SignClass → Bool
 is_list = one_of (signs.Restriction ∷ signs.Parentheses ∷ signs.Brackets ∷ signs.Braces ∷ [])
 
 -- the list of an entry, which is a group with delimiters
@@ -69,7 +69,7 @@ abbrev pub named_entry : G
 named_entry = seq (Mark Named ∷ entry_path ∷ entry_rest ∷ [])
 
 -- whether the sign is a literal, `true` or `false`
-abbrev pub is_literal : Class → Bool
+abbrev pub is_literal : SignClass → Bool
 is_literal = one_of (signs.Literal ∷ signs.Truth ∷ [])
 
 -- a literal, `-` and a literal, `true` or `false`
@@ -86,4 +86,4 @@ entry = Either literal_entry named_entry
 
 -- entries, with `,` between two and perhaps after the last
 abbrev pub entries : G
-entries = listed entry
+entries = comma_list entry

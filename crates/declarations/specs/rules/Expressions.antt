@@ -5,21 +5,21 @@ use Rattle.declarations.specs.rules.Classes.{is, is_keyword, is_word, one_of}
 use Rattle.declarations.specs.rules.Names.{G, alt, one, Expression, ExpressionOpen, ExpressionWhole, ExpressionLess}
 use Rattle.declarations.specs.rules.Names.{ExpressionDot, Closure, Cast, CastWhole}
 use Rattle.declarations.specs.rules.Types.{angle}
-use Rattle.declarations.specs.declared.class.Class.{Class}
-use Rattle.declarations.specs.declared.class.Class.TheVariants as signs
+use Rattle.declarations.specs.declared.class.SignClass.{SignClass}
+use Rattle.declarations.specs.declared.class.SignClass.TheVariants as signs
 
 -- the classes of groups that can be operands
-abbrev pub groups : List Class
+abbrev pub groups : List SignClass
 groups = signs.Restriction ∷ signs.Parentheses ∷ signs.Brackets ∷ signs.Braces ∷ signs.Invisible ∷ []
 
 -- whether the sign is an operand of a cast
-abbrev pub cast_operand : Class → Bool
+abbrev pub cast_operand : SignClass → Bool
 cast_operand c =
     one_of groups c || (is_word c || one_of (signs.SelfValue ∷ signs.SelfType ∷ signs.Super ∷ signs.Crate
     ∷ signs.Underscore ∷ signs.Truth ∷ []) c)
 
 -- whether the sign is an operand
-abbrev pub one_operand : Class → Bool
+abbrev pub one_operand : SignClass → Bool
 one_operand c =
     one_of groups c || (is_word c || one_of (signs.SelfValue ∷ signs.SelfType ∷ signs.Super ∷ signs.Crate
     ∷ signs.Underscore ∷ signs.Truth ∷ signs.Literal ∷ signs.Await ∷ []) c)

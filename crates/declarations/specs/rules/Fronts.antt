@@ -5,8 +5,8 @@ use Rattle.declarations.specs.rules.Classes.{is, one_of, keyword, is_word}
 use Rattle.declarations.specs.rules.Names.{G, seq, alt, one, key, Function, Qualified, Async, Constant, Static, Alias}
 use Rattle.declarations.specs.rules.Names.{Trait, Impl, Module, Named, Rest}
 use Rattle.declarations.specs.rules.Bodies.{braces, semicolon, constant_rest}
-use Rattle.declarations.specs.declared.class.Class.{Class}
-use Rattle.declarations.specs.declared.class.Class.TheVariants as signs
+use Rattle.declarations.specs.declared.class.SignClass.{SignClass}
+use Rattle.declarations.specs.declared.class.SignClass.TheVariants as signs
 use Rattle.declarations.specs.declared.class.Keyword.TheVariants as keywords
 use Rattle.declarations.specs.declared.class.Word.TheVariants as words
 
@@ -15,15 +15,15 @@ abbrev pub fn : G
 fn = To (keyword keywords.Fn) Function
 
 -- a function, from its `extern` or its `fn` on
-abbrev pub qualified : G
-qualified = Either (seq (key keywords.Extern ∷ perhaps (one signs.Literal) ∷ fn ∷ [])) fn
+abbrev pub function_front : G
+function_front = Either (seq (key keywords.Extern ∷ perhaps (one signs.Literal) ∷ fn ∷ [])) fn
 
 -- whether the sign is `unsafe` or `safe`
-abbrev pub is_safe : Class → Bool
+abbrev pub is_safe : SignClass → Bool
 is_safe c = keyword keywords.Unsafe c || is (signs.Word words.Safe) c
 
 -- whether the sign can be a segment of a path
-abbrev pub is_segment : Class → Bool
+abbrev pub is_segment : SignClass → Bool
 is_segment c = is_word c || one_of (signs.SelfValue ∷ signs.Super ∷ signs.Crate ∷ []) c
 
 -- the rest of an `extern` block or a function after `extern` and its ABI
@@ -39,8 +39,8 @@ abbrev pub new_name : G
 new_name = Sign (λ c. is_word c || is signs.Underscore c)
 
 -- `as` and a name or `_`, or nothing
-abbrev pub renamed : G
-renamed = perhaps (Then (one signs.As) new_name)
+abbrev pub as_name : G
+as_name = perhaps (Then (one signs.As) new_name)
 
 -- the name of an external crate, or `self`
 abbrev pub crate_name : G
@@ -49,7 +49,7 @@ crate_name = Sign (λ c. is_word c || is signs.SelfValue c)
 -- the rest of an item after `extern`
 abbrev pub extern_front : G
 extern_front = Either
-    (seq (one signs.Crate ∷ Mark Named ∷ crate_name ∷ Mark Rest ∷ renamed ∷ semicolon ∷ []))
+    (seq (one signs.Crate ∷ Mark Named ∷ crate_name ∷ Mark Rest ∷ as_name ∷ semicolon ∷ []))
     unsafe_extern
 
 -- the rest of a trait after `auto`
@@ -58,11 +58,11 @@ auto_front = To (keyword keywords.Trait) Trait
 
 -- the rest of an item after `safe`
 abbrev pub safe_front : G
-safe_front = Either (To (keyword keywords.Static) Static) qualified
+safe_front = Either (To (keyword keywords.Static) Static) function_front
 
 -- the rest of an item after `default unsafe`
 abbrev pub default_unsafe : G
-default_unsafe = Either (To (keyword keywords.Impl) Impl) qualified
+default_unsafe = Either (To (keyword keywords.Impl) Impl) function_front
 
 -- the rest of an item after `default`
 abbrev pub default_front : G
@@ -73,7 +73,7 @@ default_front = alt (
     ∷ To (keyword keywords.Type) Alias
     ∷ Then (key keywords.Unsafe) default_unsafe
     ∷ To (is (signs.Word words.Safe)) Qualified
-    ∷ qualified
+    ∷ function_front
     ∷ [])
 
 -- the rest of an item after `unsafe`
@@ -90,15 +90,15 @@ unsafe_front = alt (
 
 -- the rest of a function after `async`
 abbrev pub async_front : G
-async_front = Either (To is_safe Qualified) qualified
+async_front = Either (To is_safe Qualified) function_front
 
 -- the rest of an item after `const`
 abbrev pub const_front : G
 const_front = alt (
     To (keyword keywords.Async) Async
     ∷ To (keyword keywords.Unsafe) Qualified
-    ∷ qualified
-    ∷ Then (one (signs.Word words.Safe)) (Either qualified constant_rest)
+    ∷ function_front
+    ∷ Then (one (signs.Word words.Safe)) (Either function_front constant_rest)
     ∷ seq (Mark Named ∷ Sign (λ c. (is_word c && not (is (signs.Word words.Safe) c)) || is signs.Underscore c)
     ∷ constant_rest ∷ [])
     ∷ [])

@@ -6,7 +6,7 @@ use Rattle.declarations.specs.rules.Types.{type}
 use Rattle.declarations.specs.rules.Parts.{attributes, visibility, generics}
 use Rattle.declarations.specs.rules.Bodies.{name, function_rest}
 use Rattle.declarations.specs.rules.Fronts.{is_safe}
-use Rattle.declarations.specs.declared.class.Class.TheVariants as signs
+use Rattle.declarations.specs.declared.class.SignClass.TheVariants as signs
 use Rattle.declarations.specs.declared.class.Keyword.TheVariants as keywords
 use Rattle.declarations.specs.declared.class.Word.TheVariants as words
 
@@ -29,8 +29,8 @@ abbrev pub with_arrow : G
 with_arrow = seq (Mark Rest ∷ one signs.Arrow ∷ Mark Returns ∷ type ∷ [])
 
 -- a return type, or nothing
-abbrev pub returned : G
-returned = perhaps with_arrow
+abbrev pub return_type_rule : G
+return_type_rule = perhaps with_arrow
 
 -- a function: attributes, a visibility, qualifiers, `fn`, a name, generic parameters, parameters and the rest
 abbrev pub function_item : G

@@ -4,7 +4,7 @@ use Rattle.grammars.specs.Grammar.{Mark, Then, To, perhaps}
 use Rattle.declarations.specs.rules.Classes.{keyword}
 use Rattle.declarations.specs.rules.Names.{Front, G, Impl, key, one, seq}
 use Rattle.declarations.specs.rules.Parts.{attributes, visibility}
-use Rattle.declarations.specs.declared.class.Class.TheVariants as signs
+use Rattle.declarations.specs.declared.class.SignClass.TheVariants as signs
 use Rattle.declarations.specs.declared.class.Keyword.TheVariants as keywords
 use Rattle.declarations.specs.declared.class.Word.TheVariants as words
 

@@ -7,18 +7,19 @@ use Rattle.declarations.specs.rules.Names.{comma}
 use Rattle.declarations.specs.rules.Types.{all_operand, bounds, named_operand, operand_but, plain_continuation, range}
 use Rattle.declarations.specs.rules.Parts.{attributes, constant_rest, default_type, parameter, parameter_rest}
 use Rattle.declarations.specs.rules.Parts.{with_bounds}
-use Rattle.declarations.specs.rules.Bodies.{braced}
-use Rattle.declarations.specs.declared.class.Class.TheVariants as signs
+use Rattle.declarations.specs.rules.Bodies.{where_and_body}
+use Rattle.declarations.specs.declared.class.SignClass.TheVariants as signs
 use Rattle.declarations.specs.declared.class.Keyword.TheVariants as keywords
 use Rattle.declarations.specs.declared.types.TypeState.TheVariants as types
 
 -- the rest of an `impl` after `!`. If no type follows, the `!` is the type
 abbrev pub negative : G
-negative = Then (perhaps (range types.Wanted Target)) braced
+negative = Then (perhaps (range types.Wanted Target)) where_and_body
 
 -- the rest of an `impl` from its trait or its type on, which is not `!`
 abbrev pub target_but : Bool → G
-target_but angles = Then (Either (named_operand Target) (operand_but (is signs.Exclamation) angles Target)) braced
+target_but angles = Then (Either (named_operand Target) (operand_but (is signs.Exclamation) angles Target))
+    where_and_body
 
 -- the rest of an `impl` after its `const`
 abbrev pub const_target : G
@@ -38,7 +39,7 @@ more_parameters = seq (further parameter comma ∷ Mark Rest ∷ one signs.Great
 
 -- the rest of an `impl` after the arguments of a type that begins with `<`
 abbrev pub angle_target : G
-angle_target = Then (To (is signs.Greater) (Range types.Whole Target)) braced
+angle_target = Then (To (is signs.Greater) (Range types.Whole Target)) where_and_body
 
 -- the rest of an `impl` after `<` and a word, which is a generic parameter or begins a type
 abbrev pub impl_word : G

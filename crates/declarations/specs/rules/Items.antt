@@ -5,11 +5,11 @@ use Rattle.declarations.specs.rules.Classes.{is, one_of, keyword, is_round}
 use Rattle.declarations.specs.rules.Names.{G, seq, alt, one, key, Async, Constant, Static, Alias, Struct, Enum, Union}
 use Rattle.declarations.specs.rules.Names.{Trait, Impl, Module, Use, UsePath, Call, Visible, Front, Body}
 use Rattle.declarations.specs.rules.Parts.{attributes, inner_attributes, visible, visibility, generics}
-use Rattle.declarations.specs.rules.Bodies.{braces, semicolon, name, braced}
-use Rattle.declarations.specs.rules.Fronts.{fn, is_segment, renamed, extern_front, auto_front, safe_front}
+use Rattle.declarations.specs.rules.Bodies.{braces, semicolon, name, where_and_body}
+use Rattle.declarations.specs.rules.Fronts.{fn, is_segment, as_name, extern_front, auto_front, safe_front}
 use Rattle.declarations.specs.rules.Fronts.{default_front, unsafe_front}
-use Rattle.declarations.specs.declared.class.Class.{Class}
-use Rattle.declarations.specs.declared.class.Class.TheVariants as signs
+use Rattle.declarations.specs.declared.class.SignClass.{SignClass}
+use Rattle.declarations.specs.declared.class.SignClass.TheVariants as signs
 use Rattle.declarations.specs.declared.class.Keyword.TheVariants as keywords
 use Rattle.declarations.specs.declared.class.Word.TheVariants as words
 
@@ -34,7 +34,7 @@ macro_rest = Then (perhaps (Sign is_round)) braces
 
 -- the rest of an import after a segment of its path
 abbrev pub use_segment : G
-use_segment = Either (To (is signs.PathSeparator) UsePath) (Then renamed semicolon)
+use_segment = Either (To (is signs.PathSeparator) UsePath) (Then as_name semicolon)
 
 -- the rest of an import from a segment of its path, `*` or braces on
 abbrev pub use_path : G
@@ -45,8 +45,8 @@ use_path = Either
 -- ---- items
 
 -- items that begin with a keyword
-abbrev pub keyworded : G
-keyworded = alt (
+abbrev pub keyword_item : G
+keyword_item = alt (
     To (keyword keywords.Async) Async
     ∷ To (keyword keywords.Const) Constant
     ∷ To (keyword keywords.Enum) Enum
@@ -70,29 +70,29 @@ declaration = alt (
     ∷ Then (one (signs.Word words.Default)) default_front
     ∷ Then (one (signs.Word words.Safe)) safe_front
     ∷ To (is (signs.Word words.Union)) Union
-    ∷ keyworded
+    ∷ keyword_item
     ∷ [])
 
 -- whether the sign begins a macro call and no other item
-abbrev pub begins_call : Class → Bool
+abbrev pub begins_call : SignClass → Bool
 begins_call c = is (signs.Word words.Plain) c || one_of (signs.SelfValue ∷ signs.Super ∷ signs.Crate ∷ []) c
 
 -- items without a visibility. They may be macro calls, or groups without delimiters
-abbrev pub unmarked : G
-unmarked = alt (
+abbrev pub private_item : G
+private_item = alt (
     Then (one (signs.Word words.Auto)) (Either call auto_front)
     ∷ Then (one (signs.Word words.Default)) (Either call default_front)
     ∷ Then (one (signs.Word words.Safe)) (Either call safe_front)
-    ∷ Then (one (signs.Word words.Union)) (Either call (seq (name ∷ generics ∷ braced ∷ [])))
+    ∷ Then (one (signs.Word words.Union)) (Either call (seq (name ∷ generics ∷ where_and_body ∷ [])))
     ∷ Then (Sign begins_call) call
     ∷ Then (one signs.PathSeparator) (To is_segment Call)
     ∷ one signs.Invisible
-    ∷ keyworded
+    ∷ keyword_item
     ∷ [])
 
 -- an item of any kind after its attributes
 abbrev pub any_rest : G
-any_rest = Either (seq (Mark Visible ∷ visible ∷ Mark Front ∷ declaration ∷ [])) (Then (Mark Front) unmarked)
+any_rest = Either (seq (Mark Visible ∷ visible ∷ Mark Front ∷ declaration ∷ [])) (Then (Mark Front) private_item)
 
 -- an item of any kind, or a group without delimiters
 abbrev pub any_item : G

@@ -2,8 +2,8 @@
 use Rattle.std.specs.Prelude.{List, [], ◌∷◌}
 use Rattle.grammars.specs.Grammar.{Grammar, Nothing, Sign, Mark, Then, Either, Listed}
 use Rattle.declarations.specs.rules.Classes.{is, is_word}
-use Rattle.declarations.specs.declared.class.Class.{Class}
-use Rattle.declarations.specs.declared.class.Class.TheVariants as signs
+use Rattle.declarations.specs.declared.class.SignClass.{SignClass}
+use Rattle.declarations.specs.declared.class.SignClass.TheVariants as signs
 use Rattle.declarations.specs.declared.class.Keyword.{Keyword}
 use Rattle.declarations.specs.declared.types.TypeState.{TypeState}
 
@@ -75,7 +75,7 @@ pub data Label : Type 0 where
 
 -- grammars of declarations
 abbrev pub G : Type 0
-G = Grammar Class Name Label
+G = Grammar SignClass Name Label
 
 -- these grammars, one after the other
 abbrev pub seq : List G → G
@@ -90,7 +90,7 @@ alt (g ∷ []) = g
 alt (g ∷ (h ∷ k)) = Either g (alt (h ∷ k))
 
 -- a sign of this class
-abbrev pub one : Class → G
+abbrev pub one : SignClass → G
 one c = Sign (is c)
 
 -- this keyword
@@ -106,5 +106,5 @@ abbrev pub comma : G
 comma = Then (Mark Rest) (one signs.Comma)
 
 -- any number of this, with `,` between two and perhaps after the last
-abbrev pub listed : G → G
-listed g = Listed g comma
+abbrev pub comma_list : G → G
+comma_list g = Listed g comma

@@ -2,26 +2,26 @@
 use Rattle.std.specs.Prelude.{Bool, false, not, ◌&&◌, ◌||◌, [], ◌∷◌}
 use Rattle.grammars.specs.Grammar.{Mark, Sign, Then, Either, Many, perhaps}
 use Rattle.declarations.specs.rules.Classes.{is, is_word, keyword, one_of}
-use Rattle.declarations.specs.rules.Names.{G, seq, alt, one, key, listed}
+use Rattle.declarations.specs.rules.Names.{G, seq, alt, one, key, comma_list}
 use Rattle.declarations.specs.rules.Names.{Named, OfType, Outside, Parameter, Range, Rest}
 use Rattle.declarations.specs.rules.Types.{angle, type}
 use Rattle.declarations.specs.rules.Parts.{attributes}
-use Rattle.declarations.specs.declared.class.Class.{Class}
-use Rattle.declarations.specs.declared.class.Class.TheVariants as signs
+use Rattle.declarations.specs.declared.class.SignClass.{SignClass}
+use Rattle.declarations.specs.declared.class.SignClass.TheVariants as signs
 use Rattle.declarations.specs.declared.class.Keyword.TheVariants as keywords
 use Rattle.declarations.specs.declared.types.TypeState.TheVariants as types
 
 -- ---- patterns
 
 -- whether a pattern can begin with the sign, apart from angle brackets
-abbrev pub is_pattern : Class → Bool
+abbrev pub is_pattern : SignClass → Bool
 is_pattern c =
     is_word c || (keyword keywords.Mut c || (keyword keywords.Other c || one_of (signs.SelfType ∷ signs.Super
     ∷ signs.Crate ∷ signs.Underscore ∷ signs.Truth ∷ signs.Literal ∷ signs.PathSeparator ∷ signs.Restriction
     ∷ signs.Parentheses ∷ signs.Brackets ∷ signs.Invisible ∷ signs.And ∷ signs.Minus ∷ []) c))
 
 -- whether the sign can be in a pattern after its first sign
-abbrev pub continues : Class → Bool
+abbrev pub continues : SignClass → Bool
 continues c = is_pattern c || one_of (signs.Braces ∷ signs.Exclamation ∷ signs.Dot ∷ signs.Equals ∷ signs.Infix ∷ []) c
 
 -- one more sign of a pattern
@@ -41,7 +41,7 @@ abbrev pub pattern_rest : G
 pattern_rest = Then pattern_signs (perhaps pattern_angle)
 
 -- a pattern whose first sign does not pass the test
-abbrev pub pattern_but : (Class → Bool) → G
+abbrev pub pattern_but : (SignClass → Bool) → G
 pattern_but without = Either (Then (Sign (λ c. is_pattern c && not (without c))) pattern_rest) pattern_angle
 
 -- a pattern
@@ -67,12 +67,12 @@ abbrev pub typed_end : G
 typed_end = Either dots type
 
 -- `:` and a type or `...`
-abbrev pub typed : G
-typed = seq (Mark Rest ∷ one signs.Colon ∷ Mark OfType ∷ typed_end ∷ [])
+abbrev pub pattern_parameter : G
+pattern_parameter = seq (Mark Rest ∷ one signs.Colon ∷ Mark OfType ∷ typed_end ∷ [])
 
 -- a pattern and its type
 abbrev pub typed_pattern : G
-typed_pattern = Then pattern typed
+typed_pattern = Then pattern pattern_parameter
 
 -- what follows `self` or `mut self`: `:` and a type, or nothing
 abbrev pub self_type : G
@@ -85,12 +85,12 @@ abbrev pub may_mutate : G
 may_mutate = Either (Then (key keywords.Mut) (one signs.SelfValue)) (one signs.SelfValue)
 
 -- a receiver after its `&`
-abbrev pub referred : G
-referred = Either (Then (one signs.Lifetime) may_mutate) may_mutate
+abbrev pub receiver_rest : G
+receiver_rest = Either (Then (one signs.Lifetime) may_mutate) may_mutate
 
 -- a receiver: `self`, perhaps with `mut`, `&` and a lifetime before it
 abbrev pub receiver : G
-receiver = Either (Then (one signs.And) referred) may_mutate
+receiver = Either (Then (one signs.And) receiver_rest) may_mutate
 
 -- ---- parameters
 
@@ -108,11 +108,11 @@ after_and = alt (
     Then (one signs.Lifetime) may_mutate
     ∷ Then (key keywords.Mut) after_and_mut
     ∷ one signs.SelfValue
-    ∷ Then (pattern_but (keyword keywords.Mut)) typed
+    ∷ Then (pattern_but (keyword keywords.Mut)) pattern_parameter
     ∷ [])
 
 -- whether both a receiver and a pattern can begin with the sign
-abbrev pub is_shared : Class → Bool
+abbrev pub is_shared : SignClass → Bool
 is_shared c = keyword keywords.Mut c || is signs.And c
 
 -- a parameter after its attributes, except `...`: a receiver, or a pattern and its type
@@ -121,7 +121,7 @@ named_parameter = alt (
     Then (one signs.SelfValue) self_type
     ∷ Then (key keywords.Mut) after_mut
     ∷ Then (one signs.And) after_and
-    ∷ Then (pattern_but is_shared) typed
+    ∷ Then (pattern_but is_shared) pattern_parameter
     ∷ [])
 
 -- a parameter after its attributes
@@ -134,4 +134,4 @@ function_parameter = Then (Mark Parameter) (Then attributes parameter_rest)
 
 -- parameters of a function, with `,` between two and perhaps after the last
 abbrev pub function_parameters : G
-function_parameters = listed function_parameter
+function_parameters = comma_list function_parameter

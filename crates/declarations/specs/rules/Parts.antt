@@ -4,10 +4,10 @@ use Rattle.grammars.specs.Grammar.{Mark, Sign, Then, Either, Many, perhaps}
 use Rattle.declarations.specs.rules.Classes.{is, is_round}
 use Rattle.declarations.specs.rules.Names.{Outside, Attributes, Visible, Named, Generics, Parameter, Bounds, Default}
 use Rattle.declarations.specs.rules.Names.{OfType, Value, Where, Bounded, Fields, Rest, G, seq, alt, one, key, word}
-use Rattle.declarations.specs.rules.Names.{listed}
+use Rattle.declarations.specs.rules.Names.{comma_list}
 use Rattle.declarations.specs.rules.Types.{bounds, named_operand, operand_but, type}
 use Rattle.declarations.specs.rules.Expressions.{expression}
-use Rattle.declarations.specs.declared.class.Class.TheVariants as signs
+use Rattle.declarations.specs.declared.class.SignClass.TheVariants as signs
 use Rattle.declarations.specs.declared.class.Keyword.TheVariants as keywords
 
 -- ---- attributes and visibilities
@@ -44,7 +44,7 @@ field = seq (attributes ∷ visibility ∷ Mark Named ∷ word ∷ Mark Rest ∷
 
 -- fields, with `,` between two and perhaps after the last
 abbrev pub fields : G
-fields = listed field
+fields = comma_list field
 
 -- the type of a field that has no name, after `pub`. Parentheses that can be a restriction are one
 abbrev pub public_type : G
@@ -66,7 +66,7 @@ tuple_field = Then attributes tuple_field_rest
 
 -- fields without names
 abbrev pub tuple_fields : G
-tuple_fields = listed tuple_field
+tuple_fields = comma_list tuple_field
 
 -- ---- variants
 
@@ -84,7 +84,7 @@ variant = seq (attributes ∷ visibility ∷ Mark Named ∷ word ∷ variant_fie
 
 -- variants, with `,` between two and perhaps after the last
 abbrev pub variants : G
-variants = listed variant
+variants = comma_list variant
 
 -- ---- generic parameters
 
@@ -129,7 +129,7 @@ parameter = seq (Mark Parameter ∷ attributes ∷ parameter_rest ∷ [])
 
 -- generic parameters, with `,` between two and perhaps after the last
 abbrev pub parameters : G
-parameters = listed parameter
+parameters = comma_list parameter
 
 -- generic parameters and the `>` after them
 abbrev pub closed_parameters : G
@@ -148,4 +148,4 @@ predicate = seq (Mark Bounded ∷ type ∷ Mark Rest ∷ one signs.Colon ∷ Mar
 
 -- a where clause, or nothing
 abbrev pub where_clause : G
-where_clause = perhaps (seq (Mark Where ∷ key keywords.Where ∷ listed predicate ∷ []))
+where_clause = perhaps (seq (Mark Where ∷ key keywords.Where ∷ comma_list predicate ∷ []))

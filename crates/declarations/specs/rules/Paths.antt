@@ -3,17 +3,17 @@ use Rattle.std.specs.Prelude.{Bool, ◌||◌, [], ◌∷◌}
 use Rattle.grammars.specs.Grammar.{Mark, Sign, To, Then, Either, perhaps}
 use Rattle.declarations.specs.rules.Classes.{is, is_round, is_word, one_of, opens}
 use Rattle.declarations.specs.rules.Names.{Bounds, Named, OfType, Outside, Path, PathState, Range, Rest, Value}
-use Rattle.declarations.specs.rules.Names.{AfterArguments, AfterName, AfterSeparator, G, seq, alt, one, listed}
+use Rattle.declarations.specs.rules.Names.{AfterArguments, AfterName, AfterSeparator, G, seq, alt, one, comma_list}
 use Rattle.declarations.specs.rules.Functions.{with_arrow}
 use Rattle.declarations.specs.rules.Types.{bounds, other_operand, type}
-use Rattle.declarations.specs.declared.class.Class.{Class}
-use Rattle.declarations.specs.declared.class.Class.TheVariants as signs
+use Rattle.declarations.specs.declared.class.SignClass.{SignClass}
+use Rattle.declarations.specs.declared.class.SignClass.TheVariants as signs
 use Rattle.declarations.specs.declared.types.TypeState.TheVariants as types
 
 -- ---- generic arguments
 
 -- whether the sign is a constant by itself
-abbrev pub is_constant : Class → Bool
+abbrev pub is_constant : SignClass → Bool
 is_constant = one_of (signs.Literal ∷ signs.Braces ∷ signs.Truth ∷ [])
 
 -- a constant: a literal, `-` and a literal, braces, `true` or `false`
@@ -21,16 +21,16 @@ abbrev pub constant : G
 constant = Either (Then (one signs.Minus) (one signs.Literal)) (Sign is_constant)
 
 -- `=` and a type
-abbrev pub assigned : G
-assigned = seq (Mark Rest ∷ one signs.Equals ∷ Mark Value ∷ type ∷ [])
+abbrev pub assignment : G
+assignment = seq (Mark Rest ∷ one signs.Equals ∷ Mark Value ∷ type ∷ [])
 
 -- `:` and bounds
-abbrev pub bounded : G
-bounded = seq (Mark Rest ∷ one signs.Colon ∷ Mark Bounds ∷ bounds ∷ [])
+abbrev pub colon_bounds : G
+colon_bounds = seq (Mark Rest ∷ one signs.Colon ∷ Mark Bounds ∷ bounds ∷ [])
 
 -- what may follow a type that begins with a word: `=` and a type, `:` and bounds, or nothing
 abbrev pub constraint : G
-constraint = perhaps (Either assigned bounded)
+constraint = perhaps (Either assignment colon_bounds)
 
 -- a type that begins with a word
 abbrev pub word_type : G
@@ -54,12 +54,12 @@ generic_argument = alt (
 
 -- generic arguments, with `,` between two and perhaps after the last
 abbrev pub generic_arguments : G
-generic_arguments = listed generic_argument
+generic_arguments = comma_list generic_argument
 
 -- ---- paths
 
 -- whether the sign can be the name of a segment
-abbrev pub is_segment : Class → Bool
+abbrev pub is_segment : SignClass → Bool
 is_segment c = is_word c || one_of (signs.SelfValue ∷ signs.SelfType ∷ signs.Super ∷ signs.Crate ∷ []) c
 
 -- a segment and the rest of the path
@@ -67,8 +67,8 @@ abbrev pub segment : G
 segment = To is_segment (Path AfterName)
 
 -- `::`, a segment and the rest of the path
-abbrev pub separated : G
-separated = Then (one signs.PathSeparator) segment
+abbrev pub further_segment : G
+further_segment = Then (one signs.PathSeparator) segment
 
 -- generic arguments after their `<`, the `>` and the rest of the path
 abbrev pub angle_rest : G
@@ -80,7 +80,7 @@ angle_arguments = Then (Sign opens) angle_rest
 
 -- the rest of a path after parentheses: `->` and a type, `::` and more segments, or nothing
 abbrev pub round_rest : G
-round_rest = perhaps (Either with_arrow separated)
+round_rest = perhaps (Either with_arrow further_segment)
 
 -- parentheses and the rest of the path
 abbrev pub round_arguments : G
@@ -91,7 +91,7 @@ abbrev pub path : PathState → G
 path AfterName = perhaps (alt (
     angle_arguments ∷ round_arguments ∷ To (is signs.PathSeparator) (Path AfterSeparator) ∷ []))
 path AfterSeparator = alt (angle_arguments ∷ round_arguments ∷ segment ∷ [])
-path AfterArguments = perhaps separated
+path AfterArguments = perhaps further_segment
 
 -- a path of a type
 abbrev pub type_path : G

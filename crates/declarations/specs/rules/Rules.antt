@@ -10,14 +10,14 @@ use Rattle.declarations.specs.rules.Names.{Impl, Module, Path, Use, UsePath, Cal
 use Rattle.declarations.specs.rules.Types.{range}
 use Rattle.declarations.specs.rules.Expressions as expressions
 use Rattle.declarations.specs.rules.Parts.{generics}
-use Rattle.declarations.specs.rules.Bodies.{alias_rest, body_end, braced, function_rest, name, struct_rest}
-use Rattle.declarations.specs.rules.Bodies.{trait_rest, typed}
-use Rattle.declarations.specs.rules.Fronts.{async_front, const_front, qualified}
+use Rattle.declarations.specs.rules.Bodies.{alias_rest, body_end, where_and_body, function_rest, name, struct_rest}
+use Rattle.declarations.specs.rules.Bodies.{trait_rest, type_and_value}
+use Rattle.declarations.specs.rules.Fronts.{async_front, const_front, function_front}
 use Rattle.declarations.specs.rules.Items.{call, use_path}
 use Rattle.declarations.specs.rules.Impls.{impl_front}
 use Rattle.declarations.specs.rules.Paths.{path}
-use Rattle.declarations.specs.declared.class.Class.{Class}
-use Rattle.declarations.specs.declared.class.Class.TheVariants as signs
+use Rattle.declarations.specs.declared.class.SignClass.{SignClass}
+use Rattle.declarations.specs.declared.class.SignClass.TheVariants as signs
 use Rattle.declarations.specs.declared.class.Keyword.TheVariants as keywords
 
 -- the grammar of each named rule
@@ -32,14 +32,14 @@ rules Closure = expressions.closure
 rules Cast = expressions.cast
 rules CastWhole = expressions.cast_whole
 rules Function = seq (name ∷ generics ∷ function_rest ∷ [])
-rules Qualified = qualified
+rules Qualified = function_front
 rules Async = async_front
 rules Constant = const_front
-rules Static = seq (perhaps (key keywords.Mut) ∷ name ∷ typed ∷ [])
+rules Static = seq (perhaps (key keywords.Mut) ∷ name ∷ type_and_value ∷ [])
 rules Alias = seq (name ∷ generics ∷ alias_rest ∷ [])
 rules Struct = seq (name ∷ generics ∷ struct_rest ∷ [])
-rules Enum = seq (name ∷ generics ∷ braced ∷ [])
-rules Union = seq (name ∷ generics ∷ braced ∷ [])
+rules Enum = seq (name ∷ generics ∷ where_and_body ∷ [])
+rules Union = seq (name ∷ generics ∷ where_and_body ∷ [])
 rules Trait = seq (name ∷ generics ∷ trait_rest ∷ [])
 rules Impl = impl_front
 rules Module = Then name body_end
@@ -49,7 +49,7 @@ rules Call = call
 rules (Path state) = path state
 
 -- whether a sign of this class may follow the rule
-abbrev pub follows : Name → Class → Bool
+abbrev pub follows : Name → SignClass → Bool
 follows (Range state Inside) c = is signs.Greater c
 follows (Range state Outside) c =
     keyword keywords.Where c

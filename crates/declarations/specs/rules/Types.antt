@@ -3,23 +3,23 @@ use Rattle.std.specs.Prelude.{Bool, true, false, not, ◌&&◌, ◌||◌, [], �
 use Rattle.grammars.specs.Grammar.{To, Then, Either, perhaps}
 use Rattle.declarations.specs.rules.Classes.{one_of, is, is_round, is_word, keyword, opens}
 use Rattle.declarations.specs.rules.Names.{Context, Inside, Outside, Target, Name, Range, G, alt}
-use Rattle.declarations.specs.declared.class.Class.{Class}
-use Rattle.declarations.specs.declared.class.Class.TheVariants as signs
+use Rattle.declarations.specs.declared.class.SignClass.{SignClass}
+use Rattle.declarations.specs.declared.class.SignClass.TheVariants as signs
 use Rattle.declarations.specs.declared.class.Keyword.TheVariants as keywords
 use Rattle.declarations.specs.declared.types.TypeState.{TypeState}
 use Rattle.declarations.specs.declared.types.TypeState.TheVariants as types
 
 -- whether the sign is an operand in every type, except words and lifetimes
-abbrev pub plain_operand : Class → Bool
+abbrev pub plain_operand : SignClass → Bool
 plain_operand = one_of (signs.SelfValue ∷ signs.SelfType ∷ signs.Super ∷ signs.Crate ∷ signs.Underscore
     ∷ signs.Restriction ∷ signs.Parentheses ∷ signs.Brackets ∷ signs.Invisible ∷ signs.Exclamation ∷ [])
 
 -- whether the sign is an operand only within angle brackets
-abbrev pub constant_operand : Class → Bool
+abbrev pub constant_operand : SignClass → Bool
 constant_operand = one_of (signs.Truth ∷ signs.Literal ∷ signs.Braces ∷ [])
 
 -- whether the sign can come before an operand
-abbrev pub type_front : Class → Bool
+abbrev pub type_front : SignClass → Bool
 type_front c =
     one_of (signs.PathSeparator ∷ signs.And ∷ signs.Question ∷ []) c
     || (keyword keywords.Async c || (keyword keywords.Dyn c || (keyword keywords.Fn c || (keyword keywords.Impl c
@@ -30,7 +30,7 @@ abbrev pub angle : Name → G
 angle n = Then (To opens (Range types.Argument Inside)) (To (is signs.Greater) n)
 
 -- an operand, except words, lifetimes and signs that pass the test. The second argument allows `<`
-abbrev pub operand_but : (Class → Bool) → Bool → Context → G
+abbrev pub operand_but : (SignClass → Bool) → Bool → Context → G
 operand_but without angles context = alt (
     To (λ c. plain_operand c && not (without c)) (Range types.Whole context)
     ∷ To type_front (Range types.Wanted context)

@@ -19,7 +19,7 @@ use proc_macro2::Span;
 
 impl Session {
     /// Returns the span between two positions, if one file of the map contains it.
-    fn held(&self, lo: u32, hi: u32) -> Option<Span>
+    fn span_between(&self, lo: u32, hi: u32) -> Option<Span>
         ensures found { IfSome result (λ found. (found ≡ span lo hi) × Holds self.now.map found) }
         ensures held { IfNone result (IsHeld self.now.map lo hi → ⊥) }
         ensures order { OnSome result (lo ≤ hi) }
@@ -39,7 +39,7 @@ impl Session {
     pub(crate) fn line_column(&self, position: u32) -> PmLineColumn
         ensures { LineColumnAnswer self.now.map position result }
     {
-        match self.held(position, position) {
+        match self.span_between(position, position) {
             Some(span) => {
                 let start = span.start(&self.map);
                 PmLineColumn {
@@ -48,7 +48,7 @@ impl Session {
                     column: start.column,
                 }
             }
-            None => PmLineColumn::refused(NOT_HELD),
+            None => PmLineColumn::with_error(NOT_HELD),
         }
     }
 
@@ -57,12 +57,12 @@ impl Session {
         ensures answer { ByteRangeAnswer self.old.map lo hi result }
         ensures kept { self.new ≡ self.old }
     {
-        match self.held(lo, hi) {
+        match self.span_between(lo, hi) {
             Some(span) => {
                 let bytes = span.byte_range(&mut self.map);
-                PmRange::done(bytes.start, bytes.end)
+                PmRange::success(bytes.start, bytes.end)
             }
-            None => PmRange::refused(NOT_HELD),
+            None => PmRange::with_error(NOT_HELD),
         }
     }
 
@@ -70,16 +70,16 @@ impl Session {
     pub(crate) fn source_text(&mut self, lo: u32, hi: u32) -> PmAnswer
         ensures { SourceTextAnswer self.old lo hi self.new result }
     {
-        let Some(span) = self.held(lo, hi) else {
-            return PmAnswer::refused(NOT_HELD);
+        let Some(span) = self.span_between(lo, hi) else {
+            return PmAnswer::with_error(NOT_HELD);
         };
         match span.source_text(&mut self.map) {
             Ok(Some(text)) => {
                 self.text = text;
-                PmAnswer::done(0, self.text.len())
+                PmAnswer::success(0, self.text.len())
             }
-            Ok(None) => PmAnswer::refused(NOT_HELD),
-            Err(_) => PmAnswer::refused(NO_MEMORY),
+            Ok(None) => PmAnswer::with_error(NOT_HELD),
+            Err(_) => PmAnswer::with_error(NO_MEMORY),
         }
     }
 
@@ -87,15 +87,15 @@ impl Session {
     pub(crate) fn file_name(&mut self, lo: u32, hi: u32) -> PmAnswer
         ensures { FileNameAnswer self.old lo hi self.new result }
     {
-        let Some(span) = self.held(lo, hi) else {
-            return PmAnswer::refused(NOT_HELD);
+        let Some(span) = self.span_between(lo, hi) else {
+            return PmAnswer::with_error(NOT_HELD);
         };
         match span.file(&self.map) {
             Ok(name) => {
                 self.text = name;
-                PmAnswer::done(0, self.text.len())
+                PmAnswer::success(0, self.text.len())
             }
-            Err(_) => PmAnswer::refused(NO_MEMORY),
+            Err(_) => PmAnswer::with_error(NO_MEMORY),
         }
     }
 
@@ -103,18 +103,18 @@ impl Session {
     pub(crate) fn join(&self, lo: u32, hi: u32, other_lo: u32, other_hi: u32) -> PmRange
         ensures { JoinAnswer self.now.map lo hi other_lo other_hi result }
     {
-        let Some(span) = self.held(lo, hi) else {
-            return PmRange::refused(NOT_HELD);
+        let Some(span) = self.span_between(lo, hi) else {
+            return PmRange::with_error(NOT_HELD);
         };
         if other_lo > other_hi {
-            return PmRange::refused(NOT_JOINED);
+            return PmRange::with_error(NOT_JOINED);
         }
         match span.join(span_of(other_lo, other_hi), &self.map) {
             Some(joined) => {
                 let (lo, hi) = bounds(joined);
-                PmRange::done(lo as usize, hi as usize)
+                PmRange::success(lo as usize, hi as usize)
             }
-            None => PmRange::refused(NOT_JOINED),
+            None => PmRange::with_error(NOT_JOINED),
         }
     }
 

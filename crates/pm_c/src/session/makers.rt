@@ -32,12 +32,12 @@ impl Session {
         ensures kept { KeepsAllButText self.old self.new }
     {
         let Ok(literal) = literal else {
-            return PmAnswer::refused(NO_MEMORY);
+            return PmAnswer::with_error(NO_MEMORY);
         };
         self.text.clear();
         match self.text.push_str(literal.text()) {
-            Ok(()) => PmAnswer::done(0, self.text.len()),
-            Err(_) => PmAnswer::refused(NO_MEMORY),
+            Ok(()) => PmAnswer::success(0, self.text.len()),
+            Err(_) => PmAnswer::with_error(NO_MEMORY),
         }
     }
 
@@ -46,16 +46,16 @@ impl Session {
         ensures { ReadLiteralAnswer self.old text.now self.new result }
     {
         let Ok(text) = str::from_utf8(text) else {
-            return PmAnswer::refused(NOT_UTF8);
+            return PmAnswer::with_error(NOT_UTF8);
         };
         match Literal::from_str(text, &mut self.map) {
             Ok(literal) => {
                 let (lo, hi) = bounds(literal.span());
-                PmAnswer::done(lo, (hi - lo) as usize)
+                PmAnswer::success(lo, (hi - lo) as usize)
             }
-            Err(ParseError::Lex(_)) => PmAnswer::refused(NO_LITERAL),
-            Err(ParseError::MapFull) => PmAnswer::refused(MAP_FULL),
-            Err(ParseError::Memory(_)) => PmAnswer::refused(NO_MEMORY),
+            Err(ParseError::Lex(_)) => PmAnswer::with_error(NO_LITERAL),
+            Err(ParseError::MapFull) => PmAnswer::with_error(MAP_FULL),
+            Err(ParseError::Memory(_)) => PmAnswer::with_error(NO_MEMORY),
         }
     }
 
@@ -65,7 +65,7 @@ impl Session {
     {
         match str::from_utf8(text) {
             Ok(text) => self.take_text(Literal::string(self.alloc, text)),
-            Err(_) => PmAnswer::refused(NOT_UTF8),
+            Err(_) => PmAnswer::with_error(NOT_UTF8),
         }
     }
 
@@ -75,7 +75,7 @@ impl Session {
     {
         match char::from_u32(c) {
             Some(c) => self.take_text(Literal::character(self.alloc, c)),
-            None => PmAnswer::refused(NO_CHARACTER),
+            None => PmAnswer::with_error(NO_CHARACTER),
         }
     }
 
@@ -100,7 +100,7 @@ impl Session {
         if has_no_zero(bytes) {
             self.take_text(Literal::c_string(self.alloc, bytes))
         } else {
-            PmAnswer::refused(NO_CHARACTER)
+            PmAnswer::with_error(NO_CHARACTER)
         }
     }
 }

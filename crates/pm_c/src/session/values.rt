@@ -39,7 +39,7 @@ impl Session {
         match literal.str_value(self.alloc) {
             Ok(value) => {
                 self.text = value;
-                PmAnswer::done(0, self.text.len())
+                PmAnswer::success(0, self.text.len())
             }
             Err(error) => refusal(error),
         }
@@ -58,7 +58,7 @@ impl Session {
         match literal.byte_str_value(self.alloc) {
             Ok(value) => {
                 self.bytes = value;
-                PmAnswer::done(0, self.bytes.len())
+                PmAnswer::success(0, self.bytes.len())
             }
             Err(error) => refusal(error),
         }
@@ -77,7 +77,7 @@ impl Session {
         match literal.cstr_value(self.alloc) {
             Ok(value) => {
                 self.bytes = value;
-                PmAnswer::done(0, self.bytes.len())
+                PmAnswer::success(0, self.bytes.len())
             }
             Err(error) => refusal(error),
         }
@@ -94,14 +94,14 @@ fn literal_of(alloc: Global, text: &[u8]) -> Result<Literal, PmAnswer>
     ensures codes { IfErr result (λ answer. IsAmong (NOT_UTF8 ∷ NO_LITERAL ∷ NO_MEMORY ∷ []) answer.code) }
 {
     let Ok(text) = str::from_utf8(text) else {
-        return Err(PmAnswer::refused(NOT_UTF8));
+        return Err(PmAnswer::with_error(NOT_UTF8));
     };
     if !Literal::is_whole(text) {
-        return Err(PmAnswer::refused(NO_LITERAL));
+        return Err(PmAnswer::with_error(NO_LITERAL));
     }
     match Literal::from_str_unchecked(alloc, text) {
         Ok(literal) => Ok(literal),
-        Err(_) => Err(PmAnswer::refused(NO_MEMORY)),
+        Err(_) => Err(PmAnswer::with_error(NO_MEMORY)),
     }
 }
 
@@ -112,12 +112,12 @@ fn refusal(error: ConversionErrorKind) -> PmAnswer
     ensures unescaped { result.code ≡ NOT_UNESCAPED → IsNumbered error result.number }
 {
     match error {
-        ConversionErrorKind::InvalidLiteralKind => PmAnswer::refused(OTHER_KIND),
+        ConversionErrorKind::InvalidLiteralKind => PmAnswer::with_error(OTHER_KIND),
         ConversionErrorKind::FailedToUnescape(fault) => PmAnswer {
             code: NOT_UNESCAPED,
             number: fault_number(&fault),
             bytes: 0,
         },
-        ConversionErrorKind::Memory(_) => PmAnswer::refused(NO_MEMORY),
+        ConversionErrorKind::Memory(_) => PmAnswer::with_error(NO_MEMORY),
     }
 }

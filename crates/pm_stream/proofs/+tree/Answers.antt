@@ -1,7 +1,7 @@
 use Rattle.std.proofs.Common.{rules, ◌<◌, arith, ap, sym, subst, ◌∙◌}
 use denote.Param.Weighed.{most}
 use Rattle.pm_stream.specs.Forest.{IsBuilt}
-use Rattle.pm_stream.specs.Trees.{held}
+use Rattle.pm_stream.specs.Trees.{shared_trees}
 use Rattle.pm_stream.specs.Size.{count}
 use Rattle.pm_stream.specs.declared.stream.TokenStream.TheDeep.{size-TokenTree}
 use Rattle.pm_stream.proofs.TakenLemmas.{IsBuilt-taken, count-left, count-taken}
@@ -16,18 +16,19 @@ stream::TokenStream::drop-drop-shared-requires t c κs =
       arith,
       most_size_le c.take_group.new.shared.value.items,
       count-left _ _ c.in_default-take_group.ensures,
-      ap count (ap held (sym c.in-Some.is) ∙ c.self.view_is),
+      ap count (ap shared_trees (sym c.in-Some.is) ∙ c.self.view_is),
       c.decreases,
     ) in
     search (rules, below)
 
 pub stream::TokenStream::drop-invariant_of-here : goal.stream::TokenStream::drop-invariant_of-here
 stream::TokenStream::drop-invariant_of-here t c =
-    IsBuilt-taken _ _ c.take_group.result c.take_group.ensures (subst IsBuilt (ap held c.in-Some.is) c.self.invariant)
+    IsBuilt-taken _ _ c.take_group.result c.take_group.ensures
+    (subst IsBuilt (ap shared_trees c.in-Some.is) c.self.invariant)
 
 pub stream::TokenStream::drop-loop-init : goal.stream::TokenStream::drop-loop-init
 stream::TokenStream::drop-loop-init t c =
-    let same = ap count (ap held (sym c.in-Some.is) ∙ c.self.view_is) in
+    let same = ap count (ap shared_trees (sym c.in-Some.is) ∙ c.self.view_is) in
     let taken = count-taken _ _ c.in-Some-take_group.last c.in-Some-take_group.ensures in
     record {
       here = omega (arith, same, taken);

@@ -1,12 +1,12 @@
 //! Calls that change the list of a stream, which other streams may share.
 ghost use Rattle.std.specs.Prelude.{◌≡◌, [], IfOk, IsSome, OnErr, OnOk};
 ghost use Rattle.pm_stream.specs.Building.{split};
-ghost use Rattle.pm_stream.specs.Forest.{joined};
-ghost use Rattle.pm_stream.specs.Trees.{alone, before, forest, held};
+ghost use Rattle.pm_stream.specs.Forest.{chain};
+ghost use Rattle.pm_stream.specs.Trees.{alone, before, forest, shared_trees};
 ghost use Rattle.pm_stream.specs.declared.stream.TokenTree.TheVariants.{Group as GroupTree, Ident as IdentTree};
 ghost use Rattle.pm_stream.specs.declared.stream.TokenTree.TheVariants.{Punct as PunctTree, Literal as LiteralTree};
 
-use super::owned::unshared;
+use super::owned::unwrap_list;
 use super::{Group, TokenStream, TokenTree};
 use pm_token::parts::split_minus;
 use pm_token::{Ident, Literal, Punct};
@@ -22,7 +22,7 @@ impl TokenStream {
     /// Appends the tree by the rule `split`. If memory runs out, the stream does not change.
     #[inline(always)]
     pub(crate) fn put(&mut self, tree: TokenTree) -> Result<(), AllocError>
-        ensures ok { OnOk result (self.new ≡ joined self.old (split tree)) }
+        ensures ok { OnOk result (self.new ≡ chain self.old (split tree)) }
         ensures err { OnErr result (self.new ≡ self.old) }
     {
         match tree {
@@ -36,7 +36,7 @@ impl TokenStream {
     /// Appends the group. If memory runs out, the stream does not change.
     #[inline(always)]
     pub(crate) fn put_group(&mut self, group: Group) -> Result<(), AllocError>
-        ensures ok { OnOk result (self.new ≡ joined self.old (split (GroupTree group))) }
+        ensures ok { OnOk result (self.new ≡ chain self.old (split (GroupTree group))) }
         ensures err { OnErr result (self.new ≡ self.old) }
     {
         // This call computes nothing: its contract tells proofs what is true of every group.
@@ -47,7 +47,7 @@ impl TokenStream {
     /// Appends the identifier. If memory runs out, the stream does not change.
     #[inline(always)]
     pub(crate) fn put_ident(&mut self, ident: Ident) -> Result<(), AllocError>
-        ensures ok { OnOk result (self.new ≡ joined self.old (split (IdentTree ident))) }
+        ensures ok { OnOk result (self.new ≡ chain self.old (split (IdentTree ident))) }
         ensures err { OnErr result (self.new ≡ self.old) }
     {
         // This call computes nothing: its contract tells proofs what is true of every identifier.
@@ -58,7 +58,7 @@ impl TokenStream {
     /// Appends the mark. If memory runs out, the stream does not change.
     #[inline(always)]
     pub(crate) fn put_punct(&mut self, punct: Punct) -> Result<(), AllocError>
-        ensures ok { OnOk result (self.new ≡ joined self.old (split (PunctTree punct))) }
+        ensures ok { OnOk result (self.new ≡ chain self.old (split (PunctTree punct))) }
         ensures err { OnErr result (self.new ≡ self.old) }
     {
         // This call computes nothing: its contract tells proofs what is true of every mark.
@@ -69,7 +69,7 @@ impl TokenStream {
     /// Appends the literal; a negative one gives its `-` and the rest. If memory runs out, the stream does not change.
     #[inline(always)]
     pub(crate) fn put_literal(&mut self, literal: Literal) -> Result<(), AllocError>
-        ensures ok { OnOk result (self.new ≡ joined self.old (split (LiteralTree literal))) }
+        ensures ok { OnOk result (self.new ≡ chain self.old (split (LiteralTree literal))) }
         ensures err { OnErr result (self.new ≡ self.old) }
     {
         // This call computes nothing: its contract tells proofs what is true of every literal.
@@ -83,7 +83,7 @@ impl TokenStream {
 
     /// Appends all trees of the other stream, or none if memory runs out.
     pub(crate) fn append(&mut self, more: TokenStream) -> Result<(), AllocError>
-        ensures ok { OnOk result (self.new ≡ joined self.old more) }
+        ensures ok { OnOk result (self.new ≡ chain self.old more) }
         ensures err { OnErr result (self.new ≡ self.old) }
     {
         let TokenStream { alloc: _, trees } = more;
@@ -101,8 +101,8 @@ fn push(
     trees: &mut Option<Rc<Vec<TokenTree>>>,
     tree: TokenTree,
 ) -> Result<(), AllocError>
-    ensures ok { OnOk result (held trees.new ≡ joined (held trees.old) (alone tree)) }
-    ensures err { OnErr result (held trees.new ≡ held trees.old) }
+    ensures ok { OnOk result (shared_trees trees.new ≡ chain (shared_trees trees.old) (alone tree)) }
+    ensures err { OnErr result (shared_trees trees.new ≡ shared_trees trees.old) }
 {
     make_list(alloc, trees)?;
     match trees {
@@ -119,9 +119,9 @@ fn push_negative(
     minus: Punct,
     literal: Literal,
 ) -> Result<(), AllocError>
-    ensures ok { OnOk result (held trees.new ≡ joined (held trees.old)
+    ensures ok { OnOk result (shared_trees trees.new ≡ chain (shared_trees trees.old)
         (before (PunctTree minus) (alone (LiteralTree literal)))) }
-    ensures err { OnErr result (held trees.new ≡ held trees.old) }
+    ensures err { OnErr result (shared_trees trees.new ≡ shared_trees trees.old) }
 {
     make_list(alloc, trees)?;
     match trees {
@@ -133,7 +133,7 @@ fn push_negative(
 /// Creates an empty list if there is no list.
 #[inline(always)]
 fn make_list(alloc: Global, trees: &mut Option<Rc<Vec<TokenTree>>>) -> Result<(), AllocError>
-    ensures held { held trees.new ≡ held trees.old }
+    ensures held { shared_trees trees.new ≡ shared_trees trees.old }
     ensures some { OnOk result (IsSome trees.new) }
 {
     if trees.is_none() {
@@ -153,7 +153,7 @@ fn first_list(alloc: Global) -> Result<Rc<Vec<TokenTree>>, AllocError>
 /// Appends the tree to a list of one owner.
 #[inline(always)]
 fn push_onto(trees: &mut Vec<TokenTree>, tree: TokenTree) -> Result<(), AllocError>
-    ensures ok { OnOk result (forest trees.new.items ≡ joined (forest trees.old.items) (alone tree)) }
+    ensures ok { OnOk result (forest trees.new.items ≡ chain (forest trees.old.items) (alone tree)) }
     ensures err { OnErr result (forest trees.new.items ≡ forest trees.old.items) }
 {
     trees.push(tree)?;
@@ -163,7 +163,7 @@ fn push_onto(trees: &mut Vec<TokenTree>, tree: TokenTree) -> Result<(), AllocErr
 /// Appends both trees, or neither: room for both is reserved before the first is appended.
 fn push_two(trees: &mut Vec<TokenTree>, minus: Punct, literal: Literal) -> Result<(), AllocError>
     ensures ok { OnOk result (forest trees.new.items
-        ≡ joined (forest trees.old.items) (before (PunctTree minus) (alone (LiteralTree literal)))) }
+        ≡ chain (forest trees.old.items) (before (PunctTree minus) (alone (LiteralTree literal)))) }
     ensures err { OnErr result (forest trees.new.items ≡ forest trees.old.items) }
 {
     trees.reserve(2)?;
@@ -177,11 +177,11 @@ fn append_shared(
     trees: &mut Option<Rc<Vec<TokenTree>>>,
     more: Rc<Vec<TokenTree>>,
 ) -> Result<(), AllocError>
-    ensures ok { OnOk result (held trees.new ≡ joined (held trees.old) (forest more.value.items)) }
-    ensures err { OnErr result (held trees.new ≡ held trees.old) }
+    ensures ok { OnOk result (shared_trees trees.new ≡ chain (shared_trees trees.old) (forest more.value.items)) }
+    ensures err { OnErr result (shared_trees trees.new ≡ shared_trees trees.old) }
 {
     if let Some(shared) = trees {
-        let own = unshared(more)?;
+        let own = unwrap_list(more)?;
         return push_all(Rc::make_mut(shared)?, own);
     }
     *trees = Some(more);
@@ -192,7 +192,7 @@ fn append_shared(
 #[tactic(auto, using(crate::proofs::BuildingLemmas::forest_append))]
 fn push_all(trees: &mut Vec<TokenTree>, mut more: Vec<TokenTree>) -> Result<(), AllocError>
     ensures ok { OnOk result
-        (forest trees.new.items ≡ joined (forest trees.old.items) (forest more.items)) }
+        (forest trees.new.items ≡ chain (forest trees.old.items) (forest more.items)) }
     ensures err { OnErr result (forest trees.new.items ≡ forest trees.old.items) }
 {
     trees.append(&mut more)?;

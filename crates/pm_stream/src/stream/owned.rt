@@ -1,7 +1,7 @@
 //! The trees of a stream as a list with one owner.
 ghost use Rattle.std.specs.Prelude.{◌≡◌, IfOk};
 ghost use Rattle.pm_stream.specs.Forest.{IsBuilt};
-ghost use Rattle.pm_stream.specs.Trees.{forest, held};
+ghost use Rattle.pm_stream.specs.Trees.{forest, shared_trees};
 
 use super::{TokenStream, TokenTree};
 use std::alloc::{AllocError, Global};
@@ -15,23 +15,23 @@ impl TokenStream {
         ensures built { IsBuilt self }
     {
         let TokenStream { alloc, trees } = self;
-        owned(alloc, trees)
+        take_list(alloc, trees)
     }
 }
 
 /// Returns the trees that a stream holds: the list itself if this was its last owner, and otherwise a copy.
-fn owned(alloc: Global, trees: Option<Rc<Vec<TokenTree>>>) -> Result<Vec<TokenTree>, AllocError>
-    ensures { IfOk result (λ list. forest list.items ≡ held trees) }
+fn take_list(alloc: Global, trees: Option<Rc<Vec<TokenTree>>>) -> Result<Vec<TokenTree>, AllocError>
+    ensures { IfOk result (λ list. forest list.items ≡ shared_trees trees) }
 {
     match trees {
         None => Ok(Vec::new(alloc)),
-        Some(shared) => unshared(shared),
+        Some(shared) => unwrap_list(shared),
     }
 }
 
 /// Returns the list itself if this was its last owner, and otherwise a copy.
 #[tactic(auto, using(crate::proofs::BuildingLemmas::clones_same))]
-pub(super) fn unshared(shared: Rc<Vec<TokenTree>>) -> Result<Vec<TokenTree>, AllocError>
+pub(super) fn unwrap_list(shared: Rc<Vec<TokenTree>>) -> Result<Vec<TokenTree>, AllocError>
     ensures { IfOk result (λ list. list.items ≡ shared.value.items) }
 {
     Rc::unwrap_or_clone(shared)

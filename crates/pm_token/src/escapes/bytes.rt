@@ -3,7 +3,7 @@ ghost use Rattle.std.specs.Prelude.{◌≡◌, ◌<◌, ◌++◌, ◌&&◌, code
 ghost use Rattle.std.specs.Fmt.{digit_glyph};
 ghost use Rattle.lexical.specs.Text.{first_passes};
 ghost use Rattle.lexical.specs.Quoted.{is_octal_digit};
-ghost use Rattle.pm_token.specs.Escaped.{content, hex_pair, written, written_byte};
+ghost use Rattle.pm_token.specs.Escaped.{content, hex_pair, char_text, written_byte};
 
 use crate::escapes::TextBuilder;
 use std::alloc::AllocError;
@@ -23,7 +23,7 @@ impl TextBuilder {
 
     /// Writes the byte for a literal in these quotes, whose content goes on with `rest`.
     pub(crate) fn push_byte(&mut self, quote: u8, byte: u8, rest: &[u8]) -> Result<(), AllocError>
-        ensures ok { OnOk result (self.new ≡ self.old ++ written quote written_byte byte rest.now) }
+        ensures ok { OnOk result (self.new ≡ self.old ++ char_text quote written_byte byte rest.now) }
     {
         match byte {
             0 if begins_octal(rest) => self.push_long_zero(),

@@ -136,7 +136,7 @@ fn signed_text(alloc: Global, value: i128, suffix: Suffix) -> Result<Symbol, All
 
 /// Makes the literal of a number without a sign.
 #[inline(always)]
-fn unsigned(alloc: Global, value: u128, suffix: Suffix) -> Result<Literal, AllocError>
+fn unsigned_literal(alloc: Global, value: u128, suffix: Suffix) -> Result<Literal, AllocError>
     ensures ok { IfOk result (λ literal.
         literal ≡ record { text = decimal value ++ suffix_text suffix; span = nowhere }) }
 {
@@ -148,7 +148,7 @@ fn unsigned(alloc: Global, value: u128, suffix: Suffix) -> Result<Literal, Alloc
 
 /// Makes the literal of a number, with `-` before it if it is negative.
 #[inline(always)]
-fn signed(alloc: Global, value: i128, suffix: Suffix) -> Result<Literal, AllocError>
+fn signed_literal(alloc: Global, value: i128, suffix: Suffix) -> Result<Literal, AllocError>
     ensures ok { IfOk result (λ literal.
         literal ≡ record { text = signed_decimal value ++ suffix_text suffix; span = nowhere }) }
 {
@@ -210,7 +210,7 @@ impl Literal {
         ensures ok { IfOk result (λ literal.
             literal ≡ record { text = decimal value; span = nowhere }) }
     {
-        unsigned(alloc, value, Suffix::Nothing)
+        unsigned_literal(alloc, value, Suffix::Nothing)
     }
 
     /// Makes the literal of the number without a suffix, with the span 0..0. For 0 it is `0`.
@@ -220,7 +220,7 @@ impl Literal {
         ensures ok { IfOk result (λ literal.
             literal ≡ record { text = decimal value; span = nowhere }) }
     {
-        unsigned(alloc, value as u128, Suffix::Nothing)
+        unsigned_literal(alloc, value as u128, Suffix::Nothing)
     }
 
     /// Makes the literal of the number followed by `u8`, with the span 0..0. For 255 it is `255u8`.
@@ -230,7 +230,7 @@ impl Literal {
         ensures ok { IfOk result (λ literal.
             literal ≡ record { text = decimal value ++ codes "u8"; span = nowhere }) }
     {
-        unsigned(alloc, u128::from(value), Suffix::U8)
+        unsigned_literal(alloc, u128::from(value), Suffix::U8)
     }
 
     /// Makes the literal of the number followed by `u16`, with the span 0..0. For 65535 it is `65535u16`.
@@ -240,7 +240,7 @@ impl Literal {
         ensures ok { IfOk result (λ literal.
             literal ≡ record { text = decimal value ++ codes "u16"; span = nowhere }) }
     {
-        unsigned(alloc, u128::from(value), Suffix::U16)
+        unsigned_literal(alloc, u128::from(value), Suffix::U16)
     }
 
     /// Makes the literal of the number followed by `u32`, with the span 0..0. For 3 it is `3u32`.
@@ -250,7 +250,7 @@ impl Literal {
         ensures ok { IfOk result (λ literal.
             literal ≡ record { text = decimal value ++ codes "u32"; span = nowhere }) }
     {
-        unsigned(alloc, u128::from(value), Suffix::U32)
+        unsigned_literal(alloc, u128::from(value), Suffix::U32)
     }
 
     /// Makes the literal of the number followed by `u64`, with the span 0..0. For 10 it is `10u64`.
@@ -260,7 +260,7 @@ impl Literal {
         ensures ok { IfOk result (λ literal.
             literal ≡ record { text = decimal value ++ codes "u64"; span = nowhere }) }
     {
-        unsigned(alloc, u128::from(value), Suffix::U64)
+        unsigned_literal(alloc, u128::from(value), Suffix::U64)
     }
 
     /// Makes the literal of the number followed by `u128`, with the span 0..0. For 7 it is `7u128`.
@@ -270,7 +270,7 @@ impl Literal {
         ensures ok { IfOk result (λ literal.
             literal ≡ record { text = decimal value ++ codes "u128"; span = nowhere }) }
     {
-        unsigned(alloc, value, Suffix::U128)
+        unsigned_literal(alloc, value, Suffix::U128)
     }
 
     /// Makes the literal of the number followed by `usize`, with the span 0..0. For 0 it is `0usize`.
@@ -280,7 +280,7 @@ impl Literal {
         ensures ok { IfOk result (λ literal.
             literal ≡ record { text = decimal value ++ codes "usize"; span = nowhere }) }
     {
-        unsigned(alloc, value as u128, Suffix::Usize)
+        unsigned_literal(alloc, value as u128, Suffix::Usize)
     }
 
     /// Makes the literal of the number without a suffix, with the span 0..0. For -128 it is `-128`.
@@ -330,7 +330,7 @@ impl Literal {
         ensures ok { IfOk result (λ literal.
             literal ≡ record { text = signed_decimal value; span = nowhere }) }
     {
-        signed(alloc, value, Suffix::Nothing)
+        signed_literal(alloc, value, Suffix::Nothing)
     }
 
     /// Makes the literal of the number without a suffix, with the span 0..0. For 0 it is `0`.
@@ -340,7 +340,7 @@ impl Literal {
         ensures ok { IfOk result (λ literal.
             literal ≡ record { text = signed_decimal value; span = nowhere }) }
     {
-        signed(alloc, value as i128, Suffix::Nothing)
+        signed_literal(alloc, value as i128, Suffix::Nothing)
     }
 
     /// Makes the literal of the number followed by `i8`, with the span 0..0. For -128 it is `-128i8`.
@@ -350,7 +350,7 @@ impl Literal {
         ensures ok { IfOk result (λ literal.
             literal ≡ record { text = signed_decimal value ++ codes "i8"; span = nowhere }) }
     {
-        signed(alloc, i128::from(value), Suffix::I8)
+        signed_literal(alloc, i128::from(value), Suffix::I8)
     }
 
     /// Makes the literal of the number followed by `i16`, with the span 0..0. For -3 it is `-3i16`.
@@ -360,7 +360,7 @@ impl Literal {
         ensures ok { IfOk result (λ literal.
             literal ≡ record { text = signed_decimal value ++ codes "i16"; span = nowhere }) }
     {
-        signed(alloc, i128::from(value), Suffix::I16)
+        signed_literal(alloc, i128::from(value), Suffix::I16)
     }
 
     /// Makes the literal of the number followed by `i32`, with the span 0..0. For -3 it is `-3i32`.
@@ -370,7 +370,7 @@ impl Literal {
         ensures ok { IfOk result (λ literal.
             literal ≡ record { text = signed_decimal value ++ codes "i32"; span = nowhere }) }
     {
-        signed(alloc, i128::from(value), Suffix::I32)
+        signed_literal(alloc, i128::from(value), Suffix::I32)
     }
 
     /// Makes the literal of the number followed by `i64`, with the span 0..0. For 12 it is `12i64`.
@@ -380,7 +380,7 @@ impl Literal {
         ensures ok { IfOk result (λ literal.
             literal ≡ record { text = signed_decimal value ++ codes "i64"; span = nowhere }) }
     {
-        signed(alloc, i128::from(value), Suffix::I64)
+        signed_literal(alloc, i128::from(value), Suffix::I64)
     }
 
     /// Makes the literal of the number followed by `i128`, with the span 0..0. For -1 it is `-1i128`.
@@ -390,7 +390,7 @@ impl Literal {
         ensures ok { IfOk result (λ literal.
             literal ≡ record { text = signed_decimal value ++ codes "i128"; span = nowhere }) }
     {
-        signed(alloc, value, Suffix::I128)
+        signed_literal(alloc, value, Suffix::I128)
     }
 
     /// Makes the literal of the number followed by `isize`, with the span 0..0. For 0 it is `0isize`.
@@ -400,6 +400,6 @@ impl Literal {
         ensures ok { IfOk result (λ literal.
             literal ≡ record { text = signed_decimal value ++ codes "isize"; span = nowhere }) }
     {
-        signed(alloc, value as i128, Suffix::Isize)
+        signed_literal(alloc, value as i128, Suffix::Isize)
     }
 }

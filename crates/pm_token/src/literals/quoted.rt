@@ -25,7 +25,7 @@ fn plain_character(c: char) -> Option<Symbol>
     let Ok(end) = str::from_utf8(&end) else {
         return None;
     };
-    let text = Symbol::joined("'", end)?;
+    let text = Symbol::concatenation("'", end)?;
     Some(text)
 }
 

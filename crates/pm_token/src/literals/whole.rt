@@ -84,7 +84,7 @@ impl Literal {
     pub fn is_whole(text: &str) -> bool
         ensures { IsTrue result ↔ IsWholeLiteral (chars text.now) }
     {
-        match behind_minus(text) {
+        match skip_minus(text) {
             Some(number) => begins_with_digit(number) && is_literal(number),
             None => is_literal(text),
         }
@@ -92,7 +92,7 @@ impl Literal {
 }
 
 /// Returns the text after its first character if that is `-`.
-fn behind_minus(text: &str) -> Option<&str>
+fn skip_minus(text: &str) -> Option<&str>
     ensures split { MatchOption result (first_passes (λ c. c == 45) (chars text.now) ≡ false)
         (λ number. chars text.now ≡ 45 ∷ chars number.now) }
     ensures utf8 { IfSome result (λ number. IsUtf8 number.now) }

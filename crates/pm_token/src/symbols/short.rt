@@ -47,7 +47,7 @@ impl Short {
 
     /// Copies both texts, one after the other.
     #[inline(always)]
-    pub(crate) fn joined(front: &str, back: &str) -> Short
+    pub(crate) fn concatenation(front: &str, back: &str) -> Short
         requires { length front.now + length back.now ≤ ROOM }
         ensures { result ≡ front.now ++ back.now }
     {

@@ -40,14 +40,14 @@ fn check_command(
     reader: &mut impl ByteSource,
     status: u8,
     output: &[u8],
-    said: &[u8],
+    out_text: &[u8],
 ) {
     let mut writer = MemorySink::new(rt.alloc());
     let mut errors = MemorySink::new(rt.alloc());
     let answer = command(rt.alloc(), words, reader, &mut writer, &mut errors);
     check_status(rt, at, answer, status);
     check_bytes(rt, at, writer.bytes(), output);
-    check_bytes(rt, at, errors.bytes(), said);
+    check_bytes(rt, at, errors.bytes(), out_text);
 }
 
 /// Asserts the output, the message and the status for a word and an input.
@@ -56,12 +56,20 @@ fn check_input(
     word: &str,
     input: &[u8],
     output: &[u8],
-    said: &[u8],
+    out_text: &[u8],
     status: u8,
 ) {
     let words = one_word(rt.alloc(), word).expect(rt, "no memory");
     let reader = &mut MemorySource::new(input);
-    check_command(rt, &input, words.as_slice(), reader, status, output, said);
+    check_command(
+        rt,
+        &input,
+        words.as_slice(),
+        reader,
+        status,
+        output,
+        out_text,
+    );
 }
 
 /// Words, each with an input, the output, the message and the status.
@@ -82,8 +90,8 @@ const INPUTS: &[(&str, &[u8], &[u8], &[u8], u8)] = &[
 
 #[test]
 fn each_input_has_its_output_message_and_status(rt: HostRuntime) {
-    for &(word, input, output, said, status) in INPUTS {
-        check_input(&rt, word, input, output, said, status);
+    for &(word, input, output, out_text, status) in INPUTS {
+        check_input(&rt, word, input, output, out_text, status);
     }
 }
 
@@ -119,7 +127,7 @@ fn check_usage(rt: &(impl Abort + AllocGlobal), text: &str) {
 }
 
 #[test]
-fn words_that_ask_for_nothing_are_told_the_usage(rt: HostRuntime) {
+fn words_that_ask_for_nothing_print_the_usage(rt: HostRuntime) {
     check_usage(&rt, "");
     check_usage(&rt, "Print");
     check_usage(&rt, "span");
@@ -175,11 +183,19 @@ fn check_terminal(
     times: usize,
     status: u8,
     output: &[u8],
-    said: &[u8],
+    out_text: &[u8],
 ) {
     let words = one_word(rt.alloc(), "print").expect(rt, "no memory");
     let reader = &mut TerminalSource::new(bytes, times);
-    check_command(rt, &times, words.as_slice(), reader, status, output, said);
+    check_command(
+        rt,
+        &times,
+        words.as_slice(),
+        reader,
+        status,
+        output,
+        out_text,
+    );
     assert_eq!(rt; reader.reads(), times.saturating_add(1), "of {bytes:?}");
 }
 
@@ -194,8 +210,8 @@ const TERMINALS: &[(&[u8], usize, u8, &[u8], &[u8])] = &[
 
 #[test]
 fn nothing_is_read_after_the_end(rt: HostRuntime) {
-    for &(bytes, times, status, output, said) in TERMINALS {
-        check_terminal(&rt, bytes, times, status, output, said);
+    for &(bytes, times, status, output, out_text) in TERMINALS {
+        check_terminal(&rt, bytes, times, status, output, out_text);
     }
 }
 
@@ -267,10 +283,10 @@ fn a_byte_a_call_is_enough(rt: HostRuntime) -> Result<(), Fail> {
 }
 
 /// Asserts the message and the status of an error, and that the status stays the same if the message cannot be written.
-fn check_refusal(rt: &(impl Abort + AllocGlobal), error: RunError, said: &[u8], status: u8) {
+fn check_refusal(rt: &(impl Abort + AllocGlobal), error: RunError, out_text: &[u8], status: u8) {
     let mut errors = MemorySink::new(rt.alloc());
     check_status(rt, &error, conclude(Err(error), &mut errors), status);
-    check_bytes(rt, &error, errors.bytes(), said);
+    check_bytes(rt, &error, errors.bytes(), out_text);
 
     let mut errors = FailingSink::new(rt.alloc(), 3, 2);
     check_status(rt, &error, conclude(Err(error), &mut errors), status);

@@ -3,7 +3,7 @@
 
 use crate::shim::prelude::{Grow, GrowList};
 
-use super::owned::unshared;
+use super::owned::unwrap_list;
 use super::{Group, TokenStream, TokenTree};
 use crate::pm_token::parts::split_minus;
 use crate::pm_token::{Ident, Literal, Punct};
@@ -149,7 +149,7 @@ fn append_shared(
 ) -> Result<(), AllocError>
 {
     if let Some(shared) = trees {
-        let own = unshared(more)?;
+        let own = unwrap_list(more)?;
         return push_all(Rc::make_mut(shared)?, own);
     }
     *trees = Some(more);

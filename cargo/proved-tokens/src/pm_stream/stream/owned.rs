@@ -11,21 +11,21 @@ impl TokenStream {
     pub(crate) fn into_list(self) -> Result<Vec<TokenTree>, AllocError>
     {
         let trees = { let mut whole = self; whole.trees.take() };
-        owned(trees)
+        take_list(trees)
     }
 }
 
 /// Returns the trees that a stream holds: the list itself if this was its last owner, and otherwise a copy.
-fn owned(trees: Option<Rc<Vec<TokenTree>>>) -> Result<Vec<TokenTree>, AllocError>
+fn take_list(trees: Option<Rc<Vec<TokenTree>>>) -> Result<Vec<TokenTree>, AllocError>
 {
     match trees {
         None => Ok(Vec::new()),
-        Some(shared) => unshared(shared),
+        Some(shared) => unwrap_list(shared),
     }
 }
 
 /// Returns the list itself if this was its last owner, and otherwise a copy.
-pub(super) fn unshared(shared: Rc<Vec<TokenTree>>) -> Result<Vec<TokenTree>, AllocError>
+pub(super) fn unwrap_list(shared: Rc<Vec<TokenTree>>) -> Result<Vec<TokenTree>, AllocError>
 {
     Rc::unwrap_or_clone(shared)
 }

@@ -119,7 +119,7 @@ fn signed_text(value: i128, suffix: Suffix) -> Result<Symbol, AllocError>
 
 /// Makes the literal of a number without a sign.
 #[cfg_attr(not(debug_assertions), inline(always))]
-fn unsigned(value: u128, suffix: Suffix) -> Result<Literal, AllocError>
+fn unsigned_literal(value: u128, suffix: Suffix) -> Result<Literal, AllocError>
 {
     Ok(Literal {
         text: unsigned_text(value, suffix)?,
@@ -129,7 +129,7 @@ fn unsigned(value: u128, suffix: Suffix) -> Result<Literal, AllocError>
 
 /// Makes the literal of a number, with `-` before it if it is negative.
 #[cfg_attr(not(debug_assertions), inline(always))]
-fn signed(value: i128, suffix: Suffix) -> Result<Literal, AllocError>
+fn signed_literal(value: i128, suffix: Suffix) -> Result<Literal, AllocError>
 {
     Ok(Literal {
         text: signed_text(value, suffix)?,
@@ -224,7 +224,7 @@ impl Literal {
     #[inline]
     pub fn u128_unsuffixed(value: u128) -> Result<Literal, AllocError>
     {
-        unsigned(value, Suffix::Nothing)
+        unsigned_literal(value, Suffix::Nothing)
     }
 
     /// Makes the literal of the number without a suffix, with the span 0..0. For 0 it is `0`.
@@ -241,7 +241,7 @@ impl Literal {
     #[inline]
     pub fn usize_unsuffixed(value: usize) -> Result<Literal, AllocError>
     {
-        unsigned(value as u128, Suffix::Nothing)
+        unsigned_literal(value as u128, Suffix::Nothing)
     }
 
     /// Makes the literal of the number followed by `u8`, with the span 0..0. For 255 it is `255u8`.
@@ -259,7 +259,7 @@ impl Literal {
     #[inline]
     pub fn u8_suffixed(value: u8) -> Result<Literal, AllocError>
     {
-        unsigned(u128::from(value), Suffix::U8)
+        unsigned_literal(u128::from(value), Suffix::U8)
     }
 
     /// Makes the literal of the number followed by `u16`, with the span 0..0. For 65535 it is `65535u16`.
@@ -277,7 +277,7 @@ impl Literal {
     #[inline]
     pub fn u16_suffixed(value: u16) -> Result<Literal, AllocError>
     {
-        unsigned(u128::from(value), Suffix::U16)
+        unsigned_literal(u128::from(value), Suffix::U16)
     }
 
     /// Makes the literal of the number followed by `u32`, with the span 0..0. For 3 it is `3u32`.
@@ -295,7 +295,7 @@ impl Literal {
     #[inline]
     pub fn u32_suffixed(value: u32) -> Result<Literal, AllocError>
     {
-        unsigned(u128::from(value), Suffix::U32)
+        unsigned_literal(u128::from(value), Suffix::U32)
     }
 
     /// Makes the literal of the number followed by `u64`, with the span 0..0. For 10 it is `10u64`.
@@ -313,7 +313,7 @@ impl Literal {
     #[inline]
     pub fn u64_suffixed(value: u64) -> Result<Literal, AllocError>
     {
-        unsigned(u128::from(value), Suffix::U64)
+        unsigned_literal(u128::from(value), Suffix::U64)
     }
 
     /// Makes the literal of the number followed by `u128`, with the span 0..0. For 7 it is `7u128`.
@@ -331,7 +331,7 @@ impl Literal {
     #[inline]
     pub fn u128_suffixed(value: u128) -> Result<Literal, AllocError>
     {
-        unsigned(value, Suffix::U128)
+        unsigned_literal(value, Suffix::U128)
     }
 
     /// Makes the literal of the number followed by `usize`, with the span 0..0. For 0 it is `0usize`.
@@ -349,7 +349,7 @@ impl Literal {
     #[inline]
     pub fn usize_suffixed(value: usize) -> Result<Literal, AllocError>
     {
-        unsigned(value as u128, Suffix::Usize)
+        unsigned_literal(value as u128, Suffix::Usize)
     }
 
     /// Makes the literal of the number without a suffix, with the span 0..0. For -128 it is `-128`.
@@ -434,7 +434,7 @@ impl Literal {
     #[inline]
     pub fn i128_unsuffixed(value: i128) -> Result<Literal, AllocError>
     {
-        signed(value, Suffix::Nothing)
+        signed_literal(value, Suffix::Nothing)
     }
 
     /// Makes the literal of the number without a suffix, with the span 0..0. For 0 it is `0`.
@@ -451,7 +451,7 @@ impl Literal {
     #[inline]
     pub fn isize_unsuffixed(value: isize) -> Result<Literal, AllocError>
     {
-        signed(value as i128, Suffix::Nothing)
+        signed_literal(value as i128, Suffix::Nothing)
     }
 
     /// Makes the literal of the number followed by `i8`, with the span 0..0. For -128 it is `-128i8`.
@@ -469,7 +469,7 @@ impl Literal {
     #[inline]
     pub fn i8_suffixed(value: i8) -> Result<Literal, AllocError>
     {
-        signed(i128::from(value), Suffix::I8)
+        signed_literal(i128::from(value), Suffix::I8)
     }
 
     /// Makes the literal of the number followed by `i16`, with the span 0..0. For -3 it is `-3i16`.
@@ -487,7 +487,7 @@ impl Literal {
     #[inline]
     pub fn i16_suffixed(value: i16) -> Result<Literal, AllocError>
     {
-        signed(i128::from(value), Suffix::I16)
+        signed_literal(i128::from(value), Suffix::I16)
     }
 
     /// Makes the literal of the number followed by `i32`, with the span 0..0. For -3 it is `-3i32`.
@@ -505,7 +505,7 @@ impl Literal {
     #[inline]
     pub fn i32_suffixed(value: i32) -> Result<Literal, AllocError>
     {
-        signed(i128::from(value), Suffix::I32)
+        signed_literal(i128::from(value), Suffix::I32)
     }
 
     /// Makes the literal of the number followed by `i64`, with the span 0..0. For 12 it is `12i64`.
@@ -523,7 +523,7 @@ impl Literal {
     #[inline]
     pub fn i64_suffixed(value: i64) -> Result<Literal, AllocError>
     {
-        signed(i128::from(value), Suffix::I64)
+        signed_literal(i128::from(value), Suffix::I64)
     }
 
     /// Makes the literal of the number followed by `i128`, with the span 0..0. For -1 it is `-1i128`.
@@ -541,7 +541,7 @@ impl Literal {
     #[inline]
     pub fn i128_suffixed(value: i128) -> Result<Literal, AllocError>
     {
-        signed(value, Suffix::I128)
+        signed_literal(value, Suffix::I128)
     }
 
     /// Makes the literal of the number followed by `isize`, with the span 0..0. For 0 it is `0isize`.
@@ -559,6 +559,6 @@ impl Literal {
     #[inline]
     pub fn isize_suffixed(value: isize) -> Result<Literal, AllocError>
     {
-        signed(value as i128, Suffix::Isize)
+        signed_literal(value as i128, Suffix::Isize)
     }
 }

@@ -103,7 +103,7 @@ impl Literal {
     /// [chars]: crate::contracts#std.chars
     pub fn is_whole(text: &str) -> bool
     {
-        match behind_minus(text) {
+        match skip_minus(text) {
             Some(number) => begins_with_digit(number) && is_literal(number),
             None => is_literal(text),
         }
@@ -111,7 +111,7 @@ impl Literal {
 }
 
 /// Returns the text after its first character if that is `-`.
-fn behind_minus(text: &str) -> Option<&str>
+fn skip_minus(text: &str) -> Option<&str>
 {
     text.strip_prefix('-')
 }

@@ -31,7 +31,7 @@ impl Short {
 
     /// Copies both texts, one after the other.
     #[cfg_attr(not(debug_assertions), inline(always))]
-    pub(crate) fn joined(front: &str, back: &str) -> Short
+    pub(crate) fn concatenation(front: &str, back: &str) -> Short
     {
         let end = front.len() + back.len();
         let mut bytes = [0; ROOM];

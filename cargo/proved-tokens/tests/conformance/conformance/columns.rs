@@ -32,12 +32,12 @@ pub fn read_line<'a>(line: &'a str) -> Result<Option<Recorded<'a>>, AllocError> 
     else {
         return Ok(None);
     };
-    let (Some(text), Some(answer)) = (unescaped(text)?, unescaped(answer)?) else {
+    let (Some(text), Some(answer)) = (unescape(text)?, unescape(answer)?) else {
         return Ok(None);
     };
     let (kind, answer) = match (columns.next(), columns.next(), columns.next()) {
         (None, _, _) => (asked, answer),
-        (Some(kind), Some(wanted), None) => match unescaped(wanted)? {
+        (Some(kind), Some(wanted), None) => match unescape(wanted)? {
             Some(wanted) if kind != asked || wanted != answer => (kind, wanted),
             _ => return Ok(None),
         },
@@ -66,7 +66,7 @@ enum State {
 
 /// Returns the text of a column, or `None` if an escape is none of `\n`, `\r`, `\t`, `\\` and `\u{..}`, or isn't
 /// closed. `a\tb\u{e9}` is `a`, a tab, `b` and U+00E9.
-fn unescaped(column: &str) -> Result<Option<String>, AllocError> {
+fn unescape(column: &str) -> Result<Option<String>, AllocError> {
     let mut text = String::new();
     let mut state = State::Plain;
     for c in column.chars() {

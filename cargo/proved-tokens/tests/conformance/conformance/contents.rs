@@ -21,7 +21,7 @@ pub fn content_answer<'a>(
     call: &'a str,
     content: &str,
 ) -> Result<Option<Answer<'a>>, AllocError> {
-    let said = match call {
+    let answer_text = match call {
         "unescape_str" => items(unescape_str(content)),
         "unescape_byte_str" => items(unescape_byte_str(content)),
         "unescape_c_str" => items(unescape_c_str(content)),
@@ -34,7 +34,7 @@ pub fn content_answer<'a>(
     };
     Ok(Some(Answer {
         kind: call,
-        said: said?,
+        answer_text: answer_text?,
     }))
 }
 
@@ -46,7 +46,7 @@ fn errors_answer<'a>(
     match call.strip_prefix("errors_").and_then(mode) {
         Some(mode) => Ok(Some(Answer {
             kind: call,
-            said: errors(content, mode)?,
+            answer_text: errors(content, mode)?,
         })),
         None => Ok(None),
     }
@@ -72,21 +72,21 @@ fn items<U: Unit, I: Iterator<Item = (Range<usize>, Result<U, EscapeError>)>>(
     items: I,
 ) -> Result<String, AllocError>
 {
-    let mut said = String::new();
+    let mut answer_text = String::new();
     for (range, unit) in items {
         let unit = unit_text(unit)?;
-        write!(said, "{}..{} {unit};", range.start, range.end)?;
+        write!(answer_text, "{}..{} {unit};", range.start, range.end)?;
     }
-    Ok(said)
+    Ok(answer_text)
 }
 
 /// Returns all errors in a content of this kind, each with its range.
 fn errors(content: &str, mode: Mode) -> Result<String, AllocError> {
-    let mut said = String::new();
+    let mut answer_text = String::new();
     for (range, error) in check_for_errors(content, mode) {
-        write!(said, "{}..{} {error:?};", range.start, range.end)?;
+        write!(answer_text, "{}..{} {error:?};", range.start, range.end)?;
     }
-    Ok(said)
+    Ok(answer_text)
 }
 
 /// Returns the text of a unit, or the name of an error.

@@ -63,14 +63,17 @@ fn integer(text: &str) -> Result<Option<TokenTree>, ParseError> {
     let Ok(number) = number.parse::<i8>() else {
         return Ok(None);
     };
-    match suffixed(number, suffix) {
+    match suffixed_literal(number, suffix) {
         Some(literal) => Ok(Some(TokenTree::Literal(literal?))),
         None => Ok(None),
     }
 }
 
 /// Returns the literal that the constructor of the suffix makes of the number, or `None` if there is no such suffix.
-fn suffixed(number: i8, suffix: &str) -> Option<Result<Literal, AllocError>> {
+fn suffixed_literal(
+    number: i8,
+    suffix: &str,
+) -> Option<Result<Literal, AllocError>> {
     match suffix {
         "" => Some(Literal::i8_unsuffixed(number)),
         "i8" => Some(Literal::i8_suffixed(number)),

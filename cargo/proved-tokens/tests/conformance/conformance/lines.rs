@@ -54,10 +54,10 @@ fn difference(line: &str) -> Result<Option<String>, AllocError>
         return Ok(Some(format!("no recorded answer: {line}\n")?));
     };
     let here = match answer_to(recorded.asked, recorded.text.as_str()) {
-        Ok(Some(found)) if found.kind == recorded.kind && found.said == recorded.answer => {
+        Ok(Some(found)) if found.kind == recorded.kind && found.answer_text == recorded.answer => {
             return Ok(None);
         }
-        Ok(Some(found)) => format!("{} {:?}", found.kind, found.said)?,
+        Ok(Some(found)) => format!("{} {:?}", found.kind, found.answer_text)?,
         Ok(None) => return Ok(Some(format!("no recorded answer: {line}\n")?)),
         Err(ParseError::Memory(error)) => return Err(error),
         Err(error) => format!("{error}")?,

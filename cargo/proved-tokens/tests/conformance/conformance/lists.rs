@@ -45,12 +45,15 @@ pub fn list_answer<'a>(
         Err(error) => return Err(error),
     };
     let spaced = stream.is_well_spaced();
-    let said = if spaced == (back == "same") {
+    let answer_text = if spaced == (back == "same") {
         format!("{printed}\t{back}")?
     } else {
         format!("{printed}\t{back}\tis_well_spaced: {spaced}")?
     };
-    Ok(Some(Answer { kind: asked, said }))
+    Ok(Some(Answer {
+        kind: asked,
+        answer_text,
+    }))
 }
 
 /// A group whose closer was not read yet.
@@ -67,13 +70,13 @@ fn noted_trees(text: &str) -> Result<Option<Vec<TokenTree>>, ParseError> {
     let mut open_groups = Vec::new();
     let mut trees = Vec::new();
     for line in text.lines() {
-        if let Some(delimiter) = opened(line) {
+        if let Some(delimiter) = opened_delimiter(line) {
             open_groups.push_fallibly(Open {
                 delimiter,
                 before: trees,
             })?;
             trees = Vec::new();
-        } else if let Some(delimiter) = closed(line) {
+        } else if let Some(delimiter) = closed_delimiter(line) {
             let Some(open) = open_groups.pop() else {
                 return Ok(None);
             };
@@ -98,7 +101,7 @@ fn noted_trees(text: &str) -> Result<Option<Vec<TokenTree>>, ParseError> {
 }
 
 /// Returns the delimiter of the group that the line opens.
-fn opened(line: &str) -> Option<Delimiter> {
+fn opened_delimiter(line: &str) -> Option<Delimiter> {
     match line {
         "(" => Some(Delimiter::Parenthesis),
         "[" => Some(Delimiter::Bracket),
@@ -109,7 +112,7 @@ fn opened(line: &str) -> Option<Delimiter> {
 }
 
 /// Returns the delimiter of the group that the line closes.
-fn closed(line: &str) -> Option<Delimiter> {
+fn closed_delimiter(line: &str) -> Option<Delimiter> {
     match line {
         ")" => Some(Delimiter::Parenthesis),
         "]" => Some(Delimiter::Bracket),

@@ -18,10 +18,10 @@ pub fn literal_answer<'a>(
     let mut map = SourceMap::new();
     let literal = match Literal::from_str(text, &mut map) {
         Ok(literal) => literal,
-        Err(ParseError::Lex(_)) => return Ok(Answer::refused()),
+        Err(ParseError::Lex(_)) => return Ok(Answer::no_literal()),
         Err(error) => return Err(error),
     };
-    let (kind, said) = match asked {
+    let (kind, answer_text) = match asked {
         "str_value" => (
             asked,
             hex(literal.str_value().map(String::into_bytes))?,
@@ -30,7 +30,7 @@ pub fn literal_answer<'a>(
         "cstr_value" => (asked, hex(literal.cstr_value())?),
         _ => ("literal", format!("{literal}")?),
     };
-    Ok(Answer { kind, said })
+    Ok(Answer { kind, answer_text })
 }
 
 /// Returns the bytes of a value in hex, or the name of the error. Fails if memory runs out.

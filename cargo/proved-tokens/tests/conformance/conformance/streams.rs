@@ -19,21 +19,21 @@ pub fn stream_answer<'a>(
     match TokenStream::from_str(text, &mut map) {
         Ok(stream) if asked == "tree" => Ok(Answer {
             kind: asked,
-            said: format!("{stream:?}")?,
+            answer_text: format!("{stream:?}")?,
         }),
         Ok(stream) if asked == "spans" => Ok(Answer {
             kind: asked,
-            said: span_lines(&stream, &map)?,
+            answer_text: span_lines(&stream, &map)?,
         }),
         Ok(stream) => Ok(Answer {
             kind: "print",
-            said: format!("{stream}")?,
+            answer_text: format!("{stream}")?,
         }),
         Err(ParseError::Lex(error)) => {
             let start = error.span().start(&map);
             Ok(Answer {
                 kind: "fault",
-                said: format!("{}:{}", start.line, start.column)?,
+                answer_text: format!("{}:{}", start.line, start.column)?,
             })
         }
         Err(error) => Err(error),

@@ -17,9 +17,9 @@ pub fn value_answer<'a>(
     match literal_of(asked, value)? {
         Some(literal) => Ok(Answer {
             kind: asked,
-            said: format!("{literal}")?,
+            answer_text: format!("{literal}")?,
         }),
-        None => Ok(Answer::refused()),
+        None => Ok(Answer::no_literal()),
     }
 }
 

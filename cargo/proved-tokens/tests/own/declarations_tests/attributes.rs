@@ -17,7 +17,7 @@ enum Args {
     Other(usize),
 }
 
-fn shown(args: AttributeArgs<'_>) -> Args {
+fn parts_of(args: AttributeArgs<'_>) -> Args {
     match args {
         AttributeArgs::Nothing => Args::Nothing,
         AttributeArgs::Group(group) => Args::Group(group.stream_ref().trees().len()),
@@ -40,7 +40,7 @@ fn check(
         match attributes.next() {
             Some(attribute) => {
                 assert_eq!(attribute.path().len(), *path, "{text:?}");
-                assert_eq!(shown(attribute.args()), *args, "{text:?}");
+                assert_eq!(parts_of(attribute.args()), *args, "{text:?}");
                 assert_eq!(attribute.is_inner(), *inner, "{text:?}");
                 assert_eq!(attribute.doc().is_some(), *doc, "{text:?}");
             }
@@ -100,7 +100,11 @@ fn a_word_is_a_whole_path() -> Result<(), Fail> {
 }
 
 /// The attribute `#[..]` with this text in the brackets. The text is in so many groups without delimiters.
-fn held(rt: &(impl Abort + AllocGlobal), text: &str, groups: usize) -> Result<TokenStream, Fail> {
+fn in_groups(
+    rt: &(impl Abort + AllocGlobal),
+    text: &str,
+    groups: usize,
+) -> Result<TokenStream, Fail> {
     let mut map = SourceMap::new();
     let mut inside = TokenStream::from_str(text, &mut map)?;
     for _ in 0..groups {
@@ -127,12 +131,12 @@ fn what_a_macro_passes_is_looked_through() -> Result<(), Fail> {
         ("doc(b) c", 2, 1, Args::Other(1), true, false),
         ("", 1, 0, Args::Nothing, false, false),
     ] {
-        let stream = held(&rt, text, groups)?;
+        let stream = in_groups(&rt, text, groups)?;
         let mut attributes = Attributes::new(stream.trees());
         match attributes.next() {
             Some(attribute) => {
                 assert_eq!(attribute.path().len(), path, "{text:?}");
-                assert_eq!(shown(attribute.args()), args, "{text:?}");
+                assert_eq!(parts_of(attribute.args()), args, "{text:?}");
                 assert_eq!(attribute.is("doc"), doc, "{text:?}");
                 assert_eq!(attribute.doc().is_some(), comment, "{text:?}");
             }

@@ -50,7 +50,7 @@ fn check(
 }
 
 #[test]
-fn a_fault_is_told_at_its_tree() -> Result<(), Fail> {
+fn a_fault_is_reported_at_its_tree() -> Result<(), Fail> {
     let rt = HostRuntime;
     let unexpected = ":: core :: compile_error ! { \"not expected here\" }";
     check(&rt, "struct S a_b;", unexpected, "bytes(10..13)")?;
@@ -61,7 +61,7 @@ fn a_fault_is_told_at_its_tree() -> Result<(), Fail> {
 }
 
 #[test]
-fn a_text_of_ones_own_is_told_at_a_span() -> Result<(), Fail> {
+fn a_text_of_ones_own_is_reported_at_a_span() -> Result<(), Fail> {
     let rt = HostRuntime;
     let stream = TokenStream::from_str("a skip", &mut SourceMap::new())?;
     if let [_, tree] = stream.trees() {

@@ -21,7 +21,7 @@ enum Parts {
     Fault(usize),
 }
 
-fn shown(entry: &Entry<'_>) -> Parts {
+fn parts_of(entry: &Entry<'_>) -> Parts {
     match entry.kind {
         EntryKind::Path => Parts::Path(entry.path.len()),
         EntryKind::List(group) => Parts::List(entry.path.len(), group.stream_ref().trees().len()),
@@ -39,7 +39,7 @@ fn check(rt: &(impl Abort + AllocGlobal), rows: &[(&str, &[Parts])]) -> Result<(
         };
         for one in *wanted {
             match list.next() {
-                Some(Ok(entry)) => assert_eq!(shown(&entry), *one, "{text:?}"),
+                Some(Ok(entry)) => assert_eq!(parts_of(&entry), *one, "{text:?}"),
                 Some(Err(fault)) => assert_eq!(Parts::Fault(fault.at), *one, "{text:?}"),
                 None => assert!(false, "{text:?}"),
             }
@@ -177,7 +177,7 @@ fn the_first_entry_leaves_the_rest() -> Result<(), Fail> {
     let stream = TokenStream::from_str("a::b = f(1) + 2, c", &mut SourceMap::new())?;
     match parse_entry(stream.trees()) {
         Ok((entry, rest)) => {
-            assert_eq!(shown(&entry), Parts::Value(4, 4));
+            assert_eq!(parts_of(&entry), Parts::Value(4, 4));
             assert!(!entry.is("a"));
             assert_eq!(rest.len(), 2);
         }
@@ -278,7 +278,7 @@ fn an_error_says_what_is_wrong() -> Result<(), Fail> {
 }
 
 #[test]
-fn names_are_told_where_none_or_one_is_known() -> Result<(), Fail> {
+fn names_are_listed_where_none_or_one_is_known() -> Result<(), Fail> {
     let rt = HostRuntime;
     let stream = TokenStream::from_str("skip", &mut SourceMap::new())?;
     match check_entries(stream.trees(), &[]) {
@@ -313,7 +313,7 @@ fn check_attributes(
             match list.next() {
                 Some(attribute) => match attribute.entry() {
                     Ok(entry) => {
-                        assert_eq!(shown(&entry), *one, "{text:?}");
+                        assert_eq!(parts_of(&entry), *one, "{text:?}");
                         assert!(entry.span().is_some(), "{text:?}");
                     }
                     Err(fault) => assert_eq!(Parts::Fault(fault.at), *one, "{text:?}"),
@@ -353,7 +353,7 @@ fn an_attribute_is_one_entry() -> Result<(), Fail> {
 }
 
 /// The list that begins with a text in so many groups without delimiters, and goes on with another text.
-fn held(
+fn in_groups(
     rt: &(impl Abort + AllocGlobal),
     inside: &str,
     groups: usize,
@@ -403,13 +403,13 @@ fn an_entry_in_a_group_without_delimiters_is_read() -> Result<(), Fail> {
         ("'a", 1, "", &[Parts::Fault(0)]),
     ];
     for (inside, groups, after, wanted) in rows {
-        let stream = held(&rt, inside, *groups, after)?;
+        let stream = in_groups(&rt, inside, *groups, after)?;
         let mut list = Entries {
             left: stream.trees(),
         };
         for one in *wanted {
             match list.next() {
-                Some(Ok(entry)) => assert_eq!(shown(&entry), *one, "{inside:?} {after:?}"),
+                Some(Ok(entry)) => assert_eq!(parts_of(&entry), *one, "{inside:?} {after:?}"),
                 Some(Err(fault)) => assert_eq!(Parts::Fault(fault.at),
                     *one,
                     "{inside:?} {after:?}"
@@ -444,7 +444,7 @@ fn a_path_in_a_group_without_delimiters_is_read_in_another() -> Result<(), Fail>
         ("a", 1, "(b)", 1, "(c)", &[Parts::Fault(1)]),
     ];
     for (path, groups, args, around, after, wanted) in rows {
-        let mut stream = held(&rt, path, *groups, args)?;
+        let mut stream = in_groups(&rt, path, *groups, args)?;
         for _ in 0..*around {
             let group = Group::new(Delimiter::None, stream);
             stream = TokenStream::from_tree(TokenTree::Group(group))?;
@@ -455,7 +455,7 @@ fn a_path_in_a_group_without_delimiters_is_read_in_another() -> Result<(), Fail>
         };
         for one in *wanted {
             match list.next() {
-                Some(Ok(entry)) => assert_eq!(shown(&entry),
+                Some(Ok(entry)) => assert_eq!(parts_of(&entry),
                     *one,
                     "{path:?} {args:?} {after:?}"
                 ),
@@ -474,7 +474,7 @@ fn a_path_in_a_group_without_delimiters_is_read_in_another() -> Result<(), Fail>
 #[test]
 fn an_error_in_a_group_without_delimiters_has_a_span() -> Result<(), Fail> {
     let rt = HostRuntime;
-    let stream = held(&rt, "a b", 2, ", c")?;
+    let stream = in_groups(&rt, "a b", 2, ", c")?;
     match parse_entry(stream.trees()) {
         Ok(_) => assert!(false),
         Err(fault) => {
@@ -484,7 +484,7 @@ fn an_error_in_a_group_without_delimiters_has_a_span() -> Result<(), Fail> {
             assert_eq!(shown.as_str(), "Some(bytes(3..4))");
         }
     }
-    let stream = held(&rt, "a = ", 1, ", c")?;
+    let stream = in_groups(&rt, "a = ", 1, ", c")?;
     match parse_entry(stream.trees()) {
         Ok(_) => assert!(false),
         Err(fault) => {
@@ -493,7 +493,7 @@ fn an_error_in_a_group_without_delimiters_has_a_span() -> Result<(), Fail> {
             assert_eq!(shown.as_str(), "Some(bytes(0..0))");
         }
     }
-    let stream = held(&rt, "a = 1", 1, ", b")?;
+    let stream = in_groups(&rt, "a = 1", 1, ", b")?;
     match check_entries(stream.trees(), &["b"]) {
         Ok(()) => assert!(false),
         Err(error) => {

@@ -48,7 +48,7 @@ fn check(rt: &(impl Abort + AllocGlobal), rows: &[(&str, &[Parts])]) -> Result<(
 }
 
 #[test]
-fn each_kind_of_argument_is_told() -> Result<(), Fail> {
+fn each_kind_of_argument_is_named() -> Result<(), Fail> {
     let rt = HostRuntime;
     check(
         &rt,

@@ -28,7 +28,7 @@ enum Answer {
 
 use crate::declarations_tests::impls::Answer::{Before, EndsAt, FaultAt, Signs, Trait, Type};
 
-fn counted(item: Impl<'_>) -> Answer {
+fn count_parts(item: Impl<'_>) -> Answer {
     let attributes = item.attributes.len();
     let visibility = item.visibility.len();
     let qualifiers = item.qualifiers.len();
@@ -55,7 +55,7 @@ fn counted(item: Impl<'_>) -> Answer {
 
 fn read(trees: &[TokenTree]) -> Answer {
     match parse_impl(trees) {
-        Ok(item) => counted(item),
+        Ok(item) => count_parts(item),
         Err(fault) => match fault.span {
             Some(_) => FaultAt(fault.at),
             None => EndsAt(fault.at),

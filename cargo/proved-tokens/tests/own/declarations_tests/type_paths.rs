@@ -185,7 +185,11 @@ fn other_types_and_broken_paths_are_rejected() -> Result<(), Fail> {
 }
 
 // The trees in this many groups without delimiters.
-fn wrapped(rt: &(impl Abort + AllocGlobal), text: &str, times: usize) -> Result<TokenStream, Fail> {
+fn wrap_text(
+    rt: &(impl Abort + AllocGlobal),
+    text: &str,
+    times: usize,
+) -> Result<TokenStream, Fail> {
     let mut stream = TokenStream::from_str(text, &mut SourceMap::new())?;
     for _ in 0..times {
         let group = Group::new(Delimiter::None, stream);
@@ -198,11 +202,11 @@ fn wrapped(rt: &(impl Abort + AllocGlobal), text: &str, times: usize) -> Result<
 fn groups_without_delimiters_are_looked_through() -> Result<(), Fail> {
     let rt = HostRuntime;
     for times in [0usize, 1usize, 2usize, 5usize] {
-        let stream = wrapped(&rt, "a::A<T>", times)?;
+        let stream = wrap_text(&rt, "a::A<T>", times)?;
         assert!(read(stream.trees(), "A") == Angle(3, 1, 1));
-        let other = wrapped(&rt, "A + B", times)?;
+        let other = wrap_text(&rt, "A + B", times)?;
         assert!(read(other.trees(), "A") == FaultAt(1));
-        let none = wrapped(&rt, "", times)?;
+        let none = wrap_text(&rt, "", times)?;
         assert!(read(none.trees(), "A") == EndsAt(0));
     }
     Ok(())

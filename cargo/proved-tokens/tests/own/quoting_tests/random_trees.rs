@@ -132,7 +132,7 @@ fn has_a_choice(case: Case) -> Result<bool, Fail> {
 }
 
 /// Returns the quote of the case with the choice of this number.
-fn quoted(case: Case, number: u32) -> Result<Quote, Fail> {
+fn quote_with(case: Case, number: u32) -> Result<Quote, Fail> {
     let mut quote = Quote::new();
     for tree in trees(case, choice_of(number))? {
         quote.push(tree)?;
@@ -156,7 +156,7 @@ fn a_stream_is_given_exactly_where_some_choice_is_well_spaced() -> Result<(), Fa
         let case = random.case();
         let number = random.below(64) as u32;
         let may = has_a_choice(case)?;
-        match quoted(case, number)?.finish() {
+        match quote_with(case, number)?.finish() {
             Ok(stream) => {
                 assert!(may, "of {case:?}");
                 assert!(comes_back(&stream)?, "of {case:?}");

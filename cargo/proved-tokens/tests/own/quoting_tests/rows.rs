@@ -3,7 +3,7 @@
 use crate::shim::prelude::{AllocGlobal, HostRuntime, format};
 
 // The printed text of each kind of tree. The text is parsed again and compared.
-use crate::quoting_tests::trees::{Inner, Leaf, Tree, quoted};
+use crate::quoting_tests::trees::{Inner, Leaf, Tree, quote_with};
 use proved_tokens::proc_macro2::{
     Delimiter, Group, ParseError, Punct, SourceMap, Spacing, Span, TokenStream, TokenTree,
 };
@@ -154,7 +154,7 @@ pub fn check_quote(rt: &(impl Abort + AllocGlobal), quote: &Quote, want: &str) -
 
 /// Asserts that the quote of the trees has the printed text, and reads back from it.
 fn check_printed(rt: &(impl Abort + AllocGlobal), trees: &[Tree], want: &str) -> Result<(), Fail> {
-    let quote = quoted(rt, trees)?;
+    let quote = quote_with(rt, trees)?;
     check_quote(rt, &quote, want)
 }
 
@@ -164,7 +164,7 @@ fn check_refused(
     trees: &[Tree],
     is_lone_quote: bool,
 ) -> Result<(), Fail> {
-    let quote = quoted(rt, trees)?;
+    let quote = quote_with(rt, trees)?;
     match quote.finish() {
         Err(QuoteError::LoneQuote) => assert!(is_lone_quote),
         Err(QuoteError::NoneGroup) => assert!(!is_lone_quote),
@@ -183,7 +183,7 @@ fn trees_are_printed_so_that_they_come_back() -> Result<(), Fail> {
 }
 
 #[test]
-fn what_no_spacing_mends_is_told() -> Result<(), Fail> {
+fn what_no_spacing_mends_is_reported() -> Result<(), Fail> {
     let rt = HostRuntime;
     for &(trees, is_lone_quote) in REFUSED {
         check_refused(&rt, trees, is_lone_quote)?;
@@ -192,8 +192,8 @@ fn what_no_spacing_mends_is_told() -> Result<(), Fail> {
 }
 
 /// Returns the `Debug` text of the quote's stream.
-fn shown(rt: &(impl Abort + AllocGlobal), trees: &[Tree]) -> Result<String, Fail> {
-    let stream = quoted(rt, trees)?.finish()?;
+fn debug_text(rt: &(impl Abort + AllocGlobal), trees: &[Tree]) -> Result<String, Fail> {
+    let stream = quote_with(rt, trees)?.finish()?;
     Ok(format!("{stream:?}")?)
 }
 
@@ -201,7 +201,7 @@ fn shown(rt: &(impl Abort + AllocGlobal), trees: &[Tree]) -> Result<String, Fail
 fn the_last_mark_is_alone_and_others_stay_joint() -> Result<(), Fail> {
     let rt = HostRuntime;
     let colons = &[Tree::One(Leaf::Joint(':')), Tree::One(Leaf::Joint(':'))];
-    let shown = shown(&rt, colons)?;
+    let shown = debug_text(&rt, colons)?;
     let want =
         "TokenStream [Punct { char: ':', spacing: Joint }, Punct { char: ':', spacing: Alone }]";
     assert_eq!(shown.as_str(), want);
@@ -211,7 +211,7 @@ fn the_last_mark_is_alone_and_others_stay_joint() -> Result<(), Fail> {
 #[test]
 fn marks_in_groups_are_respaced_and_the_quote_stays() -> Result<(), Fail> {
     let rt = HostRuntime;
-    let quote = quoted(&rt, NESTED)?;
+    let quote = quote_with(&rt, NESTED)?;
     for _ in 0..2 {
         check_quote(&rt, &quote, "a { (b) [+] -> }")?;
     }
@@ -246,7 +246,7 @@ fn deep_groups_are_respaced_without_a_deep_stack() -> Result<(), Fail> {
 
 /// Returns what a quote has after these were pushed: an Alone quote, the stream in a group without delimiters, and a
 /// Joint mark.
-fn pushed(stream: TokenStream) -> Result<TokenStream, Fail> {
+fn quote_of_pushes(stream: TokenStream) -> Result<TokenStream, Fail> {
     let mut quote = Quote::new();
     quote.push(TokenTree::Punct(Punct::new('\'', Spacing::Alone)))?;
     quote.push(TokenTree::Group(Group::new(Delimiter::None, stream)))?;
@@ -283,7 +283,7 @@ fn a_stream_has_exactly_what_was_pushed() -> Result<(), Fail> {
     let rt = HostRuntime;
     let mut map = SourceMap::new();
     let name = TokenStream::from_str("a", &mut map)?;
-    let stream = pushed(name)?;
+    let stream = quote_of_pushes(name)?;
     let found = match parts_of(&stream) {
         Some((first, delimiter, name, last)) => {
             Some((first, delimiter, text_of(&map, name.span()), last))
@@ -352,7 +352,7 @@ fn forty_thousand_trees_are_finished() -> Result<(), Fail> {
 #[test]
 fn the_trees_of_a_text_go_between_others() -> Result<(), Fail> {
     let rt = HostRuntime;
-    let mut quote = quoted(
+    let mut quote = quote_with(
         &rt,
         &[Tree::One(Leaf::Name("x")), Tree::One(Leaf::Alone(':'))],
     )?;

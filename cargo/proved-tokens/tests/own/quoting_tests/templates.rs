@@ -24,14 +24,14 @@ struct Fillings {
     lists: Vec<Vec<TokenStream>>,
 }
 
-fn parsed(text: &str) -> Result<TokenStream, Fail> {
+fn parse_text(text: &str) -> Result<TokenStream, Fail> {
     Ok(TokenStream::from_str(text, &mut SourceMap::new())?)
 }
 
 fn parsed_list(texts: &[&str]) -> Result<Vec<TokenStream>, Fail> {
     let mut streams = Vec::new();
     for text in texts {
-        streams.push_fallibly(parsed(text)?)?;
+        streams.push_fallibly(parse_text(text)?)?;
     }
     Ok(streams)
 }
@@ -39,7 +39,7 @@ fn parsed_list(texts: &[&str]) -> Result<Vec<TokenStream>, Fail> {
 fn parsed_ones(ones: &[(&str, &str)]) -> Result<Vec<TokenStream>, Fail> {
     let mut streams = Vec::new();
     for &(_, text) in ones {
-        streams.push_fallibly(parsed(text)?)?;
+        streams.push_fallibly(parse_text(text)?)?;
     }
     Ok(streams)
 }
@@ -82,7 +82,7 @@ fn filled_by(template: &str, holes: &[Hole<'_>]) -> Result<String, Fail> {
 }
 
 /// Returns the printed text of the filled template.
-fn filled(template: &str, given: Given) -> Result<String, Fail> {
+fn filled_text(template: &str, given: Given) -> Result<String, Fail> {
     let fillings = parsed_holes(given)?;
     let holes = holes(given, &fillings)?;
     filled_by(template, holes.as_slice())
@@ -95,13 +95,13 @@ fn check_filled(
     given: Given,
     want: &str,
 ) -> Result<(), Fail> {
-    let code = filled(template, given)?;
+    let code = filled_text(template, given)?;
     assert_eq!(code.as_str(), want, "of {template:?}");
     Ok(())
 }
 
 /// Returns the message of the error and the columns of its start and end.
-fn told(
+fn message_of(
     error: &TemplateError,
     map: &SourceMap,
 ) -> Result<Option<(String, usize, usize)>, AllocError> {
@@ -123,7 +123,7 @@ fn fault(
     let mut quote = Quote::new();
     match quote.parse(template, &mut map, holes) {
         Ok(()) => Ok(None),
-        Err(error) => told(&error, &map),
+        Err(error) => message_of(&error, &map),
     }
 }
 
@@ -435,8 +435,8 @@ fn check_refused(rt: &(impl Abort + AllocGlobal), quote: &mut Quote) {
 
 /// Adds the template `#x;` to the quote, with `a` for its hole.
 fn fill(quote: &mut Quote) -> Result<(), Fail> {
-    let one = parsed("a")?;
-    let template = parsed("#x;")?;
+    let one = parse_text("a")?;
+    let template = parse_text("#x;")?;
     quote.fill(&template, &[Hole::one("x", &one)])?;
     Ok(())
 }

@@ -10,7 +10,7 @@ use crate::shim::process::Abort;
 use crate::shim::test::Fail;
 
 /// Returns the printed text of the template with these holes.
-fn filled(template: &str, holes: &[Hole<'_>]) -> Result<String, TemplateError> {
+fn filled_text(template: &str, holes: &[Hole<'_>]) -> Result<String, TemplateError> {
     let mut quote = Quote::new();
     quote.parse(template, &mut SourceMap::new(), holes)?;
     let stream = quote.into_stream();
@@ -18,19 +18,19 @@ fn filled(template: &str, holes: &[Hole<'_>]) -> Result<String, TemplateError> {
 }
 
 /// Returns the printed text of the template with this value for `x`.
-fn printed<'a>(
+fn printed_text<'a>(
     template: &str,
     value: &'a Value<'a>,
 ) -> Result<String, TemplateError> {
     let holes = [Hole::of("x", value)];
-    filled(template, &holes)
+    filled_text(template, &holes)
 }
 
 /// The error of a template, its column, and the number of trees in the quote after it.
-type Told = (TemplateError, Option<usize>, usize);
+type ErrorCase = (TemplateError, Option<usize>, usize);
 
 /// Returns the error of the template with these holes.
-fn told(template: &str, holes: &[Hole<'_>]) -> Option<Told> {
+fn message_of(template: &str, holes: &[Hole<'_>]) -> Option<ErrorCase> {
     let mut quote = Quote::new();
     let mut map = SourceMap::new();
     let Err(fault) = quote.parse(template, &mut map, holes) else {
@@ -44,9 +44,9 @@ fn told(template: &str, holes: &[Hole<'_>]) -> Option<Told> {
 }
 
 /// Returns the error of `a b #x` with this value for `x`.
-fn fault_of<'a>(value: &'a Value<'a>) -> Option<Told> {
+fn fault_of<'a>(value: &'a Value<'a>) -> Option<ErrorCase> {
     let holes = [Hole::of("x", value)];
-    told("a b #x", &holes)
+    message_of("a b #x", &holes)
 }
 
 /// Asserts that a hole with this value is an error at its name, which leaves the quote empty. Returns the error.
@@ -70,7 +70,7 @@ fn check<'a>(
     value: &'a Value<'a>,
     want: &str,
 ) -> Result<(), Fail> {
-    let text = printed(template, value)?;
+    let text = printed_text(template, value)?;
     assert_eq!(text.as_str(), want, "of {template:?}");
     Ok(())
 }
@@ -157,7 +157,7 @@ fn numbers_have_their_suffix() -> Result<(), Fail> {
         (Number::Isize(-1), "- 1isize"),
     ];
     for &(number, want) in &rows {
-        let text = printed("#x", &Value::Number(number))?;
+        let text = printed_text("#x", &Value::Number(number))?;
         assert_eq!(text.as_str(), want);
     }
     Ok(())
@@ -260,11 +260,11 @@ fn three_filled<'a>(
         Hole::of("name", names),
         Hole::of("all", all),
     ];
-    filled(template, &holes)
+    filled_text(template, &holes)
 }
 
 /// What the template prints with a list of lists for `value`, a list for `name` and a name for `all`.
-fn nested(template: &str) -> Result<String, TemplateError> {
+fn nested_text(template: &str) -> Result<String, TemplateError> {
     let values = rows()?;
     let names = texts()?;
     three_filled(
@@ -289,11 +289,11 @@ fn repetitions_are_nested() -> Result<(), Fail> {
         ),
     ];
     for &(template, want) in &templates {
-        let text = nested(template)?;
+        let text = nested_text(template)?;
         assert_eq!(text.as_str(), want);
     }
     // The innermost repetition has no list left.
-    let fault = nested("#( #( #( #value )* )* )*");
+    let fault = nested_text("#( #( #( #value )* )* )*");
     assert!(matches!(fault, Err(TemplateError::NoList(_))));
     Ok(())
 }

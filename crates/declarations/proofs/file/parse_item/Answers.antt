@@ -13,11 +13,11 @@ returns-clause-ok c =
     let only = c.in_ok-item.ensures.only c.args.trees.now _ (alone c.args.trees.now c.in_ok-read_whole.ensures.ok) in
     (c.in_ok-read_whole.ensures.ok, sym only.0)
 
-pub returns-clause-told : goal.returns-clause-told
-returns-clause-told c =
+pub returns-clause-kind_and_name : goal.returns-clause-kind_and_name
+returns-clause-kind_and_name c =
     let only = c.in_ok-item.ensures.only c.args.trees.now _ (alone c.args.trees.now c.in_ok-read_whole.ensures.ok) in
-    let told = c.in_ok-item.ensures.told in (
-      told.0,
-      subst (λ ts. Tells c.args.trees.now ts c.in_ok-item.item.kind told.0) (sym only.1) told.1,
-      told.2,
+    let kind_and_name = c.in_ok-item.ensures.kind_and_name in (
+      kind_and_name.0,
+      subst (λ ts. Tells c.args.trees.now ts c.in_ok-item.item.kind kind_and_name.0) (sym only.1) kind_and_name.1,
+      kind_and_name.2,
     )

@@ -5,7 +5,7 @@ use Rattle.pm_stream.specs.Building.{split}
 use Rattle.lexical.specs.Token.{Name}
 use Rattle.pm_token.specs.Built.{IsBuiltToken}
 use Rattle.declarations.proofs.CompileErrorLemmas.{core_built, core_chars, compile_error_built, compile_error_chars}
-use Rattle.declarations.proofs.CompileErrorLemmas.{all_put, built, built_braces, drained}
+use Rattle.declarations.proofs.CompileErrorLemmas.{all_put, built_call, built_braces, drain_gives}
 use Rattle.declarations.proofs.message.compile_error.Goals as goal
 
 pub ident-requires : goal.ident-requires
@@ -17,8 +17,8 @@ ident-requires-2 c = subst (λ name. IsBuiltToken (Name false name)) (sym compil
 pub returns : goal.returns
 returns c =
     let span = c.args.span in
-    all_put _ array_steps array_into_iter_items split _ _ c.from_trees.result drained (λ it is. is.0)
-    (built (chars c.args.text.now) span _ _ _ _ _ c.in_ok-core.core c.in_ok-name.name c.set_span.new.self
+    all_put _ array_steps array_into_iter_items split _ _ c.from_trees.result drain_gives (λ it is. is.0)
+    (built_call (chars c.args.text.now) span _ _ _ _ _ c.in_ok-core.core c.in_ok-name.name c.set_span.new.self
     c.punct.ensures c.punct-2.ensures
     (c.in_ok-core.ensures.ok ∙ ap (λ n. record { name = n; raw = false; span = span }) core_chars)
     c.punct-3.ensures c.punct-4.ensures

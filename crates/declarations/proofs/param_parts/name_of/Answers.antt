@@ -3,7 +3,7 @@ use Rattle.std.proofs.lemmas.Grind.{common_steps}
 use Rattle.std.proofs.lemmas.Result.{err_from_is_err_and}
 use Rattle.declarations.proofs.ParamLemmas.{const_fails}
 use Rattle.declarations.specs.Signs.{BeginsWith}
-use Rattle.declarations.specs.declared.class.Class.TheVariants as classes
+use Rattle.declarations.specs.declared.class.SignClass.TheVariants as classes
 use Rattle.declarations.specs.declared.class.Keyword.TheVariants as keywords
 use Rattle.declarations.proofs.param_parts.name_of.Goals as goal
 

@@ -1,5 +1,5 @@
 use Rattle.std.proofs.Common.{◌∙◌, refl, arith}
-use Rattle.declarations.proofs.ReadingLemmas.{split_read, split_only, split_told, split_fault}
+use Rattle.declarations.proofs.ReadingLemmas.{split_read, split_only, split_kind_and_name, split_fault}
 use Rattle.declarations.proofs.WholeLemmas.{span_at}
 use Rattle.declarations.specs.Forms.{IsFrom}
 use Rattle.declarations.specs.Reading.{Reads, first_name}
@@ -19,11 +19,12 @@ returns-then-may_end-clause-only c =
     c.walk_from-stop.ensures.walked (cc) c.walk_from-stop.ensures.stops c.split_at.ensures.by_index.0 (omega arith) in
     split_only c.args.start c.args.trees.now c.split_at.result.0.now c.split_at.result.1.now read
 
-pub returns-then-may_end-clause-told : goal.returns-then-may_end-clause-told
-returns-then-may_end-clause-told c =
+pub returns-then-may_end-clause-kind_and_name : goal.returns-then-may_end-clause-kind_and_name
+returns-then-may_end-clause-kind_and_name c =
     let stop = c.walk_from-stop.result in (
       stop.place,
-      split_told c.args.start c.args.trees.now stop.left.now c.split_at.result.0.now c.split_at.result.1.now stop.place
+      split_kind_and_name c.args.start c.args.trees.now stop.left.now c.split_at.result.0.now c.split_at.result.1.now
+          stop.place
           (first_name stop.named.now) c.walk_from-stop.ensures.walked c.split_at.ensures.by_index.0 (omega arith),
       refl,
     )

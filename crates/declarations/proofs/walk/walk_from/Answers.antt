@@ -1,6 +1,6 @@
 use Rattle.std.proofs.Common.{◌≡◌, ◌∙◌, sym, ap, subst, cond, arith}
 use Rattle.declarations.proofs.ReadingLemmas.{walked-more, first_of}
-use Rattle.declarations.specs.Reading.{Walked, first_name, named}
+use Rattle.declarations.specs.Reading.{Walked, first_name, name_so_far}
 use Rattle.declarations.proofs.walk.walk_from.Goals as goal
 
 pub loop-next-preserved : goal.loop-next-preserved
@@ -8,7 +8,7 @@ loop-next-preserved c =
     let found = c.in-Some.ensures.found in
     let left = c.loop-next.left.now in
     let before = c.loop-next.named.now in
-    let name : named c.loop-next.place found.0 left (first_name before) ≡ first_name c.later-named.result.now =
+    let name : name_so_far c.loop-next.place found.0 left (first_name before) ≡ first_name c.later-named.result.now =
     sym (ap first_name c.later-named.ensures ∙ first_of c.in-Some.begins left before
     ∙ ap (λ b. cond b (first_name left) (first_name before)) found.3) in
     record {

@@ -3,8 +3,8 @@ use Rattle.explain.proofs.ExplainingLemmas.{stops_at, stops_there, stuck_explain
 use Rattle.explain.proofs.StandLemmas.{all_lost, all_reverse}
 use Rattle.explain.proofs.explaining.explain_at.Goals as goal
 
-pub refused-requires-clause-stands : goal.refused-requires-clause-stands
-refused-requires-clause-stands c =
+pub explain_closer-requires-clause-stands : goal.explain_closer-requires-clause-stands
+explain_closer-requires-clause-stands c =
     (_, (stops_at _ _ c.in_ok-rest.field-0.opened.items _ c.in_ok-rest.ensures.stops c.in-Some.closer c.in-Some.is).0)
 
 pub returns-in-Some : goal.returns-in-Some
@@ -13,14 +13,14 @@ returns-in-Some c =
     let h = opened_by _ _ _ _ _ _ _ _ all in
     let stop = stops_at _ _ c.in_ok-rest.field-0.opened.items _ c.in_ok-rest.ensures.stops c.in-Some.closer
     c.in-Some.is in
-    let x = c.refused.result in
+    let x = c.explain_closer.result in
     let whole = read_whole _ _ _ _ _ _ h in
     let place = read_at _ _ _ _ _ _ h in
-    refused_explained _ _ _ _ _ _ h x c.in-Some.closer stop.0 (stop.1 h.groups h.around) c.refused.ensures.reason
-    c.refused.ensures.open
-    (all_lost _ _ x.innermost x.outer.items c.refused.ensures.kept (all_reverse _ _ all.takes.takes.stand))
-    (c.refused.ensures.before _ (read _ _ _ _ _ _ h) whole place)
-    (c.refused.ensures.at _ (read _ _ _ _ _ _ h) stop.0.front stop.0.rest whole place stop.0.whole stop.0.chars)
+    refused_explained _ _ _ _ _ _ h x c.in-Some.closer stop.0 (stop.1 h.groups h.around) c.explain_closer.ensures.reason
+    c.explain_closer.ensures.open
+    (all_lost _ _ x.innermost x.outer.items c.explain_closer.ensures.kept (all_reverse _ _ all.takes.takes.stand))
+    (c.explain_closer.ensures.before _ (read _ _ _ _ _ _ h) whole place)
+    (c.explain_closer.ensures.at _ (read _ _ _ _ _ _ h) stop.0.front stop.0.rest whole place stop.0.whole stop.0.chars)
 
 pub returns-then-is_done : goal.returns-then-is_done
 returns-then-is_done c =

@@ -9,20 +9,20 @@ use Rattle.explain.proofs.NumberLemmas.{none_in, no_prefix, one_none, run_stops,
 use Rattle.explain.proofs.NumberLemmas.{digit_none}
 use Rattle.explain.proofs.numbers.number.Goals as goal
 
-pub based-requires-clause-none : goal.based-requires-clause-none
-based-requires-clause-none c =
+pub no_based_number-requires-clause-none : goal.no_based_number-requires-clause-none
+no_based_number-requires-clause-none c =
     none_in Hexadecimal (chars c.in-Some.inside.rest.now)
     (subst (λ t. find number t ≡ None) (past_text (codes "0x") c.args.at c.in-Some.inside c.in-Some.ensures).0
     c.requires.none)
 
-pub based-requires-in-Some-past-clause-none : goal.based-requires-in-Some-past-clause-none
-based-requires-in-Some-past-clause-none c =
+pub no_based_number-requires-in-Some-past-clause-none : goal.no_based_number-requires-in-Some-past-clause-none
+no_based_number-requires-in-Some-past-clause-none c =
     none_in Octal (chars c.in-Some-past.inside.rest.now)
     (subst (λ t. find number t ≡ None) (past_text (codes "0o") c.args.at c.in-Some-past.inside c.in-Some-past.ensures).0
     c.requires.none)
 
-pub based-requires-in-Some-past-2-clause-none : goal.based-requires-in-Some-past-2-clause-none
-based-requires-in-Some-past-2-clause-none c =
+pub no_based_number-requires-in-Some-past-2-clause-none : goal.no_based_number-requires-in-Some-past-2-clause-none
+no_based_number-requires-in-Some-past-2-clause-none c =
     none_in Binary (chars c.in-Some-past-2.inside.rest.now)
     (subst (λ t. find number t ≡ None)
     (past_text (codes "0b") c.args.at c.in-Some-past-2.inside c.in-Some-past-2.ensures).0

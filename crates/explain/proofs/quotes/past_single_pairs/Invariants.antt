@@ -1,7 +1,7 @@
 use Rattle.std.proofs.Common.{codes, length}
 use Rattle.std.specs.Str.{chars}
 use Rattle.lexical.specs.Rule.{Exactly, UpTo}
-use Rattle.lexical.specs.Step.{Leads}
+use Rattle.lexical.specs.RuleMatch.{Leads}
 use Rattle.explain.specs.Shapes.{single_pair}
 use Rattle.explain.proofs.quotes.past_single_pairs.Given as goal
 

@@ -1,6 +1,6 @@
 use Rattle.std.proofs.Common.{length}
 use Rattle.std.specs.Str.{chars}
-use Rattle.lexical.specs.Step.{Leads}
+use Rattle.lexical.specs.RuleMatch.{Leads}
 use Rattle.explain.specs.Shapes.{closed_body}
 use Rattle.explain.proofs.strings.past_quote.Given as goal
 

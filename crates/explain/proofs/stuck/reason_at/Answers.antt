@@ -2,7 +2,8 @@ use Rattle.lexical.specs.declared.class.PieceStart.TheVariants as starts
 use Rattle.lexical.proofs.ClassLemmas.{of_start}
 use Rattle.lexical.specs.declared.quoted.StringKind.TheVariants as kinds
 use Rattle.explain.proofs.StuckLemmas.{closer_stands, comment_none, digit_first, letter_first, letter_none, mark_stands}
-use Rattle.explain.proofs.StuckLemmas.{misplaced, no_literal, no_number, no_token, opener_stands, past_one, quote_none}
+use Rattle.explain.proofs.StuckLemmas.{mark_is_misplaced, no_literal, no_number, no_token, opener_stands, past_one}
+use Rattle.explain.proofs.StuckLemmas.{quote_none}
 use Rattle.explain.proofs.StuckLemmas.{string_none, white_stands}
 use Rattle.explain.proofs.stuck.reason_at.Goals as goal
 
@@ -24,7 +25,8 @@ string-requires-clause-opens c =
     (of_start starts.DoubleQuote c.in-Some.c c.in-DoubleQuote.ensures)
 
 pub returns-in-FrontMark : goal.returns-in-FrontMark
-returns-in-FrontMark c = misplaced c.in-Some.c _ _ c.in-Some.ensures.0 c.in-Some.ensures.1 c.in-FrontMark.ensures
+returns-in-FrontMark c = mark_is_misplaced c.in-Some.c _ _ c.in-Some.ensures.0 c.in-Some.ensures.1
+    c.in-FrontMark.ensures
 
 pub returns-in-Other : goal.returns-in-Other
 returns-in-Other c = no_token c.in-Some.c _ _ c.in-Some.ensures.0 c.in-Some.ensures.1 c.in-Other.ensures

@@ -18,8 +18,8 @@ returns-then-is_none-clause-ok g c =
     = rw (c.as_bytes.ensures.value, c.as_bytes-2.ensures.value) at c.find.ensures in
     inl (subst (FindsNeedle c.args.text.now c.args.name.now 0) none found, Keeps-same _, refl)
 
-pub unparsed-requires : goal.unparsed-requires
-unparsed-requires g c =
+pub parse_failure-requires : goal.parse_failure-requires
+parse_failure-requires g c =
     let map = c.in_ok-add_file.ensures.ok ∙ ap (λ (m : Files). with_file m (chars c.args.text.now)) c.new-map.ensures in
     let is = c.in-Err-Parse.field-0-is ∙ ap Parse (sym c.in-Err-Parse.error-is) in
     fault_is_held _ (chars c.args.text.now) _ map (lex_of c.in-Err-Parse.field-0 _ is _ c.in-Err-Parse.ensures.lex)
@@ -30,8 +30,8 @@ returns-in-Err-Parse-clause-err g c =
     let is = c.in-Err-Parse.field-0-is ∙ ap Parse (sym c.in-Err-Parse.error-is) in
     inl (unread_may_fail (chars c.args.text.now) _ _ _ _ map
     (lex_of c.in-Err-Parse.field-0 _ is _ c.in-Err-Parse.ensures.lex)
-    (λ full. (c.in-Err-Parse.ensures.map_full.0 (ap Err (is ∙ ap Parse full))).1) c.unparsed.ensures.fault
-    c.unparsed.ensures.map_full c.unparsed.ensures.memory)
+    (λ full. (c.in-Err-Parse.ensures.map_full.0 (ap Err (is ∙ ap Parse full))).1) c.parse_failure.ensures.fault
+    c.parse_failure.ensures.map_full c.parse_failure.ensures.memory)
 
 pub print_lines-requires : goal.print_lines-requires
 print_lines-requires g c =

@@ -8,7 +8,7 @@ returns c = λ known.
     let full = rw c.new-map.ensures at c.in-Err.ensures.map_full.0 in
     unparsed_may_fail TokenStream _ known _ _ _ (rw c.new-map.ensures at c.in-Err.ensures.kept)
     (rw c.new-map.ensures at c.in-Err.ensures.lex) (λ is. full (ap Err is))
-    c.unparsed.ensures.fault c.unparsed.ensures.map_full c.unparsed.ensures.memory
+    c.parse_failure.ensures.fault c.parse_failure.ensures.map_full c.parse_failure.ensures.memory
 
 pub unreachable-requires : goal.unreachable-requires
 unreachable-requires c =

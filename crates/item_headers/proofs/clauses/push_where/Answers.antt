@@ -1,4 +1,4 @@
-use Rattle.item_headers.proofs.FaultLemmas.{no_predicates_after, no_predicates_here, told}
+use Rattle.item_headers.proofs.FaultLemmas.{no_predicates_after, no_predicates_here, fault_statement}
 use Rattle.item_headers.proofs.HeaderLemmas.{none_left, predicates_done}
 use Rattle.item_headers.proofs.ListLemmas.{no_predicates, predicate_more}
 use Rattle.item_headers.proofs.clauses.push_where.Goals as goal
@@ -17,10 +17,11 @@ returns-clause-ok c = predicates_done c.args.where_clause.now _ _ _ _ _ c.in_ok-
 
 pub returns-in_err-left-clause-fault : goal.returns-in_err-left-clause-fault
 returns-in_err-left-clause-fault c =
-    told c.from_residual.result _ (no_predicates_after c.args.where_clause.now c.in_err-left.ensures.fault)
+    fault_statement c.from_residual.result _ (no_predicates_after c.args.where_clause.now c.in_err-left.ensures.fault)
 
 pub returns-in_err-predicate-clause-fault : goal.returns-in_err-predicate-clause-fault
 returns-in_err-predicate-clause-fault c =
     let so_far = c.loop-left.invariant in
-    told c.from_residual-in_err-predicate.result _ (no_predicates_here c.args.where_clause.now c.in_ok-left.left.now
+    fault_statement c.from_residual-in_err-predicate.result _
+    (no_predicates_here c.args.where_clause.now c.in_ok-left.left.now
     c.loop-left.left.now so_far.done c.in_ok-left.ensures.ok so_far.read (cc) c.in_err-predicate.ensures.fault)

@@ -1,4 +1,4 @@
-use Rattle.item_headers.proofs.FaultLemmas.{no_params_here, no_params_within, told}
+use Rattle.item_headers.proofs.FaultLemmas.{no_params_here, no_params_within, fault_statement}
 use Rattle.item_headers.proofs.HeaderLemmas.{none_left, params_closed, params_none}
 use Rattle.item_headers.proofs.ListLemmas.{no_params, param_more}
 use Rattle.item_headers.proofs.params.push_generics.Goals as goal
@@ -25,10 +25,10 @@ returns-clause-ok c =
 
 pub returns-in_err-left-clause-fault : goal.returns-in_err-left-clause-fault
 returns-in_err-left-clause-fault c =
-    told c.from_residual.result _ (no_params_within c.args.trees.now c.in_err-left.ensures.fault)
+    fault_statement c.from_residual.result _ (no_params_within c.args.trees.now c.in_err-left.ensures.fault)
 
 pub returns-in_err-param-clause-fault : goal.returns-in_err-param-clause-fault
 returns-in_err-param-clause-fault c =
     let so_far = c.loop-left.invariant in
-    told c.from_residual-in_err-param.result _ (no_params_here c.args.trees.now c.in_ok-left.left.now
+    fault_statement c.from_residual-in_err-param.result _ (no_params_here c.args.trees.now c.in_ok-left.left.now
     c.loop-left.left.now so_far.done c.in_ok-left.ensures.ok so_far.read (cc) c.in_err-param.ensures.fault)

@@ -4,7 +4,7 @@ use Rattle.declarations.specs.declared.generics.ParamKind.TheVariants as kinds
 use Rattle.item_headers.proofs.HeaderLemmas.{keyword_is}
 use Rattle.item_headers.specs.Header.{keyword}
 use Rattle.pm_stream.proofs.BuildingLemmas.{joined_nil}
-use Rattle.proc_macro2.specs.Forest.{joined}
+use Rattle.proc_macro2.specs.Forest.{chain}
 use Rattle.item_headers.proofs.params.push_keyword.Goals as goal
 
 pub returns-in-Lifetime : goal.returns-in-Lifetime
@@ -19,5 +19,5 @@ returns-in-Type c =
 pub returns-in-Const : goal.returns-in-Const
 unfolding chars
 returns-in-Const c =
-    subst (λ k. OnOk c.push_word.result (c.push_word.new.quote ≡ joined c.args.quote.now (keyword k)))
+    subst (λ k. OnOk c.push_word.result (c.push_word.new.quote ≡ chain c.args.quote.now (keyword k)))
     (sym c.in-Const.is) c.push_word.ensures

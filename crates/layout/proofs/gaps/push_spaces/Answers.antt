@@ -14,13 +14,13 @@ loop-left-preserved c =
     ∙ c.loop-left.invariant))
 
 -- what is appended may be replaced by an equal text
-appended : {E : Type 0} (r : Result (Unit {0}) E) (new one other : List ℕ) → OnOk r (new ≡ one) → one ≡ other
+append_equal : {E : Type 0} (r : Result (Unit {0}) E) (new one other : List ℕ) → OnOk r (new ≡ one) → one ≡ other
     → OnOk r (new ≡ other)
-appended (Ok v) new one other e f = e ∙ f
-appended (Err v) new one other e f = tt
+append_equal (Ok v) new one other e f = e ∙ f
+append_equal (Err v) new one other e f = tt
 
 pub returns : goal.returns
 returns c =
-    appended c.push_text-2.result _ _ _ c.push_text-2.ensures.ok
+    append_equal c.push_text-2.result _ _ _ c.push_text-2.ensures.ok
     (ap (λ s. c.loop-left.text ++ s) (ap chars c.few_spaces.ensures ∙ spaces_chars c.loop-left.left)
     ∙ c.loop-left.invariant)

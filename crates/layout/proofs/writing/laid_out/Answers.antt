@@ -1,6 +1,6 @@
 use Rattle.std.proofs.Common.{◌++◌, length, refl, sym, ap, ◌∙◌, subst, arith, Some}
 use Rattle.pm_stream.specs.Steps.{step_of}
-use Rattle.pm_stream.proofs.StepLemmas.{taken}
+use Rattle.pm_stream.proofs.StepLemmas.{takes_first}
 use Rattle.layout.specs.Layout.{IsLayout, event_text}
 use Rattle.layout.specs.Writing.{before_of, event_of, gap_text, step_before}
 use Rattle.layout.proofs.WritingLemmas.{events_left, leads_start, leads_next, leads_last, none_taken, string_chars}
@@ -14,13 +14,13 @@ loop-steps-init g c = (
 )
 
 pub loop-steps-smaller : goal.loop-steps-smaller
-loop-steps-smaller g c = omega (arith, ap length (taken _ _ _ _ c.in-Some.is c.in_ok-step.ensures.ok))
+loop-steps-smaller g c = omega (arith, ap length (takes_first _ _ _ _ c.in-Some.is c.in_ok-step.ensures.ok))
 
 pub loop-steps-preserved : goal.loop-steps-preserved
 loop-steps-preserved g c =
     let step = step_of c.in-Some.step in
     let front = event_text (event_of step) in
-    let left = taken _ _ _ _ c.in-Some.is c.in_ok-step.ensures.ok in
+    let left = takes_first _ _ _ _ c.in-Some.is c.in_ok-step.ensures.ok in
     let text =
     c.in_ok-push_step.ensures
     ∙ ap (λ x. x ++ front) (c.in_ok-push_gap.ensures

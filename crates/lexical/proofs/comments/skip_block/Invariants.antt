@@ -2,7 +2,7 @@ use Rattle.std.proofs.Common.{◌≤◌, length}
 use Rattle.std.specs.Str.{chars}
 use Rattle.lexical.specs.Comment.{block_comment}
 use Rattle.lexical.specs.Rule.{Ends}
-use Rattle.lexical.specs.Step.{Leads}
+use Rattle.lexical.specs.RuleMatch.{Leads}
 use Rattle.lexical.proofs.comments.skip_block.Given as goal
 
 abbrev pub invariant-loop-depth : goal.invariant-loop-depth

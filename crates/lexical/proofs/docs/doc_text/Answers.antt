@@ -16,46 +16,48 @@ unfolding chars
 sign = refl
 
 -- the text after the first three bytes is the text after the first three characters
-after_front : (comment said : List ℕ) → IsUtf8 comment → is_doc (chars comment) ≡ true → said ≡ drop 3 comment
-    → chars said ≡ drop 3 (chars comment)
-after_front comment said utf8 doc cut =
+after_front : (comment doc_body : List ℕ) → IsUtf8 comment → is_doc (chars comment) ≡ true → doc_body ≡ drop 3 comment
+    → chars doc_body ≡ drop 3 (chars comment)
+after_front comment doc_body utf8 doc cut =
     let d = doc_front (chars comment) doc in
     ap chars cut ∙ seam_drop comment d.front (drop 3 (chars comment)) 3 utf8 d.whole d.bytes
 
 -- this text is the doc text and the end of the comment
-said_is : (comment said r end : List ℕ) → IsUtf8 comment → Where is_doc Comment (chars comment) r
-    → said ≡ drop 3 comment
-    → closing (chars comment) r ≡ end → chars said ≡ doc_text (chars comment) r ++ end
-said_is comment said r end utf8 h cut is =
-    after_front comment said utf8 h.1 cut
+doc_body_is : (comment doc_body r end : List ℕ) → IsUtf8 comment → Where is_doc Comment (chars comment) r
+    → doc_body ≡ drop 3 comment
+    → closing (chars comment) r ≡ end → chars doc_body ≡ doc_text (chars comment) r ++ end
+doc_body_is comment doc_body r end utf8 h cut is =
+    after_front comment doc_body utf8 h.1 cut
     ∙ (doc_back (chars comment) r h.0 h.1 ∙ ap (λ x. doc_text (chars comment) r ++ x) is)
 
-pub range_from-said-requires : goal.range_from-said-requires
-range_from-said-requires c = λ _.
+pub range_from-doc_body-requires : goal.range_from-doc_body-requires
+range_from-doc_body-requires c = λ _.
     let d = doc_front (chars c.args.comment.now) c.requires.1 in
     seam_boundary c.args.comment.now d.front (drop 3 (chars c.args.comment.now)) 3 c.utf8.comment d.whole d.bytes
 
 pub before-requires : goal.before-requires
 before-requires c =
     let end = closing_block (chars c.args.comment.now) (chars c.args.rest.now) (sym c.if-begins.ensures) ∙ sym sign in
-    (_, said_is _ _ _ _ c.utf8.comment c.requires c.range_from-said.ensures.value end)
+    (_, doc_body_is _ _ _ _ c.utf8.comment c.requires c.range_from-doc_body.ensures.value end)
 
 pub returns-then-begins : goal.returns-then-begins
 returns-then-begins c =
     let end = closing_block (chars c.args.comment.now) (chars c.args.rest.now) (sym c.if-begins.ensures) ∙ sym sign in
-    c.before-then-begins.ensures _ (said_is _ _ _ _ c.utf8.comment c.requires c.range_from-said.ensures.value end)
+    c.before-then-begins.ensures _ (doc_body_is _ _ _ _ c.utf8.comment c.requires c.range_from-doc_body.ensures.value
+    end)
 
 pub returns-then-begins-2 : goal.returns-then-begins-2
 returns-then-begins-2 c =
-    let same = after_front _ _ c.utf8.comment c.requires.1 c.range_from-said.ensures.value in
+    let same = after_front _ _ c.utf8.comment c.requires.1 c.range_from-doc_body.ensures.value in
     let end = closing_line (chars c.args.comment.now) (chars c.args.rest.now) c.requires.1 (sym c.if-begins.ensures)
     (sym c.if-begins-2.ensures) in
-    append_cancel_right _ _ (last_return (chars c.range_from-said.result.now)) (sym c.without_return.ensures
-    ∙ said_is _ _ _ _ c.utf8.comment c.requires c.range_from-said.ensures.value (end ∙ ap last_return (sym same)))
+    append_cancel_right _ _ (last_return (chars c.range_from-doc_body.result.now)) (sym c.without_return.ensures
+    ∙ doc_body_is _ _ _ _ c.utf8.comment c.requires c.range_from-doc_body.ensures.value
+    (end ∙ ap last_return (sym same)))
 
 pub returns-else-begins-2 : goal.returns-else-begins-2
 returns-else-begins-2 c =
     let p = chars c.args.comment.now in
     let end = closing_none p (chars c.args.rest.now) (sym c.if-begins.ensures)
     (and_right (ends_with 13 p) _ (sym c.if-begins-2.ensures)) in
-    said_is _ _ _ _ c.utf8.comment c.requires c.range_from-said.ensures.value end ∙ append-nil _
+    doc_body_is _ _ _ _ c.utf8.comment c.requires c.range_from-doc_body.ensures.value end ∙ append-nil _

@@ -1,6 +1,6 @@
 use Rattle.std.proofs.Common.{rules, sym, ap, ◌∙◌}
 use Rattle.std.specs.Str.{chars}
-use Rattle.lexical.specs.PieceFinder.{found}
+use Rattle.lexical.specs.PieceFinder.{find_piece}
 use Rattle.lexical.proofs.PieceLemmas.{none_from_found}
 use Rattle.lexical.proofs.AnswerLemmas.{read_stands, piece_is_at}
 use Rattle.lexical.proofs.lexer.piece_by_characters.Goals as goal
@@ -8,7 +8,7 @@ use Rattle.lexical.proofs.lexer.piece_by_characters.Goals as goal
 pub returns-in_err-kind-clause-none : goal.returns-in_err-kind-clause-none
 returns-in_err-kind-clause-none c =
     let none = none_from_found c.args.first (chars c.args.text.now)
-    (ap (found c.args.first) (ap chars (sym c.new.ensures.rest)) ∙ c.in_err-kind.ensures) in
+    (ap (find_piece c.args.first) (ap chars (sym c.new.ensures.rest)) ∙ c.in_err-kind.ensures) in
     search (rules, none)
 
 pub bytes_in-requires : goal.bytes_in-requires

@@ -7,7 +7,7 @@ use Rattle.lexical.specs.Literal.{quoted_literal}
 use Rattle.lexical.specs.Mark.{is_mark}
 use Rattle.lexical.specs.Number.{number}
 use Rattle.lexical.specs.PieceFinder.{front_mark_kind, gap_kind, opener_kind, closer_kind, quote_kind, find_lone_quote}
-use Rattle.lexical.specs.PieceFinder.{tagged}
+use Rattle.lexical.specs.PieceFinder.{and_kind}
 use Rattle.lexical.specs.Rule.{One, Exactly, find}
 use Rattle.lexical.specs.declared.class.PieceStart.TheVariants as starts
 use Rattle.lexical.proofs.ClassLemmas.{of_start, mark_not_quote, mark_plain}
@@ -37,7 +37,7 @@ returns-in-Some c = read_first _ _ _ _ _ (at_start _ starts.Letter c.in_ok-first
 pub returns-in-None : goal.returns-in-None
 returns-in-None c =
     same_answers _ _ (second c.in-None.ensures (at_start _ starts.Letter c.in_ok-first.ensures.0 c.in-Letter.ensures))
-    (c.as_literal.ensures quoted_literal c.args.at c.quoted.ensures)
+    (c.as_literal.ensures quoted_literal c.args.at c.skip_quoted.ensures)
 
 pub returns-in-Digit : goal.returns-in-Digit
 returns-in-Digit c =
@@ -48,7 +48,7 @@ pub returns-in-Some-past : goal.returns-in-Some-past
 returns-in-Some-past c =
     let begins = ap (begins_any (error_literal ∷ [])) (past_text error_literal _ _ c.in-Some-past.ensures).0 in
     same_answers c.args.at (Some (_, c.in-Some-past.end))
-    (second (ap (tagged opener_kind) (not_at_stops (error_literal ∷ []) (One is_opener) _ begins))
+    (second (ap (and_kind opener_kind) (not_at_stops (error_literal ∷ []) (One is_opener) _ begins))
     (at_start _ starts.Opener c.in_ok-first.ensures.0 c.in-Opener.ensures))
     (literal_read (Exactly error_literal) _ _ c.in-Some-past.ensures)
 
@@ -71,9 +71,9 @@ pub returns-then-not-follows_quote : goal.returns-then-not-follows_quote
 returns-then-not-follows_quote c =
     let none = quote_found c.in_ok-first.ensures.0 c.in-Quote.ensures
     ∙ cond-false _ _ _ (sym c.if-not-follows_quote.ensures) in
-    same_answers _ _ (second (ap (tagged quote_kind) none)
+    same_answers _ _ (second (ap (and_kind quote_kind) none)
     (at_start _ starts.Quote c.in_ok-first.ensures.0 c.in-Quote.ensures))
-    (c.as_literal-then-not-follows_quote.ensures quoted_literal c.args.at c.quoted-then-not-follows_quote.ensures)
+    (c.as_literal-then-not-follows_quote.ensures quoted_literal c.args.at c.skip_quoted-then-not-follows_quote.ensures)
 
 pub returns-else-not-follows_quote : goal.returns-else-not-follows_quote
 returns-else-not-follows_quote c =
@@ -85,12 +85,12 @@ returns-else-not-follows_quote c =
 pub returns-in-DoubleQuote : goal.returns-in-DoubleQuote
 returns-in-DoubleQuote c =
     same_answers _ _ (at_start _ starts.DoubleQuote c.in_ok-first.ensures.0 c.in-DoubleQuote.ensures)
-    (c.as_literal-in-DoubleQuote.ensures quoted_literal c.args.at c.quoted-in-DoubleQuote.ensures)
+    (c.as_literal-in-DoubleQuote.ensures quoted_literal c.args.at c.skip_quoted-in-DoubleQuote.ensures)
 
 pub returns-then-not-at_front : goal.returns-then-not-at_front
 returns-then-not-at_front c =
     at_start _ starts.FrontMark c.in_ok-first.ensures.0 c.in-FrontMark.ensures
-    ∙ ap (tagged front_mark_kind) (cond-false _ _ _ c.if-not-at_front.true)
+    ∙ ap (and_kind front_mark_kind) (cond-false _ _ _ c.if-not-at_front.true)
 
 pub returns-else-not-at_front : goal.returns-else-not-at_front
 returns-else-not-at_front c =

@@ -2,7 +2,7 @@ use Rattle.std.proofs.Common.{codes, length}
 use Rattle.std.specs.Str.{chars}
 use Rattle.lexical.specs.Quoted.{body, unit}
 use Rattle.lexical.specs.Rule.{Exactly, Then}
-use Rattle.lexical.specs.Step.{Leads}
+use Rattle.lexical.specs.RuleMatch.{Leads}
 use Rattle.lexical.proofs.quoted.string.Given as goal
 
 abbrev pub invariant-loop-after : goal.invariant-loop-after

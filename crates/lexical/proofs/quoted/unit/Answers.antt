@@ -1,6 +1,6 @@
 use Rattle.std.proofs.Common.{◌≡◌, false, codes, refl, ap}
 use Rattle.std.specs.Str.{chars}
-use Rattle.lexical.specs.Quoted.{escaped, is_plain, newline}
+use Rattle.lexical.specs.Quoted.{escape_or_line_end, is_plain, newline}
 use Rattle.lexical.specs.Rule.{Either, Exactly, One, Then}
 use Rattle.lexical.specs.Text.{begins_with}
 use Rattle.lexical.specs.declared.quoted.StringKind.{StringKind}
@@ -20,9 +20,10 @@ returns-in-Some c =
     let at = c.args.at in
     let after = c.in-Some.escape in
     let split = (past_text (codes "\\") at after c.in-Some.ensures).0 in
-    let escape = Then (Exactly (codes "\\")) (escaped kind) in
-    either_reads (One (is_plain kind)) (Either newline escape) at c.escaped.result
+    let escape = Then (Exactly (codes "\\")) (escape_or_line_end kind) in
+    either_reads (One (is_plain kind)) (Either newline escape) at c.escape_or_line_end.result
     (one_lacks (is_plain kind) 92 (chars at.rest.now) (chars after.rest.now) split (no_plain kind))
-    (either_reads newline escape at c.escaped.result
+    (either_reads newline escape at c.escape_or_line_end.result
     (text_lacks (codes "\r\n") (chars at.rest.now) (ap (begins_with (codes "\r\n")) split))
-    (then_reads (Exactly (codes "\\")) (escaped kind) at after c.escaped.result c.in-Some.ensures c.escaped.ensures))
+    (then_reads (Exactly (codes "\\")) (escape_or_line_end kind) at after c.escape_or_line_end.result c.in-Some.ensures
+    c.escape_or_line_end.ensures))

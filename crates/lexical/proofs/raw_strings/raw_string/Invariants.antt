@@ -2,7 +2,7 @@ use Rattle.std.proofs.Common.{ℕ, List, ◌∷◌, length}
 use Rattle.std.specs.Str.{chars}
 use Rattle.lexical.specs.Quoted.{body}
 use Rattle.lexical.specs.RawString.{may_stand_raw, raw, raw_unit}
-use Rattle.lexical.specs.Step.{Leads}
+use Rattle.lexical.specs.RuleMatch.{Leads}
 use Rattle.lexical.proofs.raw_strings.raw_string.Given as goal
 
 abbrev pub invariant-loop-after : goal.invariant-loop-after

@@ -1,5 +1,5 @@
 use Rattle.std.proofs.Common.{arith}
-use Rattle.lexical.specs.Word.{is_plain_ascii}
+use Rattle.lexical.specs.MachineWord.{is_plain_ascii}
 use Rattle.lexical.proofs.PlainLaneLemmas.{run_passes}
 use Rattle.lexical.proofs.words.count_few_plain.Goals as goal
 

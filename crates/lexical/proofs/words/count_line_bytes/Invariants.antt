@@ -1,6 +1,6 @@
 use Rattle.std.proofs.Common.{◌≡◌, ◌≤◌, ◌+◌, ◌-◌, length, drop}
 use Rattle.lexical.specs.Finder.{while_front}
-use Rattle.lexical.specs.Word.{is_line_ascii}
+use Rattle.lexical.specs.MachineWord.{is_line_ascii}
 use Rattle.lexical.proofs.words.count_line_bytes.Given as goal
 
 abbrev pub invariant-loop-count : goal.invariant-loop-count

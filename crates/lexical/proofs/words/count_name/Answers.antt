@@ -2,7 +2,7 @@ use Rattle.std.proofs.Common.{◌-◌, length, take, drop, ap, arith, length-dro
 use Rattle.std.proofs.lemmas.List.{take_rest}
 use Rattle.lexical.specs.declared.bytes.Class.TheVariants.{IdentifierContinue}
 use Rattle.lexical.proofs.LaneLemmas.{continues, goes_on}
-use Rattle.lexical.proofs.QuickNumberLemmas.{run_within}
+use Rattle.lexical.proofs.FastNumberLemmas.{run_within}
 use Rattle.lexical.proofs.words.count_name.Goals as goal
 
 pub loop-word-preserved : goal.loop-word-preserved

@@ -1,9 +1,9 @@
 use Rattle.std.proofs.Common.{◌-◌, length, take, drop, ap, ◌∙◌, arith, length-drop}
 use Rattle.lexical.specs.Finder.{while_front}
 use Rattle.std.proofs.lemmas.List.{take_rest}
-use Rattle.lexical.specs.Word.{is_plain_ascii}
+use Rattle.lexical.specs.MachineWord.{is_plain_ascii}
 use Rattle.lexical.proofs.LaneLemmas.{goes_on}
-use Rattle.lexical.proofs.QuickLemmas.{front_of_run}
+use Rattle.lexical.proofs.FastPathLemmas.{front_of_run}
 use Rattle.lexical.proofs.PlainLaneLemmas.{run_passes}
 use Rattle.lexical.proofs.words.count_plain.Goals as goal
 

@@ -1,6 +1,6 @@
 use Rattle.std.proofs.Common.{◌≡◌, ◌≤◌, ◌+◌, ◌-◌, length, drop}
 use Rattle.lexical.specs.Finder.{while_front}
-use Rattle.lexical.specs.Word.{is_plain_ascii}
+use Rattle.lexical.specs.MachineWord.{is_plain_ascii}
 use Rattle.lexical.proofs.words.count_plain.Given as goal
 
 abbrev pub invariant-loop-word : goal.invariant-loop-word

@@ -3,7 +3,7 @@ use Rattle.std.proofs.KnownBytes.{Appends-nil, Appends-trans}
 use Rattle.std.proofs.Math.Nat.{max-zero}
 use Rattle.std.specs.Io.KnownBytes.{Appends}
 use Rattle.outline.specs.Files.{IsOf, all_lines, outcome_of, worst}
-use Rattle.outline.specs.Tags.{ended}
+use Rattle.outline.specs.Tags.{lines_text}
 use Rattle.outline.proofs.FilesLemmas.{ended_append, max_onto, of_none, of_one}
 use Rattle.outline.proofs.files.list_each.Goals as goal
 
@@ -13,8 +13,8 @@ loop-path-preserved g c = λ more new rest later.
     let outcome = outcome_of c.list_file-listed.result in
     let one : IsOf c.args.form (string_bytes c.path-item.result) outcome =
     subst (λ p. IsOf c.args.form p outcome) c.as_str.ensures.value c.list_file-listed.ensures in
-    let here : Appends (bytes c.loop-path.writer) (bytes c.print_all.new.writer) (ended outcome.lines) =
-    subst (λ xs. Appends (bytes c.loop-path.writer) (bytes c.print_all.new.writer) (ended (map string_bytes xs)))
+    let here : Appends (bytes c.loop-path.writer) (bytes c.print_all.new.writer) (lines_text outcome.lines) =
+    subst (λ xs. Appends (bytes c.loop-path.writer) (bytes c.print_all.new.writer) (lines_text (map string_bytes xs)))
     c.as_slice.ensures.value c.in_ok-print_all.ensures in
     let both = subst (Appends (bytes c.loop-path.writer) new) (ended_append outcome.lines (all_lines more))
     (Appends-trans _ _ _ _ _ here later) in

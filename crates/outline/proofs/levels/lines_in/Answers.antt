@@ -4,7 +4,7 @@ use Rattle.token_buffer.specs.Reads.{left}
 use Rattle.declarations.specs.File.{body_of}
 use Rattle.outline.specs.Levels.{level_left, trees_left}
 use Rattle.outline.proofs.LevelLemmas.{begins_taken, body_comes, holds_body, lines_all, lines_alone}
-use Rattle.outline.proofs.LevelLemmas.{lines_item, never_body, nil_left, no_body, some_left, stopped, takes_within}
+use Rattle.outline.proofs.LevelLemmas.{lines_item, never_body, nil_left, no_body, some_left, stop_holds, takes_within}
 use Rattle.outline.proofs.OnlyLemmas.{closed_stops, requires_alone, requires_item, requires_pop, requires_start}
 use Rattle.outline.proofs.OutlineLemmas.{completes_pop, completes_start}
 use Rattle.outline.proofs.levels.lines_in.Goals as goal
@@ -50,12 +50,12 @@ walk-preserved-then-eof c = record {
 
 pub returns-in-Err-2-clause-none : goal.returns-in-Err-2-clause-none
 returns-in-Err-2-clause-none c =
-    stopped level_left (trees_left c.args.file) c.in-Some.level c.walk.levels.items c.pop.new.self.items
+    stop_holds level_left (trees_left c.args.file) c.in-Some.level c.walk.levels.items c.pop.new.self.items
     c.walk.invariant.only c.in-Some.ensures.items (some_left (left c.in-Some.level.rest) c.if-eof.ensures)
     (rw c.in-Err-2.is at c.in_ok-step.ensures.none)
 
-pub passed-requires : goal.passed-requires
-passed-requires c =
+pub advance-requires : goal.advance-requires
+advance-requires c =
     let takes = rw c.in-Ok-2.is at c.in_ok-step.ensures.ok in
     record {
       within = takes_within c.args.map.now c.args.form c.args.path.now c.len.result (level_left c.in-Some.level)
@@ -71,13 +71,13 @@ walk-preserved-then-not-has_body c =
     let path = c.args.path.now in
     let depth = c.len.result in
     let old = c.in-Some.level in
-    let new = c.passed.result in
+    let new = c.advance.result in
     let step = c.in-Ok-2.step in
     let less = c.pop.new.self.items in
     let once = c.push-in-walk.new.self.items in
     let takes = rw c.in-Ok-2.is at c.in_ok-step.ensures.ok in
     let begins = begins_taken files form path depth (level_left old) [] (level_left new) step takes
-    (no_body files form path depth (level_left old) step takes c.if-not-has_body.true) c.passed.ensures in
+    (no_body files form path depth (level_left old) step takes c.if-not-has_body.true) c.advance.ensures in
     record {
       all = λ text of.
           lines_alone files form path text (trees_left c.args.file) (map string_bytes c.walk.lines.items)
@@ -102,7 +102,8 @@ returns-in-Err-3-clause-none c =
     c.in-Ok-2.step c.past-last.result takes c.if-not-has_body.false c.past-last.ensures in
     let none = rw c.in-Err-3.is at c.in_ok-inside.ensures.none in
     closed_stops level_left (trees_left c.args.file) c.in-Some.level c.walk.levels.items c.pop.new.self.items
-    takes.part takes.rest takes.kind takes.name c.walk.invariant.only c.in-Some.ensures.items takes.read takes.told
+    takes.part takes.rest takes.kind takes.name c.walk.invariant.only c.in-Some.ensures.items takes.read
+    takes.kind_and_name
     (λ attributes header items front inside.
     never_body (body_of takes.kind takes.part) body.group body.is (none body.group body.begins) items inside)
 
@@ -113,7 +114,7 @@ walk-preserved c =
     let path = c.args.path.now in
     let depth = c.len.result in
     let old = c.in-Some.level in
-    let new = c.passed.result in
+    let new = c.advance.result in
     let inside = c.in-Ok-3.inside in
     let step = c.in-Ok-2.step in
     let less = c.pop.new.self.items in
@@ -125,7 +126,7 @@ walk-preserved c =
     let are = rw c.in-Ok-3.is at c.in_ok-inside.ensures.ok in
     let begins = begins_taken files form path depth (level_left old) (level_left inside) (level_left new) step takes
     (holds_body (body_of takes.kind takes.part) body.group (level_left inside) body.is (are body.group body.begins))
-    c.passed.ensures in
+    c.advance.ensures in
     record {
       all = λ text of.
           lines_item files form path text (trees_left c.args.file) (map string_bytes c.walk.lines.items)

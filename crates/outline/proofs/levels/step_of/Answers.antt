@@ -23,7 +23,7 @@ returns-in-Err-entry_of-clause-none c =
     let level = c.args.level.now in
     stops_entry c.split_at.result.1.now c.in-Ok.field-0-1.now (level_left level) c.in-Ok.item
     (c.split_at.ensures.back ∙ ap (drop level.at) c.as_slice.ensures.value ∙ level.even)
-    c.in-Ok.ensures.ok c.in-Ok.ensures.told c.in-Err-entry_of.ensures.none
+    c.in-Ok.ensures.ok c.in-Ok.ensures.kind_and_name c.in-Err-entry_of.ensures.none
 
 pub returns-clause-ok : goal.returns-clause-ok
 returns-clause-ok c =
@@ -32,5 +32,5 @@ returns-clause-ok c =
     takes c.args.map.now c.args.form c.args.path.now c.args.depth c.split_at.result.1.now c.in-Ok.field-0-1.now
     (level_left level) it c.in-Ok-entry_of.entry _
     (c.split_at.ensures.back ∙ ap (drop level.at) c.as_slice.ensures.value ∙ level.even)
-    c.in-Ok.ensures.ok c.in-Ok.ensures.told c.in-Ok-entry_of.ensures.ok c.in_ok-line.ensures refl
+    c.in-Ok.ensures.ok c.in-Ok.ensures.kind_and_name c.in-Ok-entry_of.ensures.ok c.in_ok-line.ensures refl
     (c.is_some.ensures ∙ some_body c.body.result (body_of it.kind it.trees.now) c.body.ensures)

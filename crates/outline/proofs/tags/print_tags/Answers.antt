@@ -3,7 +3,7 @@ use Rattle.std.proofs.KnownBytes.{Appends-trans}
 use Rattle.std.proofs.lemmas.List.Sorted.{IsPermutation-map}
 use Rattle.std.proofs.lemmas.Result.{on_ok_weaker}
 use Rattle.std.specs.Io.KnownBytes.{Appends}
-use Rattle.outline.specs.Tags.{ended}
+use Rattle.outline.specs.Tags.{lines_text}
 use Rattle.outline.proofs.TagLemmas.{sorted_bytes}
 use Rattle.outline.proofs.tags.print_tags.Goals as goal
 
@@ -18,6 +18,6 @@ returns g c =
       in_order = sorted_bytes sorted c.sort_unstable.ensures.sorted;
       written = Appends-trans _ _ _ (codes "!_TAG_FILE_SORTED\t1\t//\n") _ c.in_ok-write_all.ensures.bytes
           (subst (λ xs. Appends (bytes c.write_all.new.self) (bytes c.print_all.new.writer)
-          (ended (map string_bytes xs))) c.as_slice.ensures.value rest);
+          (lines_text (map string_bytes xs))) c.as_slice.ensures.value rest);
     })
     c.print_all.ensures

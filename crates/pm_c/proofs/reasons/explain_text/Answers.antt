@@ -6,7 +6,7 @@ use Rattle.explain.specs.Explained.{IsExplained, Parses}
 use Rattle.explain.specs.declared.explained.ExplainError.{ExplainError}
 use Rattle.explain.specs.declared.explained.ExplainError.TheVariants.{MapFull}
 use Rattle.explain.specs.declared.explained.Explained.{Explained}
-use Rattle.pm_c.proofs.ReasonLemmas.{told_answer}
+use Rattle.pm_c.proofs.ReasonLemmas.{explains_answer}
 use Rattle.pm_c.proofs.reasons.explain_text.Goals as goal
 
 pub returns-in-Ok-Some : goal.returns-in-Ok-Some
@@ -17,5 +17,6 @@ returns-in-Ok-Some c =
     let clash : (Fits new_map (length source) → ⊥)
     → ◌≡◌ {A = Result (Option Explained) ExplainError} (Ok c.in-Ok-Some.field-0) (Err MapFull)
     = c.in-Ok-Some.ensures.map_full.1 in
-    told_answer c.args.source.now c.in-Ok.text.now c.in-Ok-Some.explained c.told_of.result c.in-Ok.ensures.cases.0
-    c.in-Ok.ensures.cases.1 holds (λ no. let e = clash no in absurd (cc)) c.told_of.ensures
+    explains_answer c.args.source.now c.in-Ok.text.now c.in-Ok-Some.explained c.explanation_record.result
+    c.in-Ok.ensures.cases.0
+    c.in-Ok.ensures.cases.1 holds (λ no. let e = clash no in absurd (cc)) c.explanation_record.ensures

@@ -2,7 +2,7 @@ use Rattle.std.proofs.Common.{rules, ◌<◌, [], ◌++◌, length, refl, ap, tr
 use Rattle.pm_stream.specs.Steps.{steps}
 use Rattle.pm_stream.specs.Trees.{forest}
 use Rattle.pm_stream.proofs.PrintLemmas.{steps_text-steps, text_over, text_step, written_more, written_two}
-use Rattle.pm_stream.proofs.StepLemmas.{inside_less, over_less, taken}
+use Rattle.pm_stream.proofs.StepLemmas.{inside_less, over_less, takes_first}
 use Rattle.pm_stream.proofs.display.+print_trees.Goals as goal
 
 pub loop-steps-init : goal.loop-steps-init
@@ -14,7 +14,7 @@ loop-steps-init g t c =
 
 pub loop-steps-preserved-in-Continue-1 : goal.loop-steps-preserved-in-Continue-1
 loop-steps-preserved-in-Continue-1 g t c =
-    let first = taken _ _ _ _ c.in-Ok-Some.field-0-is c.in-Ok-Some.ensures.ok in
+    let first = takes_first _ _ _ _ c.in-Ok-Some.field-0-is c.in-Ok-Some.ensures.ok in
     record {
       within = omega (arith, c.loop-steps.invariant.within, ap length first);
       written = λ plain.

@@ -3,14 +3,14 @@ ghost use Rattle.std.specs.Prelude.{◌≡◌, codes, IfSome, IsTrue, MatchOptio
 ghost use Rattle.std.specs.Str.{IsUtf8, chars};
 ghost use Rattle.lexical.specs.Ascii.{all_ascii};
 ghost use Rattle.pm_token.specs.SingleValue.{single_content as single};
-ghost use Rattle.pm_token.specs.Content.{before, behind, cooked_content as cooked, hashed_content as hashed};
+ghost use Rattle.pm_token.specs.Content.{before, strip_front, cooked_content as cooked, hashed_content as hashed};
 ghost use Rattle.pm_token.specs.Content.{raw_content as raw};
 
 /// Returns the text after this ASCII prefix.
-fn behind_front<'a>(text: &'a str, front: &str) -> Option<&'a str>
+fn past_prefix<'a>(text: &'a str, front: &str) -> Option<&'a str>
     requires { IsTrue (all_ascii front.now) }
-    ensures found { MatchOption result (behind front.now (chars text.now) ≡ None)
-        (λ rest. behind front.now (chars text.now) ≡ Some (chars rest.now)) }
+    ensures found { MatchOption result (strip_front front.now (chars text.now) ≡ None)
+        (λ rest. strip_front front.now (chars text.now) ≡ Some (chars rest.now)) }
     ensures utf8 { IfSome result (λ rest. IsUtf8 rest.now) }
 {
     text.strip_prefix(front)
@@ -30,7 +30,7 @@ pub fn cooked_content<'a>(text: &'a str, front: &str) -> Option<&'a str>
     ensures { MatchOption result (cooked front.now (chars text.now) ≡ None)
         (λ content. cooked front.now (chars text.now) ≡ Some (chars content.now)) }
 {
-    before_quote(behind_front(text, front)?)
+    before_quote(past_prefix(text, front)?)
 }
 
 /// Returns the text before a single quote at its end.
@@ -47,7 +47,7 @@ pub fn single_content<'a>(text: &'a str, front: &str) -> Option<&'a str>
     ensures { MatchOption result (single front.now (chars text.now) ≡ None)
         (λ content. single front.now (chars text.now) ≡ Some (chars content.now)) }
 {
-    before_single_quote(behind_front(text, front)?)
+    before_single_quote(past_prefix(text, front)?)
 }
 
 /// Returns the text before a hash sign at its end.
@@ -65,8 +65,8 @@ fn hashed_content(text: &str) -> Option<&str>
         (λ content. hashed (chars text.now) ≡ Some (chars content.now)) }
 {
     let mut quoted = text;
-    while let Some(behind) = behind_front(quoted, "#") {
-        quoted = before_hash(behind)?;
+    while let Some(after_hash) = past_prefix(quoted, "#") {
+        quoted = before_hash(after_hash)?;
     }
     cooked_content(quoted, "\"")
 }
@@ -77,5 +77,5 @@ pub fn raw_content<'a>(text: &'a str, front: &str) -> Option<&'a str>
     ensures { MatchOption result (raw front.now (chars text.now) ≡ None)
         (λ content. raw front.now (chars text.now) ≡ Some (chars content.now)) }
 {
-    hashed_content(behind_front(text, front)?)
+    hashed_content(past_prefix(text, front)?)
 }

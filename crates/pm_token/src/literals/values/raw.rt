@@ -1,7 +1,7 @@
 //! The values of contents without escapes.
 ghost use Rattle.std.specs.Prelude.{◌≡◌, [], IfOk, IsOk};
 ghost use Rattle.std.specs.Str.{chars, encode_utf8_all};
-ghost use Rattle.pm_token.specs.Value.{bytes_of, ended, text_of};
+ghost use Rattle.pm_token.specs.Value.{bytes_of, with_zero, text_of};
 
 use std::alloc::{AllocError, Global};
 
@@ -27,7 +27,7 @@ pub fn raw_bytes(alloc: Global, content: &str) -> Result<Vec<u8>, AllocError>
 
 /// Copies the bytes of the content of a raw C string, and adds a zero byte.
 pub fn raw_c_string(alloc: Global, content: &str) -> Result<Vec<u8>, AllocError>
-    ensures { IfOk result (λ value. bytes_of value ≡ ended (encode_utf8_all (chars content.now))) }
+    ensures { IfOk result (λ value. bytes_of value ≡ with_zero (encode_utf8_all (chars content.now))) }
 {
     let mut value = Vec::with_capacity(alloc, content.len().saturating_add(1))?;
     value.extend_from_slice(content.as_bytes())?;

@@ -13,7 +13,7 @@ returns-clause-err g c =
     rw (← c.split_script.ensures.code)
     (unparsed_may_fail TokenStream _ _ _ _ _ (rw c.new-map.ensures at c.in-Err.ensures.kept)
     (rw c.new-map.ensures at c.in-Err.ensures.lex) (λ is. full (ap Err is))
-    c.unparsed.ensures.fault c.unparsed.ensures.map_full c.unparsed.ensures.memory)
+    c.parse_failure.ensures.fault c.parse_failure.ensures.map_full c.parse_failure.ensures.memory)
 
 pub returns-in-Ok-clause-err : goal.returns-in-Ok-clause-err
 returns-in-Ok-clause-err g c = c.in-Err-print_stream.ensures.err _

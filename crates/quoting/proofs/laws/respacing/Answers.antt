@@ -1,11 +1,11 @@
-use Rattle.quoting.proofs.SpacingLemmas.{spaced, hopeless, only_spacing, keeps, unchanged}
+use Rattle.quoting.proofs.SpacingLemmas.{respace_spaces, hopeless, only_spacing, keeps, respacing_unchanged}
 use Rattle.quoting.proofs.laws.respacing.Goals as goal
 
 pub returns : goal.returns
 returns c = record {
-  spaced = spaced;
+  spaced = respace_spaces;
   hopeless = hopeless;
   spacing = only_spacing;
   keeps = keeps;
-  unchanged = unchanged;
+  unchanged = respacing_unchanged;
 }

@@ -2,11 +2,12 @@ use Rattle.std.proofs.Common.{◌-◌, ◌∙◌, List, sym, ap, subst, refl, dr
 use Rattle.proc_macro2.specs.declared.TokenTree.{TokenTree}
 use Rattle.proc_macro2.specs.Forest.{IsBuilt, nil}
 use Rattle.proc_macro2.specs.Trees.{forest}
-use Rattle.quoting.specs.Filled.{followed, filled_by}
-use Rattle.quoting.specs.Given.{gives, rest_of, seen}
-use Rattle.quoting.proofs.FillLemmas.{ended, found_onto}
+use Rattle.quoting.specs.Filled.{then_outcome, filled_by}
+use Rattle.quoting.specs.Given.{gives, rest_of, interpolation_in}
+use Rattle.quoting.proofs.FillLemmas.{ends_fill, found_onto}
 use Rattle.quoting.proofs.FixedLemmas.{inside_stays}
-use Rattle.quoting.proofs.InPlaceLemmas.{IsAt, all_done, all_left, begun, built_drop, goes_inside, passed, settled}
+use Rattle.quoting.proofs.InPlaceLemmas.{IsAt, all_done, all_left, begin_in_place, built_drop, goes_inside, past_hole}
+use Rattle.quoting.proofs.InPlaceLemmas.{past_token}
 use Rattle.quoting.proofs.InPlaceLemmas.{settled_in_place}
 use Rattle.quoting.proofs.owned.+filled_in_place.Goals as goal
 
@@ -21,7 +22,7 @@ fill_group-returns-then-are_fixed-clause-ok t c = (
 
 pub fill_rest-loop-tree-init : goal.fill_rest-loop-tree-init
 fill_rest-loop-tree-init t c =
-    begun (gives c.args.holes.now []) c.args.depth c.args.out.now (forest c.args.rest.items) c.args.out.now
+    begin_in_place (gives c.args.holes.now []) c.args.depth c.args.out.now (forest c.args.rest.items) c.args.out.now
     c.args.rest.items (search rules) refl
 
 pub fill_rest-settle-requires : goal.fill_rest-settle-requires
@@ -39,7 +40,7 @@ fill_rest-settle-requires t c = (
 
 pub fill_rest-loop-tree-preserved-in-None : goal.fill_rest-loop-tree-preserved-in-None
 fill_rest-loop-tree-preserved-in-None t c =
-    settled (gives c.args.holes.now []) c.args.depth c.loop-tree.done c.args.out.now (forest c.args.rest.items)
+    past_token (gives c.args.holes.now []) c.args.depth c.loop-tree.done c.args.out.now (forest c.args.rest.items)
     c.loop-tree.out c.put_copy.new.self c.loop-tree.list.items c.in-Some.after.now c.comes_apart-apart.result
     c.in-Some.tree.now c.index_mut.result.now c.settle.new.tree
     c.loop-tree.invariant (all_left c.loop-tree.done c.deref.result.now c.loop-tree.list.items c.deref.ensures.value
@@ -59,12 +60,13 @@ fill_rest-loop-tree-preserved-in-Some-Names t c =
     c.put_name.new.out (c.len.result - length left) items) (search rules)
     (subst (λ n. IsAt given c.args.depth c.args.out.now (forest c.args.rest.items) c.put_name.new.out
     (n - length found.left.now) items) (search rules)
-    (passed given c.args.depth c.loop-tree.done _ c.args.out.now (forest c.args.rest.items) c.loop-tree.out
+    (past_hole given c.args.depth c.loop-tree.done _ c.args.out.now (forest c.args.rest.items) c.loop-tree.out
     c.put_name.new.out items c.in-Some.after.now found.left.now c.in-Some.tree.now c.loop-tree.invariant whole drops
     (found_onto given c.args.depth c.args.out.now (forest c.args.rest.items) _ _ c.in-Some.tree.now
-    (seen found.field-0) _ c.in-Some.after.now found.left.now
+    (interpolation_in found.field-0) _ c.in-Some.after.now found.left.now
     c.loop-tree.invariant.up_to whole found.ensures.found drops
-    (ap (λ f. followed (Ok c.loop-tree.out) (gives c.args.holes.now [] c.args.depth (seen f))) found.field-0-is
+    (ap (λ f. then_outcome (Ok c.loop-tree.out) (gives c.args.holes.now [] c.args.depth (interpolation_in f)))
+    found.field-0-is
     ∙ (rw found.field-0-is at c.in_ok-put_name-in-Some-Names.ensures.ok)))))
 
 pub fill_rest-loop-tree-preserved : goal.fill_rest-loop-tree-preserved
@@ -79,26 +81,27 @@ fill_rest-loop-tree-preserved t c =
     c.repeat_onto.new.out (c.len-in-Some-Repeats.result - length left) items) (search rules)
     (subst (λ n. IsAt given c.args.depth c.args.out.now (forest c.args.rest.items) c.repeat_onto.new.out
     (n - length found.left.now) items) (search rules)
-    (passed given c.args.depth c.loop-tree.done _ c.args.out.now (forest c.args.rest.items) c.loop-tree.out
+    (past_hole given c.args.depth c.loop-tree.done _ c.args.out.now (forest c.args.rest.items) c.loop-tree.out
     c.repeat_onto.new.out items c.in-Some.after.now found.left.now c.in-Some.tree.now c.loop-tree.invariant whole drops
     (found_onto given c.args.depth c.args.out.now (forest c.args.rest.items) _ _ c.in-Some.tree.now
-    (seen found.field-0) _ c.in-Some.after.now found.left.now
+    (interpolation_in found.field-0) _ c.in-Some.after.now found.left.now
     c.loop-tree.invariant.up_to whole found.ensures.found drops
-    (ap (λ f. followed (Ok c.loop-tree.out) (gives c.args.holes.now [] c.args.depth (seen f))) found.field-0-is
+    (ap (λ f. then_outcome (Ok c.loop-tree.out) (gives c.args.holes.now [] c.args.depth (interpolation_in f)))
+    found.field-0-is
     ∙ (rw found.field-0-is at c.in_ok-repeat_onto-in-Some-Repeats.ensures.ok)))))
 
 pub fill_rest-returns-clause-ok : goal.fill_rest-returns-clause-ok
 fill_rest-returns-clause-ok t c =
-    ended (gives c.args.holes.now []) c.args.depth c.args.out.now (forest c.args.rest.items) c.loop-tree.out
+    ends_fill (gives c.args.holes.now []) c.args.depth c.args.out.now (forest c.args.rest.items) c.loop-tree.out
     (drop c.loop-tree.done c.loop-tree.list.items) c.loop-tree.invariant.up_to
     (ap length (all_left c.loop-tree.done c.deref.result.now c.loop-tree.list.items c.deref.ensures.value)
     ∙ c.in_default.ensures.cases)
 
 pub filled_in_place-loop-tree-init : goal.filled_in_place-loop-tree-init
 filled_in_place-loop-tree-init t c =
-    begun (gives c.args.holes.now []) c.args.depth nil c.args.template nil c.in_ok-list.list.items
+    begin_in_place (gives c.args.holes.now []) c.args.depth nil c.args.template nil c.in_ok-list.list.items
     (subst IsBuilt (sym c.in_ok-list.ensures.value) c.in_ok-list.ensures.built)
-    (ap (λ f. followed (Ok nil) (filled_by (gives c.args.holes.now []) c.args.depth 0 f))
+    (ap (λ f. then_outcome (Ok nil) (filled_by (gives c.args.holes.now []) c.args.depth 0 f))
     (sym c.in_ok-list.ensures.value))
 
 pub filled_in_place-settle-requires : goal.filled_in_place-settle-requires

@@ -20,7 +20,7 @@ returns-in_default-3-clause-found c = (
   no_text _ (chars c.in-Some.after.now) (chars c.in-Some-split_literal.literal.now)
       (chars c.in-Some-split_literal.rest.now) c.in-Some.inner c.in-Some.ensures.found
       c.in-Some-split_literal.ensures.found.0 c.in-Some-split_literal.ensures.found.1
-      (rw c.in_default-3.is at c.in_ok-said-2.ensures),
+      (rw c.in_default-3.is at c.in_ok-doc_body-2.ensures),
   refl,
 )
 

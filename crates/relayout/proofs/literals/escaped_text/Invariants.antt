@@ -7,7 +7,7 @@ use Rattle.relayout.proofs.literals.escaped_text.Given as goal
 
 abbrev pub invariant-loop-rest : goal.invariant-loop-rest
 invariant-loop-rest l = shadow (Utf8 l.rest)
-    × Reads (codes "\"" ++ (chars l.fn.front ++ chars l.fn.after)) l.said (chars l.rest)
+    × Reads (codes "\"" ++ (chars l.fn.front ++ chars l.fn.after)) l.doc_body (chars l.rest)
 
 abbrev pub decreases-loop-rest : goal.decreases-loop-rest
 decreases-loop-rest l = length (chars l.rest)

@@ -1,5 +1,5 @@
 use Rattle.std.proofs.Common.{refl}
-use Rattle.rust_check.proofs.ToldLemmas.{along_end, along_one, along_start, within_front}
+use Rattle.rust_check.proofs.ReportLemmas.{along_end, along_one, along_start, within_front}
 use Rattle.rust_check.proofs.ends.tell_line_ends.Goals as goal
 
 pub loop-c-init : goal.loop-c-init

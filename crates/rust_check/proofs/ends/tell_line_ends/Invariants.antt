@@ -1,8 +1,8 @@
 use Rattle.std.proofs.Common.{false}
 use Rattle.rust_check.specs.LineEnds.{ends_after, found_at_end}
-use Rattle.rust_check.specs.Place.{front}
+use Rattle.rust_check.specs.TextPosition.{front}
 use Rattle.rust_check.specs.declared.ends.Style.TheVariants.{Unknown}
-use Rattle.rust_check.proofs.ToldLemmas.{IsAlong}
+use Rattle.rust_check.proofs.ReportLemmas.{IsAlong}
 use Rattle.rust_check.proofs.ends.tell_line_ends.Given as goal
 
 abbrev pub invariant-loop-c : goal.invariant-loop-c

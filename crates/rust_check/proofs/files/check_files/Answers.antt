@@ -1,7 +1,7 @@
 use Rattle.std.proofs.Common.{[], ◌∷◌, ◌∙◌, ap}
 use Rattle.rust_check.specs.Options.{form_of}
 use Rattle.rust_check.specs.Files.{all_counted}
-use Rattle.rust_check.proofs.FilesLemmas.{counted_most, told_none, told_one}
+use Rattle.rust_check.proofs.FilesLemmas.{counted_most, report_none, report_one}
 use Rattle.rust_check.proofs.files.check_files.Goals as goal
 
 pub loop-path-preserved : goal.loop-path-preserved
@@ -13,9 +13,9 @@ loop-path-preserved g c =
     record {
       faulty = rw c.with-tally.ensures most.0;
       unread = rw c.with-tally.ensures most.1;
-      told = λ more new rest.
-          let all = c.loop-path.invariant.told (outcome ∷ more) new
-          (told_one (form_of c.args.options.now) c.args.options.now.hidden c.args.options.now.paths.items
+      report = λ more new rest.
+          let all = c.loop-path.invariant.report (outcome ∷ more) new
+          (report_one (form_of c.args.options.now) c.args.options.now.hidden c.args.options.now.paths.items
           c.loop-path.path-index c.path-item.result outcome more _
           (g.W.Write.contents c.check_file.new.writer) new (rw paths at c.loop-path-test.true)
           (rw paths at c.path-item.is)
@@ -25,7 +25,7 @@ loop-path-preserved g c =
 
 pub returns : goal.returns
 returns g c =
-    c.loop-path.invariant.told [] (g.W.Write.contents c.loop-path.writer)
-    (told_none (form_of c.args.options.now) c.args.options.now.hidden c.args.options.now.paths.items
+    c.loop-path.invariant.report [] (g.W.Write.contents c.loop-path.writer)
+    (report_none (form_of c.args.options.now) c.args.options.now.hidden c.args.options.now.paths.items
     c.loop-path.path-index _
     (rw c.as_slice-path-items.ensures.value at c.loop-path-test.false))

@@ -4,10 +4,11 @@ use Rattle.write_getters.proofs.answer.print_file.Goals as goal
 
 pub loop-left-preserved : goal.loop-left-preserved
 loop-left-preserved g c =
-    let told = c.in_ok-item.ensures.told in
+    let kind_and_name = c.in_ok-item.ensures.kind_and_name in
     let put = c.in_ok-print_item.ensures in
     goes_on c.in_ok-templates.templates _ c.loop-left.left.now c.in_ok-item.item.trees.now c.in_ok-item.rest.now
-    c.in_ok-item.item.kind told.0 put.0 _ _ _ c.loop-left.invariant c.in_ok-item.ensures.ok told.1 put.1 put.2
+    c.in_ok-item.item.kind kind_and_name.0 put.0 _ _ _ c.loop-left.invariant c.in_ok-item.ensures.ok kind_and_name.1
+    put.1 put.2
 
 pub returns : goal.returns
 returns g c =

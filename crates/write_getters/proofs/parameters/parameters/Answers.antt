@@ -7,8 +7,8 @@ pub loop-left-preserved : goal.loop-left-preserved
 loop-left-preserved c =
     collected_more c.in_ok-left.left.now c.loop-left.left.now c.in_ok-param.rest.now c.loop-left.declared.items
     c.loop-left.arguments.items c.add.new.list.items c.add-in-loop-left.new.list.items
-    (param_trees c.in_ok-param.param) c.in_ok-parameter.field-0 c.in_ok-copied.field-0 c.loop-left.invariant
-    c.in_ok-param.ensures.ok c.in_ok-parameter.ensures c.in_ok-copied.ensures c.in_ok-add.ensures
+    (param_trees c.in_ok-param.param) c.in_ok-parameter.field-0 c.in_ok-copy_trees.field-0 c.loop-left.invariant
+    c.in_ok-param.ensures.ok c.in_ok-parameter.ensures c.in_ok-copy_trees.ensures c.in_ok-add.ensures
     c.in_ok-add-2.ensures
 
 pub returns : goal.returns

@@ -2,7 +2,7 @@
 //! Finds the content of a literal, which is the text between its quotes.
 
 /// Returns the text after this ASCII prefix.
-fn behind_front<'a>(text: &'a str, front: &str) -> Option<&'a str>
+fn past_prefix<'a>(text: &'a str, front: &str) -> Option<&'a str>
 {
     text.strip_prefix(front)
 }
@@ -30,7 +30,7 @@ fn before_quote(text: &str) -> Option<&str>
 /// [Some]: crate::contracts#std.Some
 pub fn cooked_content<'a>(text: &'a str, front: &str) -> Option<&'a str>
 {
-    before_quote(behind_front(text, front)?)
+    before_quote(past_prefix(text, front)?)
 }
 
 /// Returns the text before a single quote at its end.
@@ -56,7 +56,7 @@ fn before_single_quote(text: &str) -> Option<&str>
 /// [Some]: crate::contracts#std.Some
 pub fn single_content<'a>(text: &'a str, front: &str) -> Option<&'a str>
 {
-    before_single_quote(behind_front(text, front)?)
+    before_single_quote(past_prefix(text, front)?)
 }
 
 /// Returns the text before a hash sign at its end.
@@ -69,8 +69,8 @@ fn before_hash(text: &str) -> Option<&str>
 fn hashed_content(text: &str) -> Option<&str>
 {
     let mut quoted = text;
-    while let Some(behind) = behind_front(quoted, "#") {
-        quoted = before_hash(behind)?;
+    while let Some(after_hash) = past_prefix(quoted, "#") {
+        quoted = before_hash(after_hash)?;
     }
     cooked_content(quoted, "\"")
 }
@@ -92,5 +92,5 @@ fn hashed_content(text: &str) -> Option<&str>
 /// [Some]: crate::contracts#std.Some
 pub fn raw_content<'a>(text: &'a str, front: &str) -> Option<&'a str>
 {
-    hashed_content(behind_front(text, front)?)
+    hashed_content(past_prefix(text, front)?)
 }

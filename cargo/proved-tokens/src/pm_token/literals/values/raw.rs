@@ -47,12 +47,12 @@ pub fn raw_bytes(content: &str) -> Result<Vec<u8>, AllocError>
 ///
 /// # Contract
 ///
-/// - `ensures`: <code>[IfOk] result (λ value. [bytes_of] value ≡ [ended] ([encode_utf8_all] ([chars]
+/// - `ensures`: <code>[IfOk] result (λ value. [bytes_of] value ≡ [with_zero] ([encode_utf8_all] ([chars]
 ///   content.now)))</code>
 ///
 /// [IfOk]: crate::contracts#std.IfOk
 /// [bytes_of]: crate::contracts#pm_token.Value.bytes_of
-/// [ended]: crate::contracts#pm_token.Value.ended
+/// [with_zero]: crate::contracts#pm_token.Value.with_zero
 /// [encode_utf8_all]: crate::contracts#std.encode_utf8_all
 /// [chars]: crate::contracts#std.chars
 pub fn raw_c_string(content: &str) -> Result<Vec<u8>, AllocError>

@@ -13,12 +13,12 @@ last_up_to {n = zero} up is = omega (arith, is)
 last_up_to {n = suc n} up is = omega (arith, is, up.before n (omega arith))
 
 -- the line and column from the count are right
-counted :
+count_gives :
     (text : List ℕ) {starts slice : List ℕ} {n start char_offset : ℕ} → slice ≡ starts → starts ≡ after_line_feeds text
     → AreUpTo slice n char_offset → (n < length slice → char_offset < get_or slice n 0)
     → start ≡ get_or (0 ∷ starts) n 0 → char_offset ≤ length text
     → record { line = n + 1; column = char_offset - start } ≡ line_column text char_offset
-counted text {starts} {slice} {n} {start} {char_offset} whole same up past is within =
+count_gives text {starts} {slice} {n} {start} {char_offset} whole same up past is within =
     let e : slice ≡ after_line_feeds text = whole ∙ same in
     let here = subst (λ xs. AreUpTo xs n char_offset) e up in
     let next = subst (λ xs. n < length xs → char_offset < get_or xs n 0) e past in
@@ -38,5 +38,5 @@ overflow_sub-result c =
 
 pub returns : goal.returns
 returns c = λ text same within.
-    counted text (c.deref.ensures.value ∙ c.self.view_is) same c.count_on-line_feeds.ensures.before
+    count_gives text (c.deref.ensures.value ∙ c.self.view_is) same c.count_on-line_feeds.ensures.before
     c.count_on-line_feeds.ensures.after c.line_start-line_start.ensures within

@@ -2,12 +2,12 @@ use Rattle.std.proofs.Common.{◌≡◌, ℕ, ◌+◌, ◌∷◌, ◌++◌, [], 
 use Rattle.std.proofs.lemmas.List.{map-append}
 use Rattle.pm_span.specs.Files.{positions, next_lo}
 use Rattle.pm_span.specs.Consecutive.{place_of}
-use Rattle.pm_span.specs.declared.source_map.Place.{Place}
+use Rattle.pm_span.specs.declared.source_map.FileRange.{FileRange}
 use Rattle.pm_span.proofs.FileLemmas.{positions-cons}
 use Rattle.pm_span.proofs.ConsecutiveLemmas.{texts_of, AreConsecutive-push, positions-push}
 use Rattle.pm_span.proofs.source_map.SourceMap.add_file.Goals as goal
 
-abbrev at : ℕ → ℕ → Place
+abbrev at : ℕ → ℕ → FileRange
 at lo hi = record { lo = lo; hi = hi }
 
 pub invariant_of-self-in-Ok : goal.invariant_of-self-in-Ok

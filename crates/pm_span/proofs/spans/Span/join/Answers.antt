@@ -2,7 +2,7 @@ use Rattle.std.proofs.Common.{◌≡◌, ℕ, ap₂, min, max, ◌∙◌, subst,
 use Rattle.std.proofs.lemmas.Bool.{false≢true}
 use Rattle.pm_span.specs.Extent.{Extent}
 use Rattle.pm_span.specs.Files.{Holds}
-use Rattle.pm_span.specs.Lookup.{joined}
+use Rattle.pm_span.specs.Lookup.{covering_span}
 use Rattle.pm_span.proofs.FileLemmas.{held_joined, joined_held}
 use Rattle.pm_span.proofs.spans.Span.join.Goals as goal
 
@@ -12,7 +12,7 @@ extent_of lo hi = record { lo = lo; hi = hi }
 -- the span that covers both spans
 span_of_both :
     (first second span : Extent) (lo hi : ℕ) (p q : ℕ × ℕ) → p ≡ (first.lo, first.hi) → q ≡ (second.lo, second.hi)
-    → lo ≡ min p.0 q.0 → hi ≡ max p.1 q.1 → span ≡ extent_of lo hi → span ≡ joined first second
+    → lo ≡ min p.0 q.0 → hi ≡ max p.1 q.1 → span ≡ extent_of lo hi → span ≡ covering_span first second
 span_of_both first second span lo hi p q at other least most is =
     is ∙ ap₂ extent_of (least ∙ ap₂ (λ x y. min x.0 y.0) at other) (most ∙ ap₂ (λ x y. max x.1 y.1) at other)
 

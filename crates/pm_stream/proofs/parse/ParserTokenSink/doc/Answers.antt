@@ -10,6 +10,6 @@ use Rattle.pm_stream.proofs.parse.ParserTokenSink.doc.Goals as goal
 pub returns : goal.returns
 returns c =
     on_ok c.push_doc.result (λ step.
-    parses_token c.args.lexed (kinds.Doc c.args.inner c.args.said) _ step
-    (λ is. ap (λ (x : Extent). doc_onto x.lo x.hi c.args.inner (chars c.args.said.now) []) (c.span.ensures is)))
+    parses_token c.args.lexed (kinds.Doc c.args.inner c.args.doc_body) _ step
+    (λ is. ap (λ (x : Extent). doc_onto x.lo x.hi c.args.inner (chars c.args.doc_body.now) []) (c.span.ensures is)))
     c.push_doc.ensures

@@ -6,5 +6,5 @@ use Rattle.pm_stream.proofs.placing.PlacerTokenSink.doc.Goals as goal
 
 pub returns : goal.returns
 returns c =
-    on_ok c.push_doc.result (λ now. placed_token c.args.lexed (pieces.Doc c.args.inner c.args._said) tt
+    on_ok c.push_doc.result (λ now. placed_token c.args.lexed (pieces.Doc c.args.inner c.args._doc_body) tt
     (λ is. now.0 ∙ c.past.ensures is) now.1) c.push_doc.ensures

@@ -5,5 +5,6 @@ use Rattle.pm_stream.proofs.reprinting.PrinterTokenSink.close.Goals as goal
 
 pub returns : goal.returns
 returns c = λ can.
-    prints_one c.args.self.now (record { draft = c.push_ending.new.draft; gap = true }) _ (ending c.args.delimiter)
+    prints_one c.args.self.now (record { text_out = c.push_ending.new.text_out; gap = true }) _
+    (ending c.args.delimiter)
     c.in_ok-push_ending.ensures refl refl can.to.before.events can.to.takes

@@ -1,6 +1,6 @@
 use Rattle.std.proofs.Common.{ap, subst}
 use Rattle.pm_stream.specs.Forest.{IsBuilt}
-use Rattle.pm_stream.specs.Trees.{held}
+use Rattle.pm_stream.specs.Trees.{shared_trees}
 use Rattle.pm_stream.proofs.TakenLemmas.{IsBuilt-taken}
 use Rattle.pm_stream.proofs.stream.TokenStream.take_group.Goals as goal
 
@@ -9,4 +9,4 @@ invariant_of-self c = c.self.invariant
 
 pub invariant_of-self-2 : goal.invariant_of-self-2
 invariant_of-self-2 c = IsBuilt-taken _ _ c.take_group.result c.take_group.ensures
-    (subst IsBuilt (ap held c.in-Some.is) c.self.invariant)
+    (subst IsBuilt (ap shared_trees c.in-Some.is) c.self.invariant)

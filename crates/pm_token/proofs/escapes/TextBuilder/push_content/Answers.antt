@@ -1,7 +1,7 @@
 use Rattle.std.proofs.Common.{◌≡◌, ◌++◌, length, sym, ap, ◌∙◌, arith}
 use Rattle.std.specs.Str.{chars}
 use Rattle.std.proofs.lemmas.Str.{chars_past_char}
-use Rattle.pm_token.specs.Escaped.{written_char, written}
+use Rattle.pm_token.specs.Escaped.{written_char, char_text}
 use Rattle.pm_token.proofs.TextBuilderLemmas.{content_more, content_end, content_past, past_shorter}
 use Rattle.pm_token.proofs.escapes.TextBuilder.push_content.Goals as goal
 
@@ -30,9 +30,9 @@ pub loop-c-preserved : goal.loop-c-preserved
 loop-c-preserved c =
     let plain = c.in_ok-push_plain-2.ensures.ok in
     let wrote : c.push_escaped.new.self
-    ≡ c.loop-c.self ++ written c.args.quote written_char c.in-Some.c (chars c.next.new.self.rest.now) =
+    ≡ c.loop-c.self ++ char_text c.args.quote written_char c.in-Some.c (chars c.next.new.self.rest.now) =
     c.in_ok-push_escaped.ensures.ok
-    ∙ ap (λ rest. c.loop-c.self ++ written c.args.quote written_char c.in-Some.c (chars rest)) c.as_str.ensures in
+    ∙ ap (λ rest. c.loop-c.self ++ char_text c.args.quote written_char c.in-Some.c (chars rest)) c.as_str.ensures in
     rw c.chars-rest-in-Some.ensures.rest (record {
       same = content_past c.args.quote c.push_escaped.new.self c.push_plain-in-Some.new.self plain.0
           (chars c.next.new.self.rest.now)

@@ -1,7 +1,7 @@
 use Rattle.std.proofs.Common.{◌≡◌, ◌-◌, length, take, drop, ap, ◌∙◌, arith, length-drop}
 use Rattle.std.proofs.lemmas.List.{take_rest}
 use Rattle.lexical.proofs.LaneLemmas.{goes_on}
-use Rattle.lexical.proofs.QuickLemmas.{front_of_run}
+use Rattle.lexical.proofs.FastPathLemmas.{front_of_run}
 use Rattle.lexical.specs.Finder.{while_front}
 use Rattle.pm_token.specs.Escaped.{is_plain_ascii}
 use Rattle.pm_token.proofs.StringLaneLemmas.{short_front}

@@ -1,6 +1,6 @@
 use Rattle.std.proofs.Common.{◌≡◌, ◌++◌, ◌∷◌, [], sym, ap, ap₂, ◌∙◌, subst, inl}
 use Rattle.lexical.specs.Literal.{IsLiteralToken}
-use Rattle.pm_token.specs.Escaped.{written, written_byte, byte_text}
+use Rattle.pm_token.specs.Escaped.{char_text, written_byte, byte_text}
 use Rattle.pm_token.proofs.ByteLemmas.{byte_whole}
 use Rattle.pm_token.proofs.literals.Literal.byte_character.Goals as goal
 use Rattle.pm_token.proofs.literals.Literal.byte_character.Goals.{After-call_site}
@@ -9,7 +9,7 @@ text : (c : After-call_site) → c.in_ok-finish.field-0 ≡ byte_text c.args.byt
 text c =
     c.in_ok-finish.ensures.ok ∙ (c.in_ok-push-3.ensures.ok
     ∙ ap (λ x. x ++ 39 ∷ []) (c.in_ok-push_byte.ensures.ok
-    ∙ ap (λ x. x ++ written 39 written_byte c.args.byte []) (c.in_ok-push-2.ensures.ok
+    ∙ ap (λ x. x ++ char_text 39 written_byte c.args.byte []) (c.in_ok-push-2.ensures.ok
     ∙ ap (λ x. x ++ 39 ∷ []) (c.in_ok-push.ensures.ok ∙ ap (λ x. x ++ 98 ∷ []) c.new-builder.ensures))))
 
 pub invariant_of-result : goal.invariant_of-result

@@ -1,5 +1,5 @@
 use Rattle.std.proofs.Common.{◌∙◌, ◌+◌, ap, sym, subst, Option}
-use Rattle.proc_macro2.specs.Forest.{Forest, joined}
+use Rattle.proc_macro2.specs.Forest.{Forest, chain}
 use Rattle.proc_macro2.specs.Trees.{alone}
 use Rattle.quoting.specs.Part.{Adds, done_of}
 use Rattle.quoting.proofs.RespacedListLemmas.{adds_kept, adds_put, first_goes_inside, part_of}
@@ -24,7 +24,7 @@ returns c =
           (alone c.args.tree.now) c.args.self.now
           c.self.view_is
           (ap (λ (changed : Option Forest). done_of changed inside.done inside.trees.now) (sym w.in-Some.is))
-          (w.in_ok-put.ensures ∙ ap (λ t. joined w.in-Some.changed (alone t)) w.in_ok-clone.ensures.cases))
+          (w.in_ok-put.ensures ∙ ap (λ t. chain w.in-Some.changed (alone t)) w.in_ok-clone.ensures.cases))
       | in_default w ↦
           subst (λ i. Adds c.args.self.now (alone c.args.tree.now)
           (part_of i.stream.now i.changed (i.done + 1) i.trees.now))

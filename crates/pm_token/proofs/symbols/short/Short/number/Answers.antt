@@ -1,5 +1,5 @@
 use Rattle.std.proofs.Common.{sym, ◌∙◌, subst, arith, rules, IsUtf8}
-use Rattle.pm_token.proofs.ShortLemmas.{number_short, numbered, number_utf8}
+use Rattle.pm_token.proofs.ShortLemmas.{number_short, number_holds, number_utf8}
 use Rattle.pm_token.proofs.symbols.short.Short.number.Goals as goal
 
 pub overflow_add-digits_end : goal.overflow_add-digits_end
@@ -23,7 +23,7 @@ write_digits-requires c =
 pub invariant_of-result : goal.invariant_of-result
 invariant_of-result c =
     let short = number_short _ _ _ _ c.ranges.value.fits c.from-start.ensures c.count_digits.ensures in
-    let holds = numbered _ _ _ _ _ _ _ _ c.ranges.value.fits c.from-start.ensures c.count_digits.ensures
+    let holds = number_holds _ _ _ _ _ _ _ _ c.ranges.value.fits c.from-start.ensures c.count_digits.ensures
     c.write_digits.ensures.start c.write_digits.ensures.before c.write_digits.ensures.written
     c.write_digits.auto.buf (c.copy_from_slice.ensures.after ∙ c.as_bytes.ensures.value) in (
       search rules,
@@ -33,6 +33,6 @@ invariant_of-result c =
     )
 
 pub returns : goal.returns
-returns c = (numbered _ _ _ _ _ _ _ _ c.ranges.value.fits c.from-start.ensures c.count_digits.ensures
+returns c = (number_holds _ _ _ _ _ _ _ _ c.ranges.value.fits c.from-start.ensures c.count_digits.ensures
     c.write_digits.ensures.start c.write_digits.ensures.before c.write_digits.ensures.written
     c.write_digits.auto.buf (c.copy_from_slice.ensures.after ∙ c.as_bytes.ensures.value)).front

@@ -1,0 +1,70 @@
+// Made from crates/pm_stream_tests/src/printing.rt by dev/erase: change that file, not this one.
+
+use crate::shim::prelude::{AllocGlobal, GrowText, HostRuntime};
+
+// Tests that Display fails only if its writer does. No contract can say so, because the trait has no word for a write
+// that fails.
+use crate::pm_stream_tests::checks::{parse_first, repeat_parts};
+use proved_tokens::pm_stream::TokenTree;
+use crate::shim::fmt::Display;
+use crate::shim::process::Abort;
+use crate::shim::test::Fail;
+
+/// Asserts that the value is written as this text, without an error.
+fn is_written<D: Display>(rt: &(impl Abort + AllocGlobal), value: &D, text: &str) {
+    let mut found = String::new();
+    assert!(write!(&mut found, "{value}").is_ok());
+    assert!(found.as_str() == text);
+}
+
+/// Asserts that the text is one tree, and that the stream, this tree, and the tree as a group if it is one, are written
+/// as the text.
+fn one_tree_is_written(rt: &(impl Abort + AllocGlobal), text: &str) -> Result<(), Fail> {
+    let stream = parse_first(text)?;
+    is_written(rt, &stream, text);
+    let tree = stream.trees().first().expect("it has a tree");
+    is_written(rt, tree, text);
+    if let TokenTree::Group(group) = tree {
+        is_written(rt, group, text);
+    }
+    Ok(())
+}
+
+#[test]
+fn a_long_literal_is_printed_without_an_error() -> Result<(), Fail> {
+    let rt = HostRuntime;
+    let text = repeat_parts(&[("\"", 1), ("a", 1_100_000), ("\"", 1)])?;
+    one_tree_is_written(&rt, text.as_str())
+}
+
+#[test]
+fn deep_groups_are_printed_without_an_error() -> Result<(), Fail> {
+    let rt = HostRuntime;
+    let text = repeat_parts(&[("(", 70_000), ("x", 1), (")", 70_000)])?;
+    one_tree_is_written(&rt, text.as_str())
+}
+
+#[test]
+fn a_long_name_is_printed_without_an_error() -> Result<(), Fail> {
+    let rt = HostRuntime;
+    let text = repeat_parts(&[("r#", 1), ("a", 1_100_000)])?;
+    one_tree_is_written(&rt, text.as_str())
+}
+
+#[test]
+fn a_long_list_is_printed_without_an_error() -> Result<(), Fail> {
+    let rt = HostRuntime;
+    let text = repeat_parts(&[("x + \"y\" (z) ", 70_000), ("'a", 1)])?;
+    is_written(&rt, &parse_first(text.as_str())?, text.as_str());
+    Ok(())
+}
+
+#[test]
+fn a_long_list_in_a_group_is_printed_without_an_error() -> Result<(), Fail> {
+    let rt = HostRuntime;
+    for (front, back) in [("(x", ")"), ("[x", "]"), ("{ x", " }")] {
+        let text = repeat_parts(&[(front, 1), (" x ;", 130_000), (back, 1)])?;
+        one_tree_is_written(&rt, text.as_str())?;
+    }
+    Ok(())
+}

@@ -1,0 +1,245 @@
+// Made from crates/pm_stream_tests/src/random_streams.rt by dev/erase: change that file, not this one.
+
+use crate::shim::prelude::{AllocGlobal, Grow, HostRuntime, format};
+
+// Tests of streams of random trees: each comes back from its printed text exactly if it is well spaced.
+//
+// `bench/twin/random_lists.rs` makes the same lists from the same seed, in the same steps, for the Rust crate.
+
+use proved_tokens::proc_macro2::{
+    Delimiter, Group, Ident, Literal, ParseError, Punct, SourceMap, Spacing, Span, TokenStream,
+    TokenTree,
+};
+use crate::shim::alloc::AllocError;
+use crate::shim::process::Abort;
+use crate::shim::test::Fail;
+
+/// How many streams are made, and how many of them come back. The Rust crate gives the same numbers.
+const STREAMS: u32 = 20000;
+
+const COME_BACK: u32 = 11419;
+
+/// Names that may be plain, including prefixes of literals, keywords, and a name that isn't ASCII.
+const NAMES: &[&str] = &[
+    "a", "b", "c", "r", "br", "cr", "_", "x1", "e5", "u8", "f64", "fn", "self", "_a", "E", "\u{e9}",
+];
+
+/// Names that may be raw.
+const RAW_NAMES: &[&str] = &["a", "fn", "r", "\u{e9}"];
+
+/// All characters of marks.
+const MARKS: &[char] = &[
+    '!', '#', '$', '%', '&', '\'', '*', '+', ',', '-', '.', '/', ':', ';', '<', '=', '>', '?', '@',
+    '^', '|', '~',
+];
+
+/// The delimiters of groups.
+const DELIMITERS: &[Delimiter] = &[
+    Delimiter::Parenthesis,
+    Delimiter::Bracket,
+    Delimiter::Brace,
+    Delimiter::None,
+];
+
+/// Texts of literals of each kind: integers, floats, characters, bytes, and strings of each kind.
+const LITERALS: &[&str] = &[
+    "0",
+    "1",
+    "12u8",
+    "0x1F",
+    "0xe",
+    "0b10",
+    "0o7",
+    "1_000",
+    "1usize",
+    "1f32",
+    "1.0",
+    "2.",
+    "1e3",
+    "1.5f64",
+    "2.0e-3",
+    "7E+2",
+    "'a'",
+    "'\\''",
+    "'\\n'",
+    "'\"'",
+    "' '",
+    "b'a'",
+    "b'\\\\'",
+    "\"\"",
+    "\"a\"",
+    "\"a b\"",
+    "\"\\\"\"",
+    "\"//\"",
+    "\"a\"s",
+    "'a'u8",
+    "b\"a\"",
+    "b\"\\0\"",
+    "c\"a\"",
+    "c\"\"",
+    "r\"a\"",
+    "r#\"\"\"#",
+    "br\"a\"",
+    "br#\"a\"#",
+    "cr\"a\"",
+    "cr##\"\"#\"##",
+];
+
+/// A source of random trees.
+struct RandomTrees {
+    /// The last random number, which isn't 0.
+    state: u64,
+}
+
+impl RandomTrees {
+    /// Up to 6 trees, in which groups nest 2 deep.
+    fn trees(&mut self, rt: &(impl Abort + AllocGlobal)) -> Result<Vec<TokenTree>, Fail> {
+        let mut trees = Vec::new();
+        for _ in 0..self.below(7) {
+            trees.push_fallibly(self.tree(rt)?)?;
+        }
+        Ok(trees)
+    }
+
+    /// A tree, in which groups nest 2 deep.
+    fn tree(&mut self, rt: &(impl Abort + AllocGlobal)) -> Result<TokenTree, Fail> {
+        let kind = self.below(13);
+        if kind < 11 {
+            return self.leaf(rt, kind);
+        }
+        let delimiter = self.one_of(DELIMITERS);
+        let inside = self.shallow_trees(rt)?;
+        Ok(group_of(delimiter, inside)?)
+    }
+
+    /// Up to 3 trees. Their groups have no groups in them.
+    fn shallow_trees(&mut self, rt: &(impl Abort + AllocGlobal)) -> Result<Vec<TokenTree>, Fail> {
+        let mut trees = Vec::new();
+        for _ in 0..self.below(4) {
+            trees.push_fallibly(self.shallow_tree(rt)?)?;
+        }
+        Ok(trees)
+    }
+
+    /// A tree. If it is a group, it has no groups in it.
+    fn shallow_tree(&mut self, rt: &(impl Abort + AllocGlobal)) -> Result<TokenTree, Fail> {
+        let kind = self.below(13);
+        if kind < 11 {
+            return self.leaf(rt, kind);
+        }
+        let delimiter = self.one_of(DELIMITERS);
+        let inside = self.leaves(rt)?;
+        Ok(group_of(delimiter, inside)?)
+    }
+
+    /// Up to 3 trees that are no groups.
+    fn leaves(&mut self, rt: &(impl Abort + AllocGlobal)) -> Result<Vec<TokenTree>, Fail> {
+        let mut trees = Vec::new();
+        for _ in 0..self.below(4) {
+            let kind = self.below(11);
+            trees.push_fallibly(self.leaf(rt, kind)?)?;
+        }
+        Ok(trees)
+    }
+
+    /// A tree that is no group, of one of eleven kinds.
+    fn leaf(&mut self, rt: &(impl Abort + AllocGlobal), kind: u64) -> Result<TokenTree, Fail> {
+        Ok(match kind {
+            0..=1 => TokenTree::Ident(Ident::new(self.one_of(NAMES), Span::call_site())?),
+            2 => TokenTree::Ident(Ident::new_raw(
+                self.one_of(RAW_NAMES),
+                Span::call_site(),
+            )?),
+            3..=4 => TokenTree::Punct(self.mark(rt, Spacing::Alone)),
+            5..=6 => TokenTree::Punct(self.mark(rt, Spacing::Joint)),
+            7..=9 => {
+                let text = self.one_of(LITERALS);
+                TokenTree::Literal(Literal::from_str(text, &mut SourceMap::new())?)
+            }
+            _ => TokenTree::Literal(self.integer()?),
+        })
+    }
+
+    /// A mark.
+    fn mark(&mut self, rt: &(impl Abort + AllocGlobal), spacing: Spacing) -> Punct {
+        let mark = self.one_of(MARKS);
+        assert!(Punct::is_punct_char(mark), "{mark}");
+        Punct::new(mark, spacing)
+    }
+
+    /// An integer that a constructor makes, mostly below zero.
+    fn integer(&mut self) -> Result<Literal, AllocError> {
+        match self.below(10) {
+            0 => Literal::i8_unsuffixed(-1),
+            1 => Literal::i8_unsuffixed(-128),
+            2 => Literal::i8_suffixed(-3),
+            3 => Literal::i16_suffixed(-3),
+            4 => Literal::i32_suffixed(-3),
+            5 => Literal::i64_suffixed(-3),
+            6 => Literal::i128_suffixed(-3),
+            7 => Literal::isize_suffixed(-3),
+            8 => Literal::i8_unsuffixed(0),
+            _ => Literal::i32_suffixed(127),
+        }
+    }
+
+    /// Returns one of these values, of which there must be at least one.
+    fn one_of<T: Copy>(&mut self, values: &[T]) -> T
+    {
+        values[self.below(values.len() as u64) as usize]
+    }
+
+    /// Returns a number below the bound, which isn't 0.
+    fn below(&mut self, bound: u64) -> u64
+    {
+        self.state ^= self.state << 13;
+        self.state ^= self.state >> 7;
+        self.state ^= self.state << 17;
+        self.state % bound
+    }
+}
+
+/// The group of these trees.
+fn group_of(
+    delimiter: Delimiter,
+    trees: Vec<TokenTree>,
+) -> Result<TokenTree, AllocError> {
+    let stream = TokenStream::from_trees(trees)?;
+    Ok(TokenTree::Group(Group::new(delimiter, stream)))
+}
+
+/// Whether the printed text parses, in a new map, to the same tokens.
+fn comes_back(stream: &TokenStream) -> Result<bool, ParseError> {
+    let text = format!("{stream}")?;
+    match TokenStream::from_str(text.as_str(), &mut SourceMap::new()) {
+        Ok(back) => Ok(stream.same_tokens(&back)),
+        Err(ParseError::Lex(_)) => Ok(false),
+        Err(error) => Err(error),
+    }
+}
+
+/// Asserts that the stream comes back exactly if it is well spaced, and returns whether it comes back.
+fn check_spacing(
+    rt: &(impl Abort + AllocGlobal),
+    stream: &TokenStream,
+) -> Result<bool, ParseError> {
+    let spaced = stream.is_well_spaced();
+    assert_eq!(comes_back(stream)?, spaced, "of {stream:?}");
+    Ok(spaced)
+}
+
+#[test]
+fn what_is_well_spaced_comes_back_and_nothing_else() -> Result<(), Fail> {
+    let rt = HostRuntime;
+    let mut random = RandomTrees { state: 7 };
+    let mut come_back: u32 = 0;
+    for _ in 0..STREAMS {
+        let trees = random.trees(&rt)?;
+        let stream = TokenStream::from_trees(trees)?;
+        if check_spacing(&rt, &stream)? {
+            come_back = come_back.saturating_add(1);
+        }
+    }
+    assert_eq!(come_back, COME_BACK);
+    Ok(())
+}

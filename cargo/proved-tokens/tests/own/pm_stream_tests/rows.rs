@@ -1,0 +1,53 @@
+// Made from crates/pm_stream_tests/src/rows.rt by dev/erase: change that file, not this one.
+
+use crate::shim::prelude::{AllocGlobal, HostRuntime};
+
+// Tests of several texts in one map, and of the map's limit.
+use crate::pm_stream_tests::checks::check_shown;
+use proved_tokens::proc_macro2::{ParseError, SourceMap, TokenStream};
+use crate::shim::process::Abort;
+
+/// Asserts whether `text` fits into the map, whose limit is `limit`.
+fn check_fits(rt: &impl Abort, map: &mut SourceMap, limit: u32, text: &str, fits: bool) {
+    let full = matches!(TokenStream::from_str(text, map), Err(ParseError::MapFull));
+    assert_eq!(full, !fits, "of {text:?} with the limit {limit}");
+}
+
+/// Asserts whether `z` and then the empty text fit after `abcd`, whose span is 1..5.
+fn check_limit(rt: &(impl Abort + AllocGlobal), limit: u32, z: bool, empty: bool) {
+    let mut map = SourceMap::with_limit(limit);
+    let abcd = TokenStream::from_str("abcd", &mut map).is_ok();
+    assert!(abcd, "with the limit {limit}");
+    check_fits(rt, &mut map, limit, "z", z);
+    check_fits(rt, &mut map, limit, "", empty);
+}
+
+#[test]
+fn the_empty_text_has_a_position_of_its_own() {
+    let rt = HostRuntime;
+    let map = &mut SourceMap::new();
+    check_shown(&rt, map, "", "TokenStream []");
+    check_shown(
+        &rt,
+        map,
+        "x",
+        "TokenStream [Ident { sym: x, span: bytes(2..3) }]",
+    );
+    check_shown(
+        &rt,
+        map,
+        "y",
+        "TokenStream [Ident { sym: y, span: bytes(4..5) }]",
+    );
+}
+
+#[test]
+fn a_text_past_the_limit_leaves_the_map_as_it_was() {
+    let rt = HostRuntime;
+    check_limit(&rt, 5, false, false);
+    check_limit(&rt, 6, false, true);
+    check_limit(&rt, 7, true, false);
+    check_limit(&rt, 9, true, true);
+    check_fits(&rt, &mut SourceMap::with_limit(0), 0, "", false);
+    check_fits(&rt, &mut SourceMap::with_limit(1), 1, "", true);
+}

@@ -1,0 +1,43 @@
+// Made from crates/pm_token_tests/src/marks.rt by dev/erase: change that file, not this one.
+
+use crate::shim::prelude::HostRuntime;
+
+use crate::pm_token_tests::checks::{check_same, displays, shows};
+use proved_tokens::pm_token::{Punct, Spacing};
+use crate::shim::alloc::AllocError;
+
+/// The 22 marks.
+const MARKS: &str = "~!@#$%^&*-=+|;:,<.>/?'";
+
+#[test]
+fn the_marks_are_22_characters_of_ascii() {
+    let rt = HostRuntime;
+    check_same(&rt, MARKS, &MARKS.len(), &22);
+    for code in 0..128 {
+        let c = char::from(code);
+        assert_eq!(Punct::is_punct_char(c), MARKS.contains(c), "of {c:?}");
+    }
+}
+
+#[test]
+fn no_character_past_ascii_is_a_mark() {
+    let rt = HostRuntime;
+    for c in [
+        '\u{80}',
+        '×',
+        '\u{2019}',
+        '\u{2026}',
+        '\u{FF0B}',
+        '\u{10FFFF}',
+    ] {
+        assert!(!Punct::is_punct_char(c), "{c:?}");
+    }
+}
+
+#[test]
+fn a_new_mark_stands_nowhere() -> Result<(), AllocError> {
+    let rt = HostRuntime;
+    let mark = Punct::new('\'', Spacing::Joint);
+    displays(&rt, &mark, "'")?;
+    shows(&rt, &mark, "Punct { char: '\\'', spacing: Joint }")
+}

@@ -1,0 +1,38 @@
+// Made from crates/pm_token_tests/src/shown_tokens.rt by dev/erase: change that file, not this one.
+
+use crate::shim::prelude::HostRuntime;
+
+use crate::pm_token_tests::checks::{displays, shows};
+use proved_tokens::pm_span::Span;
+use proved_tokens::pm_span::parts::span_of;
+use proved_tokens::pm_token::parts::{ident, punct};
+use proved_tokens::pm_token::{Ident, Spacing};
+use crate::shim::alloc::AllocError;
+use crate::shim::process::Abort;
+
+fn low_line(span: Span) -> Result<Ident, AllocError> {
+    ident("_", false, span)
+}
+
+/// Asserts the `Display` and `Debug` texts of `_` with this span.
+fn low_line_shows(
+    rt: &impl Abort,
+    span: Span,
+    want: &str,
+) -> Result<(), AllocError> {
+    let name = low_line(span)?;
+    displays(rt, &name, "_")?;
+    shows(rt, &name, want)
+}
+
+#[test]
+fn tokens_show_their_parts_and_spans() -> Result<(), AllocError> {
+    let rt = HostRuntime;
+    let want = "Ident { sym: _, span: bytes(1..2) }";
+    low_line_shows(&rt, span_of(1, 2), want)?;
+    low_line_shows(&rt, Span::call_site(), "Ident { sym: _ }")?;
+    let mark = punct('+', Spacing::Joint, span_of(3, 4));
+    displays(&rt, &mark, "+")?;
+    let want = "Punct { char: '+', spacing: Joint, span: bytes(3..4) }";
+    shows(&rt, &mark, want)
+}

@@ -1,6 +1,0 @@
-use Rattle.declarations.proofs.PartReaderLemmas.{where_only}
-use Rattle.declarations.proofs.parts.split_where.Goals as goal
-
-pub returns-in-Ok-clause-only : goal.returns-in-Ok-clause-only
-returns-in-Ok-clause-only c =
-    where_only c.args.trees.now c.part.result.now c.in-Ok.rest.now c.in-Ok.ensures c.part.ensures
