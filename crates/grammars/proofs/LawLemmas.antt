@@ -10,6 +10,7 @@ use Rattle.grammars.specs.Words as words
 use Rattle.grammars.proofs.SoundLemmas.{ReadsOf, run_sound}
 use Rattle.grammars.proofs.StepLemmas.{if_some}
 use Rattle.grammars.proofs.CompleteLemmas.{run_complete}
+use Rattle.grammars.proofs.NextLemmas.{ends_reading, goes_on_next, next_goes_on, reading_ends}
 use Rattle.grammars.proofs.ListLemmas.{listed_written, written_listed}
 use Rattle.grammars.proofs.ReadingLemmas.{reading, found}
 use Rattle.grammars.proofs.TestLemmas.{clear_holds, alive_holds}
@@ -145,3 +146,15 @@ module _ (C N L : Type 0) where
 
   pub element_finds : words.ElementFinds C N L
   element_finds rules a s signs h = word.find_element rules a s signs h
+
+  -- ---- what can come next
+
+  pub next_is_exact : laws.NextGoesOn C N L
+  next_is_exact rules follows good k start front c =
+      (next_goes_on rules follows good k start front c, goes_on_next rules follows good k start front c)
+
+  pub end_is_exact : laws.EndIsReading C N L
+  end_is_exact rules follows good k start front = (
+    ends_reading rules follows good k start front,
+    λ r. reading_ends rules follows good k start front r.0 r.1,
+  )

@@ -8,6 +8,7 @@ pub mod ListLemmas
 pub mod FindLemmas
 pub mod WordLemmas
 pub mod WholeLemmas
-pub mod LawLemmas
 pub mod FlatLemmas
 pub mod PieceLemmas
+pub mod NextLemmas
+pub mod LawLemmas

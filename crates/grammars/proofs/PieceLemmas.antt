@@ -16,7 +16,8 @@ module _ {C N L : Type 0} (rules : N → Grammar C N L) where
     pub ended : ends taken.1 ≡ true
 
   -- if all signs are read, there is a walk over them
-  run_walks : (k : List (Grammar C N L)) (signs : List C) (events : List (Event C L)) → run rules k signs ≡ Some events
+  pub run_walks : (k : List (Grammar C N L)) (signs : List C) (events : List (Event C L))
+      → run rules k signs ≡ Some events
       → Walks k signs
   run_walks k [] events e = go (ends k) refl e
     where

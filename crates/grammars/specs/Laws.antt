@@ -1,11 +1,12 @@
 -- Laws for all grammars over some signs, names of rules and labels of parts.
-use Rattle.std.specs.Prelude.{◌≡◌, ◌↔◌, Bool, true, List, [], Some, None}
+use Rattle.std.specs.Prelude.{◌≡◌, ◌↔◌, Bool, true, List, [], ◌∷◌, ◌++◌, Some, None}
 use Rattle.grammars.specs.Grammar.{Grammar, Event, Derives, Listed, Reads, signs_of}
 use Rattle.grammars.specs.Machine.{run}
 use Rattle.grammars.specs.Deterministic.{Deterministic, AllDeterministic, Productive, IsWellFormed, IsStart}
 use Rattle.grammars.specs.Find.{Past, Stuck, scan}
 use Rattle.grammars.specs.Lists.{list_grammar}
-use Rattle.grammars.specs.Reading.{FaultAt, IsReading}
+use Rattle.grammars.specs.Next.{may_end, may_follow}
+use Rattle.grammars.specs.Reading.{FaultAt, GoesOn, IsReading}
 use Rattle.grammars.specs.Tests.{IsEvery, IsAny, is_deterministic, is_productive}
 
 module _ (C N L : Type 0) where
@@ -64,6 +65,20 @@ module _ (C N L : Type 0) where
       → (k : List (Grammar C N L)) → IsStart rules follows k → (signs left : List C)
       → scan rules k signs ≡ Stuck left
       → (front : List C) × FaultAt rules k signs front left
+
+  -- ---- what can come next
+
+  -- a sign is in the first set of what is left to read after `front` exactly if `front` can go on with it
+  abbrev pub NextGoesOn : Type 0
+  NextGoesOn = (rules : N → Grammar C N L) (follows : N → C → Bool) → IsWellFormed rules follows
+      → (k : List (Grammar C N L)) → IsStart rules follows k → (front : List C) (c : C)
+      → may_follow rules k front c ≡ true ↔ GoesOn rules k (front ++ c ∷ [])
+
+  -- nothing need be read after `front` exactly if `front` has a reading
+  abbrev pub EndIsReading : Type 0
+  EndIsReading = (rules : N → Grammar C N L) (follows : N → C → Bool) → IsWellFormed rules follows
+      → (k : List (Grammar C N L)) → IsStart rules follows k → (front : List C)
+      → may_end rules k front ≡ true ↔ ((events : List (Event C L)) × IsReading rules k front events)
 
   -- ---- tests and lists
 

@@ -7,4 +7,5 @@ pub mod Find
 pub mod Reading
 pub mod Lists
 pub mod Words
+pub mod Next
 pub mod Laws

@@ -2,9 +2,11 @@
 //! The functions compute nothing: their contracts are the laws, which `specs/Laws.antt` and `specs/Words.antt` state.
 
 ghost use Rattle.grammars.specs.Laws.{
+  EndIsReading,
   FoundIsReading,
   LeftIsFault,
   ListIsWritten,
+  NextGoesOn,
   OneFault,
   OneReading,
   ReadsOrFails,
@@ -56,6 +58,16 @@ pub fn found_tells<C, N, L>()
     ensures reading { FoundIsReading C N L }
     ensures left { LeftIsFault C N L }
     ensures stuck { StuckIsFault C N L }
+{}
+
+/// What the machine has left to read after some signs says what can come next. A sign is in its first set exactly if
+/// the signs before it can go on to a whole reading with this sign. It derives no sign exactly if the signs before it
+/// are a whole reading.
+///
+/// After `a ,` by `Listed (Sign is_word) (Sign is_comma)`, the first set has the words, and no sign need follow.
+pub fn next_signs<C, N, L>()
+    ensures next { NextGoesOn C N L }
+    ensures end { EndIsReading C N L }
 {}
 
 /// If the tests of a grammar pass, one sign decides at each choice of the grammar, and each of its parts derives
