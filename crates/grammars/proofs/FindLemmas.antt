@@ -7,7 +7,7 @@ use Rattle.grammars.specs.Machine.{is_nullable, marks_of_nothing, Transition, or
 use Rattle.grammars.specs.Machine.{ends, closing}
 use Rattle.grammars.specs.Find.{Found, Past, Stuck, front, and_then, scan}
 
-abbrev plus : {C N L : Type 0} → List (Grammar C N L) → Transition C N L → Transition C N L
+abbrev pub plus : {C N L : Type 0} → List (Grammar C N L) → Transition C N L → Transition C N L
 plus k None = None
 plus k (Some t) = Some (t.0, t.1 ++ k)
 
@@ -32,7 +32,7 @@ and_front a (Past e r) f = front_front a e (f r)
 and_front a (Stuck l) f = refl
 
 module _ {C N L : Type 0} (rules : N → Grammar C N L) where
-  into_append : (g : Grammar C N L) (j k : List (Grammar C N L)) (c : C)
+  pub into_append : (g : Grammar C N L) (j k : List (Grammar C N L)) (c : C)
       → into rules g (j ++ k) c ≡ plus k (into rules g j c)
   into_append Nothing j k c = refl
   into_append (Sign passes) j k c = go (passes c)
@@ -59,7 +59,7 @@ module _ {C N L : Type 0} (rules : N → Grammar C N L) where
   into_append (Many a) j k c = into_append a (Many a ∷ j) k c
   into_append (Listed a s) j k c = into_append a (further a s ∷ j) k c
 
-  step_append : (r k : List (Grammar C N L)) (c : C)
+  pub step_append : (r k : List (Grammar C N L)) (c : C)
       → step rules (r ++ k) c ≡ or_else (plus k (step rules r c))
       (only (ends r) (prepend_events (closing r) (step rules k c)))
   step_append [] k c = go (step rules k c)
@@ -82,7 +82,7 @@ module _ {C N L : Type 0} (rules : N → Grammar C N L) where
       same None None None true true s t = refl
       same None None (Some z) true true s t = ap (λ e. Some (e, z.1)) (sym (append_assoc s t z.0))
 
-  ends_append : (r k : List (Grammar C N L)) → ends (r ++ k) ≡ (ends r && ends k)
+  pub ends_append : (r k : List (Grammar C N L)) → ends (r ++ k) ≡ (ends r && ends k)
   ends_append [] k = refl
   ends_append (g ∷ r) k = ap (λ x. is_nullable g && x) (ends_append r k) ∙ go (is_nullable g) (ends r) (ends k)
     where

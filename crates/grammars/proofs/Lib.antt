@@ -11,4 +11,6 @@ pub mod WholeLemmas
 pub mod FlatLemmas
 pub mod PieceLemmas
 pub mod NextLemmas
+pub mod StopLemmas
+pub mod NextWordLemmas
 pub mod LawLemmas

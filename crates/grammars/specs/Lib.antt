@@ -8,4 +8,5 @@ pub mod Reading
 pub mod Lists
 pub mod Words
 pub mod Next
+pub mod NextWords
 pub mod Laws

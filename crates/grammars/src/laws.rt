@@ -1,5 +1,6 @@
 //! Laws for all grammars over the signs `C`, whose rules have the names `N`, and which mark parts by the labels `L`.
-//! The functions compute nothing: their contracts are the laws, which `specs/Laws.antt` and `specs/Words.antt` state.
+//! The functions compute nothing: their contracts are the laws, which `specs/Laws.antt`, `specs/Words.antt` and
+//! `specs/NextWords.antt` state.
 
 ghost use Rattle.grammars.specs.Laws.{
   EndIsReading,
@@ -15,6 +16,31 @@ ghost use Rattle.grammars.specs.Laws.{
   StuckIsFault,
   TestIsDeterministic,
   TestIsProductive,
+};
+ghost use Rattle.grammars.specs.NextWords.{
+  EndSees,
+  FirstSees,
+  LacksSees,
+  ListEnds,
+  ListLast,
+  ListMoves,
+  ListStays,
+  ListStuck,
+  ListWaits,
+  ManyLast,
+  ManyMoves,
+  ManyStays,
+  ManyStuck,
+  MarkSees,
+  NeitherSees,
+  NothingSees,
+  SecondSees,
+  SeesIsNext,
+  SignSees,
+  ThenMoves,
+  ThenStays,
+  ThenStuck,
+  ToSees,
 };
 ghost use Rattle.grammars.specs.Words.{
   ElementFinds,
@@ -98,4 +124,32 @@ pub fn words_find<C, N, L>()
     ensures other { OtherFinds C N L }
     ensures more { MoreFinds C N L }
     ensures element { ElementFinds C N L }
+{}
+
+/// How far each constructor of `Grammar` reads, and what can come next there, in terms of what its parts see. These
+/// equations prove a function that finds the signs that were expected at an error, by cases on the constructor.
+pub fn words_see<C, N, L>()
+    ensures next { SeesIsNext C N L }
+    ensures lacks { LacksSees C N L }
+    ensures at_end { EndSees C N L }
+    ensures nothing { NothingSees C N L }
+    ensures mark { MarkSees C N L }
+    ensures sign { SignSees C N L }
+    ensures to { ToSees C N L }
+    ensures then_stuck { ThenStuck C N L }
+    ensures then_moves { ThenMoves C N L }
+    ensures then_stays { ThenStays C N L }
+    ensures first { FirstSees C N L }
+    ensures second { SecondSees C N L }
+    ensures neither { NeitherSees C N L }
+    ensures many_stays { ManyStays C N L }
+    ensures many_stuck { ManyStuck C N L }
+    ensures many_moves { ManyMoves C N L }
+    ensures many_last { ManyLast C N L }
+    ensures list_stays { ListStays C N L }
+    ensures list_stuck { ListStuck C N L }
+    ensures list_ends { ListEnds C N L }
+    ensures list_waits { ListWaits C N L }
+    ensures list_moves { ListMoves C N L }
+    ensures list_last { ListLast C N L }
 {}
