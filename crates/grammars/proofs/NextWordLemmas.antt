@@ -10,6 +10,9 @@ module _ (C N L : Type 0) where
   pub is_next : laws.SeesIsNext C N L
   is_next rules k signs left next end s = stops.sees_next rules k signs left next end s
 
+  pub is_seen : laws.NextIsSeen C N L
+  is_seen rules k signs left next end n = stops.next_sees rules k signs left next end n
+
   pub lacks : laws.LacksSees C N L
   lacks rules g c signs h = stops.sees_lacks rules g c signs h
 

@@ -135,7 +135,8 @@ module _ {C N L : Type 0} (rules : N → Grammar C N L) where
         let j = (stop rules r signs).1 in
         let here : stop rules (r ++ k) signs ≡ (mid, j ++ k) =
         stop_append r k signs
-        ∙ (stop_still (j ++ k) (stop rules r signs).0 (still j (stop rules r signs).0 (sym s.ended) (stops_still r signs))
+        ∙ (stop_still (j ++ k) (stop rules r signs).0
+        (still j (stop rules r signs).0 (sym s.ended) (stops_still r signs))
         ∙ ap (λ x. (x, j ++ k)) s.stops) in
         record {
           stops = ap (λ x. x.0) here;
@@ -526,6 +527,7 @@ module _ {C N L : Type 0} (rules : N → Grammar C N L) where
       let w = stop_walk k signs in record {
         front = w.front;
         whole = w.whole ∙ ap (λ x. w.front ++ x) s.stops;
+        walks = ap is_some w.walks;
         follows = λ c. s.nexts c ∙ sym (followed w.front w.events (stop rules k signs).1 c w.walks);
         ends = s.ended ∙ sym (ended w.front w.events (stop rules k signs).1 w.walks);
         longest = λ c more e.
@@ -543,3 +545,57 @@ module _ {C N L : Type 0} (rules : N → Grammar C N L) where
       ended : (front : List C) (events : List (Event C L)) (j : Stack) → walk rules k front ≡ Some (events, j)
           → may_end rules k front ≡ ends j
       ended front events j w = ap (λ o. elim o as (λ x. Bool) [ None ↦ false | Some t ↦ ends t.1 ]) w
+
+  -- the machine stops after a walk, if there is no step after it
+  walk_stops : (k : Stack) (front left : List C) (taken : List (Event C L) × Stack) → walk rules k front ≡ Some taken
+      → Still taken.1 left
+      → stop rules k (front ++ left) ≡ (left, taken.1)
+  walk_stops k [] left taken w h =
+      let same : k ≡ taken.1 = cc in
+      ap (λ j. stop rules j left) same ∙ stop_still taken.1 left h
+  walk_stops k (c ∷ front) left taken w h = go (step rules k c) refl w (λ j t. walk_stops j front left t)
+    where
+      later : (t : List (Event C L) × Stack) → step rules k c ≡ Some t → (o : Transition C N L)
+          → prepend_events t.0 o ≡ Some taken
+          → ((u : List (Event C L) × Stack) → o ≡ Some u → Still u.1 left
+          → stop rules t.1 (front ++ left) ≡ (left, u.1))
+          → stop rules k (c ∷ (front ++ left)) ≡ (left, taken.1)
+      later t e None w f = absurd cc
+      later t e (Some u) w f =
+          let same : u.1 ≡ taken.1 = cc in
+          stop_some k c (front ++ left) t e
+          ∙ (f u refl (subst (λ j. Still j left) (sym same) h) ∙ ap (λ j. (left, j)) same)
+
+      go : (o : Transition C N L) → step rules k c ≡ o
+          → (elim o as (λ y. Transition C N L) [
+            | None ↦ None
+            | Some t ↦ prepend_events t.0 (walk rules t.1 front)
+          ]) ≡ Some taken
+          → ((j : Stack) (u : List (Event C L) × Stack) → walk rules j front ≡ Some u → Still u.1 left
+          → stop rules j (front ++ left) ≡ (left, u.1))
+          → stop rules k (c ∷ (front ++ left)) ≡ (left, taken.1)
+      go None e w f = absurd cc
+      go (Some t) e w f = later t e (walk rules t.1 front) w (f t.1)
+
+  pub next_sees : (k : Stack) (signs left : List C) (next : C → Bool) (end : Bool) → IsNext rules k signs left next end
+      → Sees rules k signs left next end
+  next_sees k signs left next end n =
+      let taken = some_is (walk rules k n.front) n.walks in
+      let follows : (c : C) → next c ≡ starts taken.0.1 c = λ c.
+      n.follows c ∙ ap (λ o. elim o as (λ x. Bool) [ None ↦ false | Some t ↦ starts t.1 c ]) taken.1 in
+      let here : stop rules k signs ≡ (left, taken.0.1) =
+      ap (stop rules k) n.whole
+      ∙ walk_stops k n.front left taken.0 taken.1
+      (still taken.0.1 left (λ c more e. sym (follows c) ∙ n.longest c more e))
+      in
+      record {
+        stops = ap (λ x. x.0) here;
+        nexts = λ c. follows c ∙ ap (λ x. starts x.1 c) (sym here);
+        ended = n.ends
+            ∙ (ap (λ o. elim o as (λ x. Bool) [ None ↦ false | Some t ↦ ends t.1 ]) taken.1
+            ∙ ap (λ x. ends x.1) (sym here));
+      }
+    where
+      still : (j : Stack) (all : List C) → ((c : C) (more : List C) → all ≡ c ∷ more → starts j c ≡ false) → Still j all
+      still j [] h = tt
+      still j (c ∷ more) h = none_is (step rules j c) (step_is rules j c ∙ h c more refl)

@@ -1,5 +1,5 @@
 -- What can come next after some signs.
-use Rattle.std.specs.Prelude.{◌≡◌, Bool, false, List, [], ◌∷◌, ◌++◌, Some, None}
+use Rattle.std.specs.Prelude.{◌≡◌, Bool, true, false, is_some, List, [], ◌∷◌, ◌++◌, Some, None}
 use Rattle.grammars.specs.Grammar.{Grammar}
 use Rattle.grammars.specs.Machine.{ends, step, walk}
 use Rattle.grammars.specs.First.{starts}
@@ -32,6 +32,7 @@ pub record IsNext {C N L : Type 0} (rules : N → Grammar C N L) (k : List (Gram
     (next : C → Bool) (end : Bool) : Type 0 where
   pub front : List C
   pub whole : signs ≡ front ++ left
+  pub walks : is_some (walk rules k front) ≡ true
   pub follows : (c : C) → next c ≡ may_follow rules k front c
   pub ends : end ≡ may_end rules k front
   pub longest : (c : C) (more : List C) → left ≡ c ∷ more → next c ≡ false

@@ -1,5 +1,5 @@
--- Where the machine stops for each constructor of `Grammar`, and what can come next there. These equations prove a function
--- that explores a rule by cases on its constructor.
+-- Where the machine stops for each constructor of `Grammar`, and what can come next there. These equations prove a
+-- function that explores a rule by cases on its constructor.
 use Rattle.std.specs.Prelude.{◌≡◌, ◌<◌, ◌||◌, Bool, true, false, List, [], ◌∷◌, length}
 use Rattle.grammars.specs.Grammar.{Grammar, Nothing, Sign, To, Mark, Then, Either, Many, Listed}
 use Rattle.grammars.specs.Machine.{is_nullable}
@@ -13,6 +13,13 @@ module _ (C N L : Type 0) where
       (end : Bool)
       → Sees rules k signs left next end
       → IsNext rules k signs left next end
+
+  -- and what can come next after as many signs as can be read is seen
+  abbrev pub NextIsSeen : Type 0
+  NextIsSeen = (rules : N → Grammar C N L) (k : List (Grammar C N L)) (signs left : List C) (next : C → Bool)
+      (end : Bool)
+      → IsNext rules k signs left next end
+      → Sees rules k signs left next end
 
   -- ---- one sign
 
@@ -149,8 +156,8 @@ module _ (C N L : Type 0) where
 
   -- an element, a separator, and a list that reads a sign
   abbrev pub ListMoves : Type 0
-  ListMoves = (rules : N → Grammar C N L) (a s : Grammar C N L) → is_nullable s ≡ false → (signs mid after left : List C)
-      (first sep next : C → Bool) (end : Bool)
+  ListMoves = (rules : N → Grammar C N L) (a s : Grammar C N L) → is_nullable s ≡ false
+      → (signs mid after left : List C) (first sep next : C → Bool) (end : Bool)
       → Sees rules (a ∷ []) signs mid first true → length mid < length signs
       → Sees rules (s ∷ []) mid after sep true → length after < length mid
       → Sees rules (Listed a s ∷ []) after left next end → length left < length after

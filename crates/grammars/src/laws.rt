@@ -33,6 +33,7 @@ ghost use Rattle.grammars.specs.NextWords.{
   ManyStuck,
   MarkSees,
   NeitherSees,
+  NextIsSeen,
   NothingSees,
   SecondSees,
   SeesIsNext,
@@ -130,6 +131,7 @@ pub fn words_find<C, N, L>()
 /// equations prove a function that finds the signs that were expected at an error, by cases on the constructor.
 pub fn words_see<C, N, L>()
     ensures next { SeesIsNext C N L }
+    ensures seen { NextIsSeen C N L }
     ensures lacks { LacksSees C N L }
     ensures at_end { EndSees C N L }
     ensures nothing { NothingSees C N L }

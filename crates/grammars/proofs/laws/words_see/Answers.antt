@@ -4,6 +4,7 @@ use Rattle.grammars.proofs.laws.words_see.Goals as goal
 pub returns : goal.returns
 returns g c = record {
   next = laws.is_next g.row.C.Denot g.row.N.Denot g.row.L.Denot;
+  seen = laws.is_seen g.row.C.Denot g.row.N.Denot g.row.L.Denot;
   lacks = laws.lacks g.row.C.Denot g.row.N.Denot g.row.L.Denot;
   at_end = laws.at_end g.row.C.Denot g.row.N.Denot g.row.L.Denot;
   nothing = laws.nothing g.row.C.Denot g.row.N.Denot g.row.L.Denot;
