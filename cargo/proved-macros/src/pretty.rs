@@ -2,14 +2,15 @@
 use crate::{to_proved, NoToken, Spans};
 use proved_tokens::pretty_printer::to_pretty_string;
 use proved_tokens::quoting::QuoteError;
-use proved_tokens::relayout::{with_doc_comments, RelayoutError};
+use proved_tokens::relayout::{with_any_doc_comments, RelayoutError};
 use std::error::Error;
 use std::fmt::{self, Display};
 
 /// The stream's tokens as text for people: a statement or an item a line, blocks and long lists over several lines.
 ///
-/// The text reads back to the stream, up to spans and to the spacing of marks that can't be joined with what follows.
-/// The attributes that doc comments are read as are written as such on lines of their own, where that can be.
+/// The text reads back to the stream, up to spans, the spacing of marks that can't be joined with what follows, and the
+/// spelling of doc literals. Doc attributes are written as doc comments on lines of their own, where a comment can hold
+/// their text: as `///` and `//!`, or as `/**..*/` and `/*!..*/` if the text has several lines.
 ///
 /// ```
 /// let code: proc_macro2::TokenStream = "/** Of x.*/fn f(x:u8)->u8{match x{0=>1,_=>x}}".parse()?;
@@ -26,7 +27,7 @@ use std::fmt::{self, Display};
 pub fn pretty(stream: &proc_macro2::TokenStream) -> Result<String, PrettyError> {
     let stream = to_proved(stream, &mut Spans::new()).map_err(PrettyError::NoToken)?;
     let text = to_pretty_string(&stream).map_err(PrettyError::Quote)?;
-    match with_doc_comments(text.as_str()) {
+    match with_any_doc_comments(text.as_str()) {
         Ok(text) => Ok(text),
         Err(RelayoutError::Memory(error)) => Err(PrettyError::Quote(QuoteError::Memory(error))),
         Err(_) => unreachable!("the text reads back"),
