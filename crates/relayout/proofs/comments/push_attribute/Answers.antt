@@ -28,3 +28,38 @@ push_doc-requires-clause-is c =
         spells = string_spells c.args.any (chars front) doc_body;
       },
     )
+
+pub push_doc-requires-in-Some-2-clause-is : goal.push_doc-requires-in-Some-2-clause-is
+push_doc-requires-in-Some-2-clause-is c =
+    let found = rw c.in-Some-2.is at c.in_ok-doc_body.ensures.found in
+    let bytes = string_bytes c.in-Some-2.doc_body in
+    let doc_body = scalars-chars bytes (IsUtf8-string_bytes c.in-Some-2.doc_body) in
+    rw (ap chars c.as_str.ensures.value) (
+      string_text (chars bytes),
+      record {
+        is = c.in-Some.ensures.found
+            ∙ ap (λ x. attribute_front c.in-Some.inner ++ x) (c.in-Some-plain_front.ensures.split ∙ found);
+        stands = string_stands (chars bytes) (10 ∷ chars c.in-Some-2.rest.now) doc_body;
+        spells = string_spells c.args.any (chars bytes) doc_body;
+      },
+    )
+
+pub text_of-requires : goal.text_of-requires
+text_of-requires c =
+    literal_alone (chars c.in-Some-split_literal.literal.now) _ c.in-Some-split_literal.ensures.found.0
+
+pub returns-in_default-3-clause-found : goal.returns-in_default-3-clause-found
+returns-in_default-3-clause-found c = (
+  no_text c.args.any _ (chars c.in-Some.after.now) (chars c.in-Some-split_literal.literal.now)
+      (chars c.in-Some-split_literal.rest.now) c.in-Some.inner c.in-Some.ensures.found
+      c.in-Some-split_literal.ensures.found.0 c.in-Some-split_literal.ensures.found.1
+      (rw c.in_default-3.is at c.in_ok-doc_body-2.ensures),
+  refl,
+)
+
+pub returns-in_default-split_literal-clause-found : goal.returns-in_default-split_literal-clause-found
+returns-in_default-split_literal-clause-found c = (
+  no_literal c.args.any _ (chars c.in-Some.after.now) c.in-Some.inner c.in-Some.ensures.found
+      c.in_default-split_literal.ensures.found,
+  refl,
+)

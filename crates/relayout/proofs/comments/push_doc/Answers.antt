@@ -9,13 +9,13 @@ pub returns-in_default-clause-found : goal.returns-in_default-clause-found
 returns-in_default-clause-found c = (
   no_form c.args.any (chars c.args.text.now) c.requires.is.0 (chars c.args.doc_body.now) (chars c.args.rest.now)
       c.args.inner
-      c.requires.is.1 (scalars-chars c.args.doc_body.now c.utf8.doc_body) c.in_default.ensures,
+      c.requires.is.1 (scalars-chars c.args.doc_body.now c.utf8.doc_body) (rw c.in_default.is at c.in_ok-front.ensures),
   refl,
 )
 
 pub returns-clause-found : goal.returns-clause-found
 returns-clause-found c =
-    let form = c.in-Some.ensures in
+    let form = rw c.in-Some.is at c.in_ok-front.ensures in
     becomes c.args.any (chars c.args.kept.now) (chars c.args.text.now) c.requires.is.0 (chars c.args.doc_body.now)
     (chars c.args.rest.now) c.args.out.now (chars c.before-2.result.now) (chars c.in-Some.front.now)
     (chars c.in-Some.end.now) c.push_text.new.self c.push_text-2.new.self c.push_text-3.new.self

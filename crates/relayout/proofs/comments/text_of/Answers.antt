@@ -9,8 +9,8 @@ use Rattle.pm_token.specs.declared.literals.conversion.ConversionErrorKind.TheVa
 use Rattle.relayout.proofs.AttributeLemmas.{no_value, text_found}
 use Rattle.relayout.proofs.comments.text_of.Goals as goal
 
-pub returns-in-Ok-then-any : goal.returns-in-Ok-then-any
-returns-in-Ok-then-any c =
+pub returns-then-any : goal.returns-then-any
+returns-then-any c =
     let literal = ap (λ x. str_value x.text) c.in_ok-from_str_unchecked.ensures.ok in
     rw c.if-any.true (
       scalars-chars (string_bytes c.in-Ok.text) (IsUtf8-string_bytes c.in-Ok.text),
