@@ -120,12 +120,12 @@ closure item _ = to_spot item spots.Closure
 
 -- the step where the type of a cast must come
 abbrev pub cast : Item → SignClass → Option Shift
-cast item signs.Restriction = to_spot item spots.CastWhole
-cast item signs.Parentheses = to_spot item spots.CastWhole
-cast item signs.Brackets = to_spot item spots.CastWhole
-cast item signs.Braces = to_spot item spots.CastWhole
-cast item signs.Block = to_spot item spots.CastWhole
-cast item signs.Invisible = to_spot item spots.CastWhole
+cast item signs.Restriction = to_spot item spots.ExpressionWhole
+cast item signs.Parentheses = to_spot item spots.ExpressionWhole
+cast item signs.Brackets = to_spot item spots.ExpressionWhole
+cast item signs.Braces = to_spot item spots.ExpressionWhole
+cast item signs.Block = to_spot item spots.ExpressionWhole
+cast item signs.Invisible = to_spot item spots.ExpressionWhole
 cast item (signs.Word _) = to_spot item spots.CastWhole
 cast item signs.SelfValue = to_spot item spots.CastWhole
 cast item signs.SelfType = to_spot item spots.CastWhole
@@ -144,10 +144,11 @@ cast item signs.Exclamation = to_spot item spots.Cast
 cast item signs.As = to_spot item spots.Cast
 cast item signs.Jump = to_spot item spots.Cast
 cast item signs.Await = to_spot item spots.Cast
+cast item signs.Literal = to_spot item spots.Cast
 cast item (signs.Keyword _) = to_spot item spots.Cast
 cast item _ = None
 
--- the step after the type of a cast, or after a part of it
+-- the step after a name in the type of a cast
 abbrev pub cast_whole : Item → SignClass → Option Shift
 cast_whole item signs.PathSeparator = to_spot item spots.Cast
 cast_whole item signs.Less = open_angle item rules.CastAngle

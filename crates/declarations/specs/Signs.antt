@@ -43,7 +43,7 @@ operand_class ident =
     if is_truth ident then Some classes.Truth
     else (if is_written ident (codes "as") then Some classes.As
     else (if is_written ident (codes "await") then Some classes.Await
-    else (if is_written ident (codes "continue") then Some classes.Await
+    else (if is_written ident (codes "continue") then Some classes.Jump
     else (if is_written ident (codes "return") then Some classes.Jump
     else (if is_written ident (codes "break") then Some classes.Jump
     else (if is_written ident (codes "yield") then Some classes.Jump else None))))))

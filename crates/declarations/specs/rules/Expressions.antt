@@ -12,11 +12,11 @@ use Rattle.declarations.specs.declared.class.SignClass.TheVariants as signs
 abbrev pub groups : List SignClass
 groups = signs.Restriction ∷ signs.Parentheses ∷ signs.Brackets ∷ signs.Braces ∷ signs.Block ∷ signs.Invisible ∷ []
 
--- whether the sign is an operand of a cast
-abbrev pub cast_operand : SignClass → Bool
-cast_operand c =
-    one_of groups c || (is_word c || one_of (signs.SelfValue ∷ signs.SelfType ∷ signs.Super ∷ signs.Crate
-    ∷ signs.Underscore ∷ signs.Truth ∷ []) c)
+-- whether the sign is a name in the type of a cast, which angle brackets may follow
+abbrev pub cast_name : SignClass → Bool
+cast_name c =
+    is_word c || one_of (signs.SelfValue ∷ signs.SelfType ∷ signs.Super ∷ signs.Crate ∷ signs.Underscore
+    ∷ signs.Truth ∷ []) c
 
 -- whether the sign is an operand
 abbrev pub one_operand : SignClass → Bool
@@ -100,12 +100,13 @@ closure = alt (
 -- the rest of an expression from where the type of a cast must come
 abbrev pub cast : G
 cast = alt (
-    To cast_operand CastWhole
+    To (one_of groups) ExpressionWhole
+    ∷ To cast_name CastWhole
     ∷ angle CastWhole
     ∷ To (λ c. is_keyword c || one_of (signs.Lifetime ∷ signs.PathSeparator ∷ signs.Arrow ∷ signs.Star ∷ signs.And
-    ∷ signs.Exclamation ∷ signs.As ∷ signs.Jump ∷ signs.Await ∷ []) c) Cast
+    ∷ signs.Exclamation ∷ signs.As ∷ signs.Jump ∷ signs.Await ∷ signs.Literal ∷ []) c) Cast
     ∷ [])
 
--- the rest of an expression after the type of a cast
+-- the rest of an expression after a name in the type of a cast
 abbrev pub cast_whole : G
 cast_whole = perhaps (alt (To (is signs.PathSeparator) Cast ∷ angle CastWhole ∷ operator ∷ []))
