@@ -30,7 +30,7 @@ use proved_tokens::TokenStream;
 /// let code = derive_marked("struct S<T>(T);".parse()?);
 /// assert_eq!(code.to_string(), "impl < T > Marked for S < T > { }");
 /// let told = derive_marked("struct {}".parse()?);
-/// assert_eq!(told.to_string(), r#":: core :: compile_error ! { "not expected here" }"#);
+/// assert_eq!(told.to_string(), r#":: core :: compile_error ! { "expected a name" }"#);
 /// # Ok::<(), Box<dyn std::error::Error>>(())
 /// ```
 pub fn expand<S>(input: S, code: impl FnOnce(&TokenStream, &mut Spans) -> Result<TokenStream, CompileError>) -> S

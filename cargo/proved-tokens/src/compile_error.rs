@@ -125,7 +125,7 @@ impl CompileError {
     /// let parsed: TokenStream = "struct {}".parse()?;
     /// let error = CompileError::from(parse_type_item(parsed.trees()).unwrap_err());
     /// let stream = error.to_compile_error();
-    /// assert_eq!(stream.to_string(), r#":: core :: compile_error ! { "not expected here" }"#);
+    /// assert_eq!(stream.to_string(), r#":: core :: compile_error ! { "expected a name" }"#);
     /// # Ok::<(), Box<dyn std::error::Error>>(())
     /// ```
     pub fn to_compile_error(&self) -> TokenStream {

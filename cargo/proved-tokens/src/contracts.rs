@@ -108,6 +108,9 @@
 //! - <a id="declarations.rules.Pieces.ByRule"></a>**ByRule**: the form whose pieces are those of the rule
 //! - <a id="declarations.Ending.EndsAt"></a>**EndsAt**: the error is one of these, with this span if trees are
 //!   missing at the end
+//! - <a id="declarations.Expected.Expects"></a>**Expects**: the set has exactly the classes that can come after
+//!   the first `at` trees so that the form can be completed. It has the end if these trees are the whole of a
+//!   part
 //! - <a id="declarations.Reading.FaultAt"></a>**FaultAt**: nothing of this form can be read. The error is after
 //!   `at` trees: the longest prefix that other trees could complete
 //! - <a id="declarations.File.FileFaultAt"></a>**FileFaultAt**: the trees are no file. The error is in the
@@ -201,6 +204,8 @@
 //! - <a id="declarations.rules.Parts.attributes"></a>**attributes**: any number of attributes
 //! - <a id="declarations.Attribute.attributes_in"></a>**attributes_in**: the attributes at the start of the
 //!   trees, up to the first trees that are no attribute
+//! - <a id="declarations.Bare.bare_first"></a>**bare_first**: the group without delimiters that the trees begin
+//!   with, and the trees after it
 //! - <a id="declarations.Bare.bare_trees"></a>**bare_trees**: the trees; or if they are one group without
 //!   delimiters, the trees in the innermost of such groups
 //! - <a id="declarations.File.body_of"></a>**body_of**: the braces with the items of an item of this kind, if
@@ -213,14 +218,15 @@
 //!   `=` Alone and that literal
 //! - <a id="declarations.Ending.ending_at"></a>**ending_at**: the error with this span, if it has none
 //! - <a id="declarations.Grammar.ends"></a>**ends**: whether the part that is read may end in this state
+//! - <a id="declarations.rules.Entries.entry"></a>**entry**: an entry: a literal, or a path with what follows
+//!   it
 //! - <a id="declarations.Entry.entry_extent"></a>**entry_extent**: the span of the first tree of an entry that
 //!   has this kind and this path
 //! - <a id="declarations.rules.Expressions.expression"></a>**expression**: an expression, from where an operand
 //!   must come
 //! - <a id="declarations.Fault.extent_at"></a>**extent_at**: the span of the tree with this index, or nothing
 //!   if there are not so many trees
-//! - <a id="declarations.Fault.fault_text"></a>**fault_text**: the message of an error at a tree with this
-//!   span, or at the end of the trees
+//! - <a id="declarations.Fault.fault_text"></a>**fault_text**: the message of an error
 //! - <a id="declarations.rules.Parts.field"></a>**field**: a field: attributes, a visibility, a name, `:` and a
 //!   type
 //! - <a id="declarations.rules.Parts.fields"></a>**fields**: fields, with `,` between two and perhaps after the
@@ -234,6 +240,8 @@
 //!   lifetime, a constant, a type, a name with `=` and a type, or a name with `:` and bounds
 //! - <a id="declarations.rules.Parts.generics"></a>**generics**: generic parameters in angle brackets, or
 //!   nothing
+//! - <a id="declarations.Expected.holds"></a>**holds**: whether the class is in the set
+//! - <a id="declarations.Expected.holds_end"></a>**holds_end**: whether the end is in the set
 //! - <a id="declarations.rules.ImplItems.impl_item"></a>**impl_item**: an `impl`: attributes, a visibility,
 //!   qualifiers, `impl` and the rest
 //! - <a id="declarations.rules.Parts.inner_attributes"></a>**inner_attributes**: any number of inner attributes

@@ -164,6 +164,7 @@ erased! {
     #[cfg(feature = "relayout")]
     relayout
     #[cfg(feature = "declarations")]
+    #[allow(unused_variables)]
     declarations
     #[cfg(feature = "item_headers")]
     item_headers

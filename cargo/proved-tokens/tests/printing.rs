@@ -1,6 +1,6 @@
 //! Rust's `Display` of each type that has one writes the text that Rattle's writes, also into a writer that fails.
 
-use proved_tokens::declarations::Fault;
+use proved_tokens::declarations::split_type;
 use proved_tokens::item_headers::HeaderError;
 use proved_tokens::proc_macro2::TokenTree;
 use proved_tokens::proc_macro2::{
@@ -141,9 +141,9 @@ fn errors_are_printed() {
     print_to_all(&fault, "cannot parse string into token stream");
     print_to_all(&ParseError::MapFull, &ParseError::MapFull.to_string());
     print_to_all(&IdentError::Number, &IdentError::Number.to_string());
-    let fault = Fault { at: 1, span: None };
-    print_to_all(&fault, "the declaration ends too early");
-    print_to_all(&HeaderError::Fault(fault), "the declaration ends too early");
+    let fault = split_type(parsed("&").trees()).expect_err("a type is missing");
+    print_to_all(&fault, "the declaration ends too early, expected a type");
+    print_to_all(&HeaderError::Fault(fault), "the declaration ends too early, expected a type");
     print_to_all(&BufferError::TooLong, "text too long");
     print_to_all(&QuoteError::LoneQuote, "no name and no literal follows a `'`");
     print_to_all(&TemplateError::NoHole(Span::call_site()), "no hole of this name");

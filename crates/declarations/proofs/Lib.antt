@@ -18,6 +18,12 @@ pub mod EndingLemmas
 pub mod ListLemmas
 pub mod CompileErrorLemmas
 pub mod ClassLemmas
+pub mod ExpectedLemmas
+pub mod ExpectsLemmas
+pub mod ExpectedTextLemmas
+pub mod ExploreLemmas
+pub mod SyntaxLemmas
+pub mod RuleExpectsLemmas
 pub mod RuleLemmas
 pub mod StackLemmas
 pub mod AgreeLemmas

@@ -139,7 +139,7 @@ path_sort i =
 abbrev operand_rows : Name → List (Bool × Option SignClass)
 operand_rows i =
     (is_truth i, Some signs.Truth) ∷ (is_written i (codes "as"), Some signs.As) ∷
-    (is_written i (codes "await"), Some signs.Await) ∷ (is_written i (codes "continue"), Some signs.Await) ∷
+    (is_written i (codes "await"), Some signs.Await) ∷ (is_written i (codes "continue"), Some signs.Jump) ∷
     (is_written i (codes "return"), Some signs.Jump) ∷ (is_written i (codes "break"), Some signs.Jump) ∷
     (is_written i (codes "yield"), Some signs.Jump) ∷ []
 

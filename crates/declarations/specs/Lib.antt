@@ -13,6 +13,10 @@ pub mod Signs
 pub mod Reading
 pub mod Reader
 pub mod Whole
+pub mod Expected
+pub mod ExpectedText
+pub mod Syntax
+pub mod Explore
 pub mod Item
 pub mod Ending
 pub mod Field

@@ -1,5 +1,5 @@
 //! The entries of an attribute's list.
-ghost use Rattle.std.specs.Prelude.{◌≡◌, ◌<◌, ◌≤◌, ◌⊎◌, [], IfErr, IfNone, IfOk, IfSome, MatchResult};
+ghost use Rattle.std.specs.Prelude.{◌≡◌, ◌-◌, ◌<◌, ◌≤◌, ◌⊎◌, [], IfErr, IfNone, IfOk, IfSome, MatchResult};
 ghost use Rattle.std.specs.Prelude.{None, Some, false, length, option_copied};
 ghost use Rattle.grammars.specs.First.{heads, may_begin};
 ghost use Rattle.grammars.specs.Grammar.{Sign, perhaps};
@@ -12,6 +12,8 @@ ghost use Rattle.declarations.specs.Entry.{IsFaultAfter, IsFaultWithin, IsHeldEn
 ghost use Rattle.declarations.specs.Entry.{IsNearFault, IsNoEntry, IsOnlyPlainRest, IsOnlyRest, IsPlainEntryAt};
 ghost use Rattle.declarations.specs.Entry.{IsPlainEntryFault, IsPlainFault, ReadsEntry};
 ghost use Rattle.declarations.specs.Entry.{entry_extent, entry_spot, only_name, sole_name, span_or};
+ghost use Rattle.declarations.specs.Expected.{Expects};
+ghost use Rattle.declarations.specs.Explore.{ExpectsWhole};
 ghost use Rattle.declarations.specs.Fault.{extent_at, first_extent};
 ghost use Rattle.declarations.specs.Reader.{Finds, ReadsRule, Sticks, classes_in};
 ghost use Rattle.declarations.specs.rules.Entries.{continues, entry, entry_list, entry_literal, entry_path};
@@ -25,10 +27,12 @@ ghost use Rattle.declarations.specs.declared.class.SignClass.TheVariants as sign
 use crate::attribute::is_named;
 use crate::bare::{bare_trees, has_no_delimiters, inside_of};
 use crate::class::SignClass;
+use crate::explore::fault_by;
 use crate::fault::Fault;
 use crate::item::split_group;
 use crate::reader::{begins, is, part, past};
 use crate::signs::first_sign;
+use crate::syntax::ENTRY;
 use crate::walk::walk_past;
 use crate::walk_state::{Continuation, Item, Spot, State, WalkState};
 use pm_span::Span;
@@ -72,12 +76,15 @@ pub struct Entry<'a> {
 /// path alone, a list or `=` and a value can come after the group. In the group the path of the entry may be in a
 /// group of its own. Groups that hold nothing but such a group are looked through. An error inside of the group has an
 /// `at` of 0, since no tree comes before the group. Its span is that of the first wrong tree inside, or that of the
-/// group if trees are missing at its end.
+/// group if trees are missing at its end. If the trees begin with such a group, the error does not say what was
+/// expected.
 pub fn parse_entry(trees: &[TokenTree]) -> Result<(Entry<'_>, &[TokenTree]), Fault>
     ensures ok { IfOk result (λ found. IsEntryAt trees.now found.0 found.1.now) }
     ensures only { IfOk result (λ found. IsOnlyPlainRest trees.now found.1.now) }
     ensures fewer { IfOk result (λ found. length found.1.now < length trees.now) }
     ensures fault { IfErr result (λ fault. IsNoEntry trees.now fault) }
+    ensures expected { IfErr result (λ fault.
+        bare_first trees.now ≡ None → Expects (ByRule entry) trees.now fault.at fault.expected) }
 {
     match split_bare(trees) {
         Some((group, after)) => held_entry(group, after),
@@ -91,10 +98,11 @@ fn plain_entry(trees: &[TokenTree]) -> Result<(Entry<'_>, &[TokenTree]), Fault>
     ensures only { IfOk result (λ found. IsOnlyRest entry trees.now found.1.now) }
     ensures fewer { IfOk result (λ found. length found.1.now < length trees.now) }
     ensures fault { IfErr result (λ fault. IsPlainFault trees.now fault) }
+    ensures expected { IfErr result (λ fault. Expects (ByRule entry) trees.now fault.at fault.expected) }
 {
     match entry_of(trees) {
         Ok((entry, rest)) => Ok((entry, rest)),
-        Err(left) => Err(Fault::ahead_of(trees.len() - left.len(), left)),
+        Err(left) => Err(fault_by(&ENTRY, trees, left)),
     }
 }
 
@@ -155,10 +163,7 @@ fn fault_within(group: &Group, inner: Fault) -> Fault
     ensures at { result.at ≡ 0 }
     ensures span { result.span ≡ Some (span_or inner.span group.now.span) }
 {
-    Fault {
-        at: 0,
-        span: Some(span_or(inner.span, group.span())),
-    }
+    Fault::at_span(0, Some(span_or(inner.span, group.span())))
 }
 
 /// The span, or else the other one.
@@ -260,16 +265,32 @@ fn first_span(trees: &[TokenTree]) -> Option<Span>
 pub(crate) fn whole_entry(trees: &[TokenTree]) -> Result<Entry<'_>, Fault>
     ensures ok { IfOk result (λ entry. IsEntryAt trees.now entry []) }
     ensures err { IfErr result (λ fault. IsEntryFault trees.now fault) }
+    ensures expected { IfErr result (λ fault.
+        bare_first trees.now ≡ None → Expects (ByRule entry) trees.now fault.at fault.expected) }
 {
     match parse_entry(trees) {
         Ok((entry, rest)) => {
             if rest.is_empty() {
                 Ok(entry)
             } else {
-                Err(Fault::ahead_of(trees.len() - rest.len(), rest))
+                Err(fault_after_entry(trees, rest))
             }
         }
         Err(fault) => Err(fault),
+    }
+}
+
+/// The error of trees that are left after an entry. It does not say what was expected after a group without delimiters.
+#[cold]
+fn fault_after_entry(trees: &[TokenTree], rest: &[TokenTree]) -> Fault
+    requires { length rest.now ≤ length trees.now }
+    ensures at { result.at ≡ length trees.now - length rest.now }
+    ensures span { result.span ≡ first_extent rest.now }
+    ensures expected { bare_first trees.now ≡ None → ExpectsWhole entry trees.now result.expected }
+{
+    match split_bare(trees) {
+        Some(_) => Fault::ahead_of(trees.len() - rest.len(), rest),
+        None => fault_by(&ENTRY, trees, rest),
     }
 }
 
@@ -307,7 +328,7 @@ fn whole_plain_entry(trees: &[TokenTree]) -> Result<Entry<'_>, Fault>
     }
 }
 
-fn is_segment(class: SignClass) -> bool
+pub(crate) fn is_segment(class: SignClass) -> bool
     ensures { result ≡ is_entry_segment class }
 {
     match class {
@@ -385,7 +406,7 @@ fn entry_path(trees: &[TokenTree]) -> Result<&[TokenTree], &[TokenTree]>
     segments(separator(trees)?)
 }
 
-fn is_literal(class: SignClass) -> bool
+pub(crate) fn is_literal(class: SignClass) -> bool
     ensures { result ≡ is_literal class }
 {
     match class {
@@ -438,7 +459,7 @@ fn past_expression(trees: &[TokenTree]) -> Result<&[TokenTree], &[TokenTree]>
 }
 
 /// Whether the sign can go on after an operand but can begin no value: `=`, `>` or `->`.
-fn continues(class: SignClass) -> bool
+pub(crate) fn continues(class: SignClass) -> bool
     ensures { result ≡ continues class }
 {
     match class {

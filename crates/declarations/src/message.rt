@@ -13,18 +13,26 @@ use pm_token::{Delimiter, Spacing};
 use std::alloc::{AllocError, Global};
 
 impl Fault {
-    /// Returns code that makes the compiler report this error: `::core::compile_error! { "not expected here" }`.
+    /// Returns code that makes the compiler report this error: `::core::compile_error! { "expected a name" }`.
     ///
-    /// The text is that of `Display`. Each tree of the code has the span of the error, or the call site if trees are
-    /// missing. Fails if it runs out of memory.
+    /// The text is that of `Display`, which is "expected a name" for `struct {}`. Each tree of the code has the span of
+    /// the error, or the call site if trees are missing. Fails if it runs out of memory.
     pub fn to_compile_error(&self, alloc: Global) -> Result<TokenStream, AllocError>
         ensures { IfOk result (λ stream.
-            stream ≡ forest (compile_error (fault_text self.now.span) (span_or_call_site self.now.span))) }
+            stream ≡ forest (compile_error (chars (fault_text self.now)) (span_or_call_site self.now.span))) }
     {
-        match self.span {
-            Some(span) => compile_error(alloc, "not expected here", span),
-            None => compile_error(alloc, "the declaration ends too early", Span::call_site()),
-        }
+        let text = self.to_string(alloc)?;
+        compile_error(alloc, &text, or_call_site(self.span))
+    }
+}
+
+/// The span, or the call site if there is none.
+fn or_call_site(span: Option<Span>) -> Span
+    ensures { result ≡ span_or_call_site span }
+{
+    match span {
+        Some(span) => span,
+        None => Span::call_site(),
     }
 }
 

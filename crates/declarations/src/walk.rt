@@ -1,6 +1,7 @@
 //! The walk over the signs of trees by the tables of the grammar.
 ghost use Rattle.std.specs.Prelude.{◌≡◌, ◌≢◌, ◌+◌, ◌≤◌, ◌<◌, ◌^◌, IfErr, IfNone, IfOk, IfSome, MatchResult, OnOk, cond};
 ghost use Rattle.std.specs.Prelude.{false, length, true};
+ghost use Rattle.declarations.specs.Expected.{Expects};
 ghost use Rattle.declarations.specs.Fault.{extent_at};
 ghost use Rattle.declarations.specs.Forms.{IsFrom};
 ghost use Rattle.declarations.specs.Grammar.{names, step};
@@ -11,6 +12,7 @@ ghost use Rattle.declarations.specs.Whole.{IsWhole, ReadsAll};
 ghost use Rattle.declarations.specs.declared.class.SignClass.{SignClass as ClassValue};
 ghost use Rattle.declarations.specs.declared.walk_state.WalkState.{WalkState as PlaceValue};
 
+use crate::expected::steps_from;
 use crate::fault::Fault;
 use crate::signs::first_sign;
 use crate::walk_state::{Item, WalkState};
@@ -36,6 +38,7 @@ pub(crate) fn split_from<'a>(trees: &'a [TokenTree], start: WalkState) -> Result
         × Walked start trees.now found.rest.now last (first_name found.named.now) × (found.last ≡ last.item)) }
     ensures fault { IfErr result (λ fault. FaultAt (IsFrom start) trees.now fault.at) }
     ensures span { IfErr result (λ fault. fault.span ≡ extent_at trees.now fault.at) }
+    ensures expected { IfErr result (λ fault. Expects (IsFrom start) trees.now fault.at fault.expected) }
 {
     let stop = walk_from(trees, start);
     let at = trees.len() - stop.left.len();
@@ -48,7 +51,8 @@ pub(crate) fn split_from<'a>(trees: &'a [TokenTree], start: WalkState) -> Result
             named: stop.named,
         })
     } else {
-        Err(Fault::ahead_of(at, stop.left))
+        let fault = Fault::ahead_of(at, stop.left);
+        Err(fault.expecting(steps_from(stop.place)))
     }
 }
 
@@ -58,12 +62,14 @@ pub(crate) fn read_whole(trees: &[TokenTree], start: WalkState) -> Result<(), Fa
     ensures ok { OnOk result (ReadsAll (IsFrom start) trees.now) }
     ensures fault { IfErr result (λ fault. FaultAt (IsWhole (IsFrom start)) trees.now fault.at) }
     ensures span { IfErr result (λ fault. fault.span ≡ extent_at trees.now fault.at) }
+    ensures expected { IfErr result (λ fault. Expects (IsFrom start) trees.now fault.at fault.expected) }
 {
     let stop = walk_from(trees, start);
     if stop.left.is_empty() && stop.place.may_end() {
         Ok(())
     } else {
-        Err(Fault::ahead_of(trees.len() - stop.left.len(), stop.left))
+        let fault = Fault::ahead_of(trees.len() - stop.left.len(), stop.left);
+        Err(fault.expecting(steps_from(stop.place)))
     }
 }
 
@@ -86,20 +92,21 @@ pub(crate) fn walk_past<'a>(
 
 /// The state and the trees at which a walk stops.
 #[derive(Clone, Copy)]
-struct Stop<'a> {
-    place: WalkState,
-    // The trees that are left.
-    left: &'a [TokenTree],
-    // The trees from the item's name on, or no trees if it has no name.
-    named: &'a [TokenTree],
+pub(crate) struct Stop<'a> {
+    pub place: WalkState,
+    /// The trees that are left.
+    pub left: &'a [TokenTree],
+    /// The trees from the item's name on, or no trees if it has no name.
+    pub named: &'a [TokenTree],
 }
 
 /// Walks from a state on, as far as the signs are steps.
-fn walk_from<'a>(trees: &'a [TokenTree], start: WalkState) -> Stop<'a>
+pub(crate) fn walk_from<'a>(trees: &'a [TokenTree], start: WalkState) -> Stop<'a>
     requires { start.depth ≡ 0 }
     ensures walked { Walked start trees.now result.left.now result.place (first_name result.named.now) }
     ensures stops { Stops step result.place (classes_of (signs result.left.now)) }
     ensures fewer { length result.left.now ≤ length trees.now }
+    ensures depth { result.place.depth ≤ length trees.now }
 {
     let mut place = start;
     let mut left = trees;

@@ -47,12 +47,13 @@ fn check(
 
 #[test]
 fn a_fault_is_reported_at_its_tree(rt: HostRuntime) -> Result<(), Fail> {
-    let unexpected = ":: core :: compile_error ! { \"not expected here\" }";
-    check(&rt, "struct S a_b;", unexpected, "bytes(10..13)")?;
+    let unexpected = ":: core :: compile_error ! { \"expected `{`, `where` or `<`\" }";
+    check(&rt, "enum E a_b;", unexpected, "bytes(8..11)")?;
+    let unexpected = ":: core :: compile_error ! { \"expected a struct, an enum or a union\" }";
     check(&rt, "fn f() {}", unexpected, "bytes(1..3)")?;
-    let early = ":: core :: compile_error ! { \"the declaration ends too early\" }";
-    check(&rt, "struct S", early, "bytes(0..0)")?;
-    check(&rt, "", early, "bytes(0..0)")
+    let early =
+        ":: core :: compile_error ! { \"the declaration ends too early, expected a name\" }";
+    check(&rt, "struct", early, "bytes(0..0)")
 }
 
 #[test]

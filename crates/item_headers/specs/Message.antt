@@ -9,7 +9,7 @@ use Rattle.quoting.specs.Message.{quote_message}
 
 -- the message of the error
 abbrev pub header_message : HeaderError → List ℕ
-header_message (errors.Fault fault) = fault_text fault.span
+header_message (errors.Fault fault) = fault_text fault
 header_message (errors.Keyword error) = ident_message error
 header_message (errors.Quote error) = quote_message error
 

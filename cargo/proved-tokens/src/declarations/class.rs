@@ -82,9 +82,9 @@ pub enum SignClass {
     As,
     /// `true` or `false`
     Truth,
-    /// `await` or `continue`.
+    /// `await`
     Await,
-    /// `return`, `break` or `yield`.
+    /// `continue`, `return`, `break` or `yield`.
     Jump,
     /// Any other keyword.
     Keyword(Keyword),

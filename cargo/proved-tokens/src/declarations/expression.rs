@@ -138,8 +138,8 @@ pub(crate) fn cast(item: Item, class: SignClass) -> Option<Shift>
         | SignClass::Brackets
         | SignClass::Braces
         | SignClass::Block
-        | SignClass::Invisible
-        | SignClass::Word(_)
+        | SignClass::Invisible => to_spot(item, Spot::ExpressionWhole),
+        SignClass::Word(_)
         | SignClass::SelfValue
         | SignClass::SelfType
         | SignClass::Super
@@ -156,12 +156,13 @@ pub(crate) fn cast(item: Item, class: SignClass) -> Option<Shift>
         | SignClass::As
         | SignClass::Jump
         | SignClass::Await
+        | SignClass::Literal
         | SignClass::Keyword(_) => to_spot(item, Spot::Cast),
         _ => None,
     }
 }
 
-/// The step after the type of a cast, or after a part of it.
+/// The step after a name in the type of a cast.
 pub(crate) fn cast_whole(item: Item, class: SignClass) -> Option<Shift>
 {
     match class {

@@ -1,15 +1,20 @@
 // Made from crates/declarations/src/fault.rt by dev/erase: change that file, not this one.
 //! Errors in trees that the grammar does not accept.
 
+use crate::declarations::expected::Expected;
 use crate::pm_span::Span;
 use crate::pm_stream::{Group, TokenTree};
 use crate::shim::fmt;
+use crate::shim::fmt::Display;
 
 /// An error: where trees do not fit the grammar.
 ///
 /// The grammar reads trees by signs. A sign is one tree, or a few trees that belong together, such as those of `->`,
-/// `::` and `'a`. A group is one tree, and its span is that of the whole group with its delimiters. The text of the
-/// error is "not expected here" if there is a span, and "the declaration ends too early" if there is none.
+/// `::` and `'a`. A group is one tree, and its span is that of the whole group with its delimiters.
+///
+/// The text of the error says which signs were expected, with four names at most: "expected `:`" for the field `x u8`,
+/// and "the declaration ends too early, expected a type" for `x:`, where the span is `None`. If the call does not say
+/// what it expected, the text is "not expected here" or "the declaration ends too early".
 ///
 /// In `struct S { } x` the error is after 3 trees, at `x`. In `struct S` it is after 2 trees, and has no span.
 ///
@@ -23,17 +28,49 @@ pub struct Fault {
     /// The span of the first tree of that sign, or `None` if more trees are missing, to which [`within`](Fault::within)
     /// adds the span of the closing delimiter.
     pub span: Option<Span>,
+    /// The signs that can come next.
+    expected: Expected,
 }
 
 impl Fault {
-    /// The error after `at` trees, where `left` are the trees that remain.
+    /// The error after `at` trees with this span, which does not say what was expected.
+    pub(crate) fn at_span(at: usize, span: Option<Span>) -> Fault
+    {
+        Fault {
+            at,
+            span,
+            expected: Expected::nothing(),
+        }
+    }
+
+    /// The error after `at` trees, where `left` are the trees that remain. It does not say what was expected.
     pub(crate) fn ahead_of(at: usize, left: &[TokenTree]) -> Fault
     {
         let span = match left.split_first() {
             Some((tree, _)) => Some(tree.span()),
             None => None,
         };
-        Fault { at, span }
+        Fault::at_span(at, span)
+    }
+
+    /// The error with these signs as those that can come next.
+    pub(crate) fn expecting(self, expected: Expected) -> Fault
+    {
+        Fault {
+            at: self.at,
+            span: self.span,
+            expected,
+        }
+    }
+
+    /// The error with this many trees before it.
+    pub(crate) fn after(self, at: usize) -> Fault
+    {
+        Fault {
+            at,
+            span: self.span,
+            expected: self.expected,
+        }
     }
 
     /// Returns the field [`span`](Fault::span): the span of the first tree that does not fit.
@@ -69,12 +106,33 @@ impl Fault {
         Fault {
             at: self.at,
             span: or_span(self.span, end),
+            expected: self.expected,
         }
+    }
+
+    /// Returns the signs that could come after the first `at` trees, in place of what is there.
+    ///
+    /// A sign is in the set exactly if the first `at` trees, this sign and perhaps more can be a whole part of the kind
+    /// that was read. The end is in the set if the first `at` trees are a whole part themselves. For `struct 5` the set
+    /// of `parse_type_item` has the words, which can be names, and for `struct S; 5` it has only the end.
+    ///
+    /// A list, such as `FieldList`, and `parse_file` read one part after the other, and their error has the set of the
+    /// part that they could not read. The set is empty if the call does not say what it expected. This is so for
+    /// `parse_type_path`, `parse_param`, `parse_predicate`, `within_generics` and `after_where`. It is also so for a
+    /// list in which `,` is missing, and for entries in groups without delimiters.
+    ///
+    /// # Contract
+    ///
+    /// - `ensures`: <code>result ≡ self.now.expected</code>
+    pub fn expected(&self) -> Expected
+    {
+        self.expected
     }
 }
 
 impl PartialEq for Fault {
-    /// Whether both errors have the same number of trees before them, and the same span or none.
+    /// Whether both errors have the same number of trees before them, and the same span or none. The expected signs do
+    /// not matter.
     fn eq(&self, other: &Fault) -> bool {
         self.at == other.at && are_same(self.span, other.span)
     }
@@ -105,10 +163,30 @@ pub(crate) fn are_same(span: Option<Span>, other: Option<Span>) -> bool
 impl fmt::Display for Fault {
     fn fmt<W: fmt::Write>(&self, f: &mut fmt::Formatter<W>) -> fmt::Result {
         match self.span {
-            Some(_) => f.write_str("not expected here"),
-            None => f.write_str("the declaration ends too early"),
+            Some(_) => write_unexpected(self.expected, f),
+            None => write_early(self.expected, f),
         }
     }
 }
 
 crate::shim::display!(Fault);
+
+/// Writes the text of an error at a tree.
+fn write_unexpected<W: fmt::Write>(expected: Expected, f: &mut fmt::Formatter<W>) -> fmt::Result
+{
+    if expected.bits() == 0 {
+        return f.write_str("not expected here");
+    }
+    f.write_str("expected ")?;
+    expected.fmt(f)
+}
+
+/// Writes the text of an error at the end of the trees.
+fn write_early<W: fmt::Write>(expected: Expected, f: &mut fmt::Formatter<W>) -> fmt::Result
+{
+    if expected.bits() == 0 {
+        return f.write_str("the declaration ends too early");
+    }
+    f.write_str("the declaration ends too early, expected ")?;
+    expected.fmt(f)
+}

@@ -1,6 +1,8 @@
 // Made from crates/declarations/src/message.rt by dev/erase: change that file, not this one.
 //! Code that makes the compiler report an error.
 
+use crate::shim::prelude::format;
+
 use crate::declarations::fault::Fault;
 use crate::pm_span::Span;
 use crate::pm_stream::{Group, TokenStream, TokenTree};
@@ -9,27 +11,35 @@ use crate::pm_token::{Delimiter, Spacing};
 use crate::shim::alloc::AllocError;
 
 impl Fault {
-    /// Returns code that makes the compiler report this error: `::core::compile_error! { "not expected here" }`.
+    /// Returns code that makes the compiler report this error: `::core::compile_error! { "expected a name" }`.
     ///
-    /// The text is that of `Display`. Each tree of the code has the span of the error, or the call site if trees are
-    /// missing. Fails if it runs out of memory.
+    /// The text is that of `Display`, which is "expected a name" for `struct {}`. Each tree of the code has the span of
+    /// the error, or the call site if trees are missing. Fails if it runs out of memory.
     ///
     /// # Contract
     ///
-    /// - `ensures`: <code>[IfOk] result (λ stream. stream ≡ [forest] ([compile_error] ([fault_text] self.now.span)
-    ///   ([span_or_call_site] self.now.span)))</code>
+    /// - `ensures`: <code>[IfOk] result (λ stream. stream ≡ [forest] ([compile_error] ([chars] ([fault_text]
+    ///   self.now)) ([span_or_call_site] self.now.span)))</code>
     ///
     /// [IfOk]: crate::contracts#std.IfOk
     /// [forest]: crate::contracts#pm_stream.Trees.forest
     /// [compile_error]: crate::contracts#declarations.CompileError.compile_error
+    /// [chars]: crate::contracts#std.chars
     /// [fault_text]: crate::contracts#declarations.Fault.fault_text
     /// [span_or_call_site]: crate::contracts#declarations.CompileError.span_or_call_site
     pub fn to_compile_error(&self) -> Result<TokenStream, AllocError>
     {
-        match self.span {
-            Some(span) => compile_error("not expected here", span),
-            None => compile_error("the declaration ends too early", Span::call_site()),
-        }
+        let text = format!("{self}")?;
+        compile_error(&text, or_call_site(self.span))
+    }
+}
+
+/// The span, or the call site if there is none.
+fn or_call_site(span: Option<Span>) -> Span
+{
+    match span {
+        Some(span) => span,
+        None => Span::call_site(),
     }
 }
 

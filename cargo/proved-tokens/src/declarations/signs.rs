@@ -302,10 +302,11 @@ fn operand_class(ident: &Ident, first: u8) -> Option<SignClass>
     if is_written(ident, first, "as") {
         return Some(SignClass::As);
     }
-    if is_written(ident, first, "await") || is_written(ident, first, "continue") {
+    if is_written(ident, first, "await") {
         return Some(SignClass::Await);
     }
-    if is_written(ident, first, "return")
+    if is_written(ident, first, "continue")
+        || is_written(ident, first, "return")
         || is_written(ident, first, "break")
         || is_written(ident, first, "yield")
     {

@@ -1,6 +1,7 @@
 // Made from crates/declarations/src/walk.rt by dev/erase: change that file, not this one.
 //! The walk over the signs of trees by the tables of the grammar.
 
+use crate::declarations::expected::steps_from;
 use crate::declarations::fault::Fault;
 use crate::declarations::signs::first_sign;
 use crate::declarations::walk_state::{Item, WalkState};
@@ -31,7 +32,8 @@ pub(crate) fn split_from<'a>(trees: &'a [TokenTree], start: WalkState) -> Result
             named: stop.named,
         })
     } else {
-        Err(Fault::ahead_of(at, stop.left))
+        let fault = Fault::ahead_of(at, stop.left);
+        Err(fault.expecting(steps_from(stop.place)))
     }
 }
 
@@ -42,7 +44,8 @@ pub(crate) fn read_whole(trees: &[TokenTree], start: WalkState) -> Result<(), Fa
     if stop.left.is_empty() && stop.place.may_end() {
         Ok(())
     } else {
-        Err(Fault::ahead_of(trees.len() - stop.left.len(), stop.left))
+        let fault = Fault::ahead_of(trees.len() - stop.left.len(), stop.left);
+        Err(fault.expecting(steps_from(stop.place)))
     }
 }
 
@@ -62,16 +65,16 @@ pub(crate) fn walk_past<'a>(
 
 /// The state and the trees at which a walk stops.
 #[derive(Clone, Copy)]
-struct Stop<'a> {
-    place: WalkState,
-    // The trees that are left.
-    left: &'a [TokenTree],
-    // The trees from the item's name on, or no trees if it has no name.
-    named: &'a [TokenTree],
+pub(crate) struct Stop<'a> {
+    pub place: WalkState,
+    /// The trees that are left.
+    pub left: &'a [TokenTree],
+    /// The trees from the item's name on, or no trees if it has no name.
+    pub named: &'a [TokenTree],
 }
 
 /// Walks from a state on, as far as the signs are steps.
-fn walk_from<'a>(trees: &'a [TokenTree], start: WalkState) -> Stop<'a>
+pub(crate) fn walk_from<'a>(trees: &'a [TokenTree], start: WalkState) -> Stop<'a>
 {
     let mut place = start;
     let mut left = trees;
