@@ -10,7 +10,7 @@ use proved_tokens::literal_escaper::{unescape_byte_str, unescape_str};
 use proved_tokens::pretty_printer::to_pretty_string;
 use proved_tokens::proc_macro2::{place_trees, reprint, Ident, Literal, SourceMap, Span, TokenStream, TokenTree};
 use proved_tokens::quoting::{Hole, Quote};
-use proved_tokens::relayout::{relayout, with_doc_comments, White};
+use proved_tokens::relayout::{relayout, with_any_doc_comments, with_doc_comments, White};
 use proved_tokens::token_buffer::TokenBuffer;
 use std::hint::black_box;
 use std::sync::atomic::{AtomicUsize, Ordering};
@@ -166,6 +166,7 @@ pub const CALLS: &[Call] = &[
         count(|| relayout(text, &choices));
     }),
     ("with_doc_comments", |text| count(|| with_doc_comments(text))),
+    ("with_any_doc_comments", |text| count(|| with_any_doc_comments(text))),
     ("to_pretty_string", |text| on_stream(text, |stream| keep(to_pretty_string(stream)))),
     ("text_with", |text| on_stream(text, |stream| keep(text_with(stream, &mut Turns(0))))),
     ("walk", |text| on_stream(text, |stream| {

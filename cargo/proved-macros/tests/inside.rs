@@ -1,6 +1,6 @@
 //! Streams go over and come back inside macros, where the tokens are the compiler's.
 #![allow(clippy::all)] // Forms as callers may write them.
-use inside::{lines_and_columns, literals_as_read, more, there_and_back};
+use inside::{docs_as_read, lines_and_columns, literals_as_read, more, there_and_back};
 
 pub const ONE: u8 = 1;
 
@@ -89,4 +89,10 @@ fn new_literals_are_those_that_the_compiler_reads() {
         b" r"" r"a" r#"a"b"# b"" b"a b" b"it's" b"\"" b"\xFF" b"\0" br"a" br#"""# c"a" c"\xFF" cr"a"
     };
     assert_eq!((integers, characters, strings), (41, 17, 25));
+}
+
+#[test]
+fn the_compiler_reads_doc_comments_as_their_attributes() {
+    // Comments of one line hold 3,125 texts after `///` and 3,906 after `//!`, and blocks 3,002 and 4,088 others.
+    assert_eq!(docs_as_read!(), 14_121);
 }

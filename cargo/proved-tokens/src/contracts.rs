@@ -921,12 +921,13 @@
 //! # Words of `relayout`
 //!
 //! - <a id="relayout.Commented.CommentsStay"></a>**CommentsStay**: if allowed parts cover a source, their
-//!   pieces with comments instead of the attributes cover the new text, which gives the same tokens up to spans
+//!   pieces with comments instead of the attributes cover the new text, which gives the same tokens
 //! - <a id="relayout.Relaid.HasNoCover"></a>**HasNoCover**: no pieces cover the source
 //! - <a id="relayout.Relaid.IfNoPiece"></a>**IfNoPiece**: if the error is `NoPiece`, `holds` is true
 //! - <a id="relayout.Comments.IsCommented"></a>**IsCommented**: the text is the source with a comment instead
-//!   of each attribute that begins its line and that a comment can replace, and gives the same tokens up to
-//!   spans
+//!   of each attribute that begins its line and that a comment can replace, and gives the same tokens. `any`
+//!   says whether literals may be spelled in any way and comments be blocks; the tokens are then the same up to
+//!   the spelling of doc literals
 //! - <a id="relayout.Relaid.IsRelaid"></a>**IsRelaid**: the text is the source with these choices; the same
 //!   pieces cover it except for white characters, and it gives the same tokens up to spans
 //! - <a id="relayout.Laws.PiecesStay"></a>**PiecesStay**: if pieces cover a source, they also cover the text

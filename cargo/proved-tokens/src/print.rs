@@ -3,6 +3,8 @@
 //! [`to_pretty_string`] prints a stream on lines. [`text_with`] prints one with white space that a [`Chooser`] chooses,
 //! and puts a space where the tokens need one. [`relayout`] changes the white space of a text, whose comments stay, and
 //! [`with_doc_comments`] writes doc attributes as doc comments. What they give is read as the same tokens.
+//! [`with_any_doc_comments`] also does so for docs of several lines and for literals such as `r" text"`, and keeps all
+//! tokens except for the spelling of these literals.
 //!
 //! ```
 //! # #[cfg(feature = "print")] {
@@ -34,4 +36,4 @@ pub use crate::layout::{text_with, write_with, Chooser, Gap, GapContext};
 pub use crate::pretty_printer::to_pretty_string;
 #[cfg(feature = "relayout")]
 #[doc(inline)]
-pub use crate::relayout::{relayout, with_doc_comments, White};
+pub use crate::relayout::{relayout, with_any_doc_comments, with_doc_comments, White};

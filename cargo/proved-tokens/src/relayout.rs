@@ -9,12 +9,13 @@
 
 mod comments;
 mod errors;
+mod forms;
 pub mod laws;
 mod literals;
 mod relaying;
 mod white;
 
-pub use comments::with_doc_comments;
+pub use comments::{with_any_doc_comments, with_doc_comments};
 pub use errors::RelayoutError;
 pub use relaying::relayout;
 pub use white::White;

@@ -1,5 +1,5 @@
 // Texts whose doc attributes become doc comments.
-use relayout::{RelayoutError, with_doc_comments};
+use relayout::{RelayoutError, with_any_doc_comments, with_doc_comments};
 use std::process::Abort;
 use std::test::Fail;
 
@@ -34,9 +34,45 @@ const KEPT: &[&str] = &[
     "\"\n#[doc = a]\n\" (]",
 ];
 
+/// Texts with attributes that only `with_any_doc_comments` changes, each with the text with comments: literals in
+/// another spelling, and texts of several lines.
+const ANY: &[(&str, &str)] = &[
+    ("#[doc = r\" a\"]\n", "/// a\n"),
+    ("# ![doc = r##\" \"a\"# \"##]\n", "//! \"a\"# \n"),
+    ("#[doc = \"\\u{e9}\\x41\"]\n", "///\u{e9}A\n"),
+    (" #[doc = \" a\\n b\"]\nx", " /** a\n b*/\nx"),
+    ("# ![doc = r\"/a\n\"]\n", "/*!/a\n*/\n"),
+    ("#[doc = \" /* a\\n */\"]\n", "/** /* a\n */*/\n"),
+];
+
+/// Attributes that also `with_any_doc_comments` leaves: no comment is read as their text, or it is no text.
+const KEPT_OF_ANY: &[&str] = &[
+    "#[doc=r\" a\"]\n",
+    "x #[doc = r\" a\"]\n",
+    "#[doc = r\" a\"]",
+    "#[doc = r\"/a\"]\n",
+    "#[doc = r\"/\n\"]\n",
+    "#[doc = r\"*\n\"]\n",
+    "#[doc = \"a */\\n\"]\n",
+    "#[doc = \"a /*\\n\"]\n",
+    "# ![doc = \"\\n/\"]\n",
+    "#[doc = \"a\\r\\n\"]\n",
+    "#[doc = b\"a\"]\n",
+    "#[doc = \"a\r\nb\"]\n",
+];
+
 /// Asserts what the text is with comments.
 fn check(rt: &(impl Abort + AllocGlobal), text: &str, want: &str) -> Result<(), Fail> {
     match with_doc_comments(rt.alloc(), text) {
+        Ok(out) => assert_eq!(rt; out.as_str(), want, "of {text:?}"),
+        Err(error) => assert!(rt; false, "{error:?} of {text:?}"),
+    }
+    Ok(())
+}
+
+/// Asserts what the text is with comments for attributes of any spelling.
+fn check_any(rt: &(impl Abort + AllocGlobal), text: &str, want: &str) -> Result<(), Fail> {
+    match with_any_doc_comments(rt.alloc(), text) {
         Ok(out) => assert_eq!(rt; out.as_str(), want, "of {text:?}"),
         Err(error) => assert!(rt; false, "{error:?} of {text:?}"),
     }
@@ -60,8 +96,25 @@ fn other_text_stays(rt: HostRuntime) -> Result<(), Fail> {
 }
 
 #[test]
+fn attributes_of_any_spelling_become_comments(rt: HostRuntime) -> Result<(), Fail> {
+    for &(text, want) in ANY {
+        check(&rt, text, text)?;
+        check_any(&rt, text, want)?;
+    }
+    for &(text, want) in COMMENTS {
+        check_any(&rt, text, want)?;
+    }
+    for text in KEPT_OF_ANY {
+        check_any(&rt, text, text)?;
+    }
+    Ok(())
+}
+
+#[test]
 fn a_text_that_no_pieces_cover_is_reported(rt: HostRuntime) -> Result<(), Fail> {
     let out = with_doc_comments(rt.alloc(), "#[doc = \" a\"]\n\"");
+    assert!(rt; matches!(&out, Err(RelayoutError::NoPiece)));
+    let out = with_any_doc_comments(rt.alloc(), "#[doc = r\" a\"]\n\"");
     assert!(rt; matches!(&out, Err(RelayoutError::NoPiece)));
     Ok(())
 }

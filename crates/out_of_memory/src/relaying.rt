@@ -2,7 +2,7 @@
 
 use crate::fails::Fail;
 use crate::watched::{begin, show};
-use relayout::{White, relayout, with_doc_comments};
+use relayout::{White, relayout, with_any_doc_comments, with_doc_comments};
 use std::alloc::Global;
 use std::io::Write;
 
@@ -18,6 +18,7 @@ pub fn run<W: Write>(alloc: Global, out: &mut W, call: &str, text: &str) -> Resu
         match call {
             "relayout" => show(out, relayout(alloc, text, &[wide]))?,
             "with_doc_comments" => show(out, with_doc_comments(alloc, text))?,
+            "with_any_doc_comments" => show(out, with_any_doc_comments(alloc, text))?,
             _ => return Err(Fail::NoCase),
         }
     }

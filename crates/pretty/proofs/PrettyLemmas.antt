@@ -1,16 +1,18 @@
 -- The pretty text of a stream.
-use Rattle.std.proofs.Common.{◌≡◌, ◌∙◌, ◌&&◌, ℕ, Bool, true, List, Option, Some, None, refl, subst}
+use Rattle.std.proofs.Common.{◌≡◌, ◌&&◌, ℕ, Bool, true, List, Option, Some, None, refl, subst, sym}
 use Rattle.std.specs.Prelude.{nat_lt}
 use Rattle.std.specs.Io.KnownBytes.{Keeps}
 use Rattle.lexical.specs.Cover.{IsCover}
 use Rattle.lexical.specs.Piece.{Piece}
 use Rattle.messages.specs.Parsed.{first}
-use Rattle.proc_macro2.specs.Forest.{Forest}
+use Rattle.proc_macro2.specs.Forest.{Forest, flattening}
+use Rattle.proc_macro2.specs.Same.{without_spans}
 use Rattle.proc_macro2.specs.Parsing.{ParsesTo}
 use Rattle.layout.specs.Layout.{IsLayout}
 use Rattle.layout.specs.Writing.{ReadsBack}
 use Rattle.pretty_printer.specs.Joined.{joined}
 use Rattle.relayout.specs.Comments.{IsCommented}
+use Rattle.relayout.specs.Docs.{AreAlike}
 use Rattle.relayout.specs.Relaid.{HasNoCover}
 use Rattle.pretty.specs.Answer.{IsPretty, Writes, WritesUnless}
 use Rattle.pretty.specs.Comments.{comments}
@@ -18,7 +20,7 @@ use Rattle.pretty.specs.Script.{code_of, script_line}
 
 -- a layout that reads back still does if comments replace attributes
 pub pretty_is : (wants : List Bool) (stream : Forest) (laid text : List ℕ) → IsLayout (joined wants stream) laid
-    → ReadsBack (joined wants stream) laid → IsCommented laid text → IsPretty stream text
+    → ReadsBack (joined wants stream) laid → IsCommented true laid text → IsPretty stream text
 pretty_is wants stream laid text layout back commented = record {
   wants = wants;
   laid = laid;
@@ -27,7 +29,11 @@ pretty_is wants stream laid text layout back commented = record {
   back = λ base.
       let first = back base in
       let then = commented.tokens base base first.parsed first.parses in
-      record { parsed = then.parsed; parses = then.parses; same = first.same ∙ then.same };
+      record {
+        parsed = then.parsed;
+        parses = then.parses;
+        same = subst (λ s. AreAlike (flattening s) (flattening (without_spans then.parsed))) (sym first.same) then.same;
+      };
 }
 
 -- a text that reads back has a cover

@@ -8,20 +8,20 @@ use Rattle.proc_macro2.specs.Forest.{Forest}
 use Rattle.proc_macro2.specs.Parsing.{ParsesTo}
 use Rattle.messages.specs.Parsed.{first}
 use Rattle.layout.specs.Layout.{IsLayout}
-use Rattle.layout.specs.Writing.{ReadsBack}
 use Rattle.pretty_printer.specs.Joined.{joined}
 use Rattle.relayout.specs.Comments.{IsCommented}
+use Rattle.relayout.specs.Docs.{GivesDocs}
 use Rattle.pretty.specs.Comments.{comments}
 use Rattle.pretty.specs.Script.{code_of, script_line, with_line}
 
--- the text is a layout in which doc comments replace attributes, of the stream with some of its marks joined, and reads
--- back to this stream
+-- the text is a layout in which doc comments replace attributes, of the stream with some of its marks joined. It reads
+-- back to this stream up to the spelling of doc literals
 pub record IsPretty (stream : Forest) (text : List ℕ) : Type 0 where
   pub wants : List Bool
   pub laid : List ℕ
   pub layout : IsLayout (joined wants stream) laid
-  pub commented : IsCommented laid text
-  pub back : ReadsBack (joined wants stream) text
+  pub commented : IsCommented true laid text
+  pub back : (base : ℕ) → GivesDocs base text (joined wants stream)
 
 -- a pretty text of the stream is appended to the output, after the first line of the script
 abbrev pub WritesPretty : List ℕ → Forest → Option (List ℕ) → Option (List ℕ) → Type 0

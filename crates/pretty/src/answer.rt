@@ -13,12 +13,12 @@ use messages::Failure;
 use pretty_printer::to_pretty_string;
 use proc_macro2::{SourceMap, TokenStream};
 use quoting::QuoteError;
-use relayout::{RelayoutError, with_doc_comments};
+use relayout::{RelayoutError, with_any_doc_comments};
 use std::alloc::Global;
 use std::io::Write;
 
-/// Writes the tokens of the text, in a layout that reads back to them. Doc comments replace the attributes that they
-/// are read as. The line `#!..` at the start of a script comes first.
+/// Writes the tokens of the text, in a layout that reads back to them, up to the spelling of doc literals. Doc comments
+/// replace the doc attributes whose texts they can hold. The line `#!..` at the start of a script comes first.
 ///
 /// Returns how many plain comments the text has, which are left out. If it has some and `deny` is true, nothing is
 /// written.
@@ -82,7 +82,7 @@ fn pretty_text(alloc: Global, stream: &TokenStream) -> Result<String, Failure>
         Err(QuoteError::Memory(_)) => return Err(Failure::Memory),
         Err(QuoteError::NoneGroup | QuoteError::LoneQuote) => unreachable!(),
     };
-    match with_doc_comments(alloc, pretty.as_str()) {
+    match with_any_doc_comments(alloc, pretty.as_str()) {
         Ok(text) => Ok(text),
         Err(RelayoutError::Memory(_)) => Err(Failure::Memory),
         Err(RelayoutError::NoPiece) => unreachable!(),

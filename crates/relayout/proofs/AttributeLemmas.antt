@@ -4,10 +4,13 @@ use Rattle.std.proofs.Common.{sym, ap, ap₂, ◌∙◌, subst, inl, inr, ◌==�
 use Rattle.std.specs.Prelude.{Result, Ok, Err, Option, Some, None, IfOk, MatchOption}
 use Rattle.std.proofs.lemmas.Bool.{both_ways}
 use Rattle.lexical.specs.Literal.{AnyLiteral, Literal as IsLiteral}
+use Rattle.lexical.specs.Literal as literals
 use Rattle.lexical.specs.Piece.{Leaf}
 use Rattle.lexical.specs.Text.{begins_with, first_passes}
 use Rattle.lexical.specs.Token.{Literal}
 use Rattle.lexical.proofs.PieceLemmas.{one_piece}
+use Rattle.grammar_laws.proofs.LiteralLemmas.{quoted_stable}
+use Rattle.grammar_laws.proofs.IntegerLemmas.{number_before_stop}
 use Rattle.pm_token.specs.Escaped.{string_text}
 use Rattle.pm_token.specs.LiteralText.{IsWholeLiteral}
 use Rattle.pm_token.specs.Text.{IsText}
@@ -16,8 +19,8 @@ use Rattle.pm_token.specs.declared.literals.conversion.ConversionErrorKind.{Conv
 use Rattle.pm_token.proofs.EscapedLemmas.{doc_built}
 use Rattle.pm_token.proofs.ValueLawLemmas.{strings_come_back}
 use Rattle.proc_macro2.proofs.PieceStarts.{literal_stands}
-use Rattle.relayout.specs.Commented.{attribute_front, is_doc_line}
-use Rattle.relayout.specs.Comments.{HasNoAttribute}
+use Rattle.relayout.specs.Commented.{CanHold, Spells, attribute_front}
+use Rattle.relayout.specs.Comments.{HasNoAttribute, IsAttribute}
 
 -- ---- string literals
 
@@ -56,10 +59,11 @@ literal_split text p r own after rest h split is at ends =
       split ∙ ap₂ (λ q s. q ++ s) (sym is) left,
     )
 
--- the literal that is written for a text is a whole literal
-pub string_whole : (text : List ℕ) → IsText text → IsWholeLiteral (string_text text)
-string_whole text all =
-    inl (quoted_literal (string_text text) [] refl (literal_stands (string_text text) [] (doc_built text all) refl))
+-- a literal is also one at the end of a text
+pub literal_alone : (p r : List ℕ) → IsLiteral p r → IsWholeLiteral p
+unfolding literals.Literal
+literal_alone p r (inl quoted) = inl (inl (quoted_stable p [] r [] refl quoted))
+literal_alone p r (inr number) = inl (inr (number_before_stop p r [] refl number))
 
 -- two texts with the same literal are equal
 one_text : (t u : List ℕ) → IsText t → IsText u → string_text t ≡ string_text u → t ≡ u
@@ -81,12 +85,27 @@ text_found literal v P Q (Ok None) value more none = λ text all same.
 text_found literal v P Q (Ok (Some x)) value more h = more x h
 text_found literal v P Q (Err e) value more h = tt
 
--- a literal without a string value is written for no text
-pub no_value : (literal : List ℕ) (error : ConversionErrorKind) → str_value literal ≡ Err error → (text : List ℕ)
-    → IsText text → literal ≡ string_text text → ⊥
-no_value literal error value text all same =
+-- a literal spells at most one text
+pub one_spelled : (any : Bool) (p t u : List ℕ) → IsText t → IsText u → Spells any p t → Spells any p u → t ≡ u
+one_spelled false p t u all more one other = one_text t u all more (sym one ∙ other)
+one_spelled true p t u all more one other =
+    let e : ◌≡◌ {A = Result (List ℕ) ConversionErrorKind} (Ok t) (Ok u) = sym one.1 ∙ other.1 in
+    cc
+
+-- the literal that is written for a text spells it
+pub string_spells : (any : Bool) (text : List ℕ) → IsText text → Spells any (string_text text) text
+string_spells false text all = refl
+string_spells true text all = (all, strings_come_back text all)
+
+-- a literal without a string value spells no text
+pub no_value : (any : Bool) (literal : List ℕ) (error : ConversionErrorKind) → str_value literal ≡ Err error
+    → (text : List ℕ) → IsText text → Spells any literal text → ⊥
+no_value false literal error value text all same =
     let clash : ◌≡◌ {A = Result (List ℕ) ConversionErrorKind} (Ok text) (Err error) =
     sym (strings_come_back text all) ∙ (ap str_value (sym same) ∙ value) in
+    cc
+no_value true literal error value text all same =
+    let clash : ◌≡◌ {A = Result (List ℕ) ConversionErrorKind} (Ok text) (Err error) = sym same.1 ∙ value in
     cc
 
 -- ---- attributes
@@ -106,36 +125,35 @@ pub neither_front : (whole : List ℕ) → begins_with (codes "#[doc = ") whole 
 neither_front whole outer inner true = inner
 neither_front whole outer inner false = outer
 
-pub no_front : (whole : List ℕ) → ((inner : Bool) → begins_with (attribute_front inner) whole ≡ false)
-    → HasNoAttribute whole
-no_front whole none true text rest all is =
+pub no_front : (any : Bool) (whole : List ℕ) → ((inner : Bool) → begins_with (attribute_front inner) whole ≡ false)
+    → HasNoAttribute any whole
+no_front any whole none true literal text rest all is can =
     both_ways _ (none true) (ap (begins_with (attribute_front true)) is.is)
-no_front whole none false text rest all is =
+no_front any whole none false literal text rest all is can =
     both_ways _ (none false) (ap (begins_with (attribute_front false)) is.is)
 
-pub no_literal : (whole after : List ℕ) (other : Bool) → whole ≡ attribute_front other ++ after
-    → ((p r : List ℕ) → IsLiteral p (codes "]\n" ++ r) → after ≡ p ++ (codes "]\n" ++ r) → ⊥) → HasNoAttribute whole
-no_literal whole after other front none inner text rest all is =
-    none (string_text text) rest (string_stands text (10 ∷ rest) all)
-    (after_front other inner after _ (sym front ∙ is.is)).1
+pub no_literal : (any : Bool) (whole after : List ℕ) (other : Bool) → whole ≡ attribute_front other ++ after
+    → ((p r : List ℕ) → IsLiteral p (codes "]\n" ++ r) → after ≡ p ++ (codes "]\n" ++ r) → ⊥)
+    → HasNoAttribute any whole
+no_literal any whole after other front none inner literal text rest all is can =
+    none literal rest is.stands (after_front other inner after _ (sym front ∙ is.is)).1
 
--- no attribute that a comment can replace begins there, if no text has the literal after the prefix
-pub no_text : (whole after literal more : List ℕ) (other : Bool) → whole ≡ attribute_front other ++ after
+-- no attribute that a comment can replace begins there, if the literal after the prefix spells no text
+pub no_text : (any : Bool) (whole after literal more : List ℕ) (other : Bool) → whole ≡ attribute_front other ++ after
     → IsLiteral literal (codes "]\n" ++ more) → after ≡ literal ++ (codes "]\n" ++ more)
-    → ((text : List ℕ) → IsText text → literal ≡ string_text text → ⊥) → HasNoAttribute whole
-no_text whole after literal more other front stands split none inner text rest all is =
-    none text all
-    (one_literal literal (string_text text) _ _ stands (string_stands text (10 ∷ rest) all)
-    (sym split ∙ (after_front other inner after _ (sym front ∙ is.is)).1))
+    → ((text : List ℕ) → IsText text → Spells any literal text → ⊥) → HasNoAttribute any whole
+no_text any whole after literal more other front stands split none inner p text rest all is can =
+    let same = one_literal literal p _ _ stands is.stands
+    (sym split ∙ (after_front other inner after _ (sym front ∙ is.is)).1) in
+    none text all (subst (λ q. Spells any q text) (sym same) is.spells)
 
--- no attribute that a comment can replace begins there, if no comment can hold the literal's text
-pub no_line : (whole after literal more found : List ℕ) (other : Bool) → whole ≡ attribute_front other ++ after
-    → IsLiteral literal (codes "]\n" ++ more) → after ≡ literal ++ (codes "]\n" ++ more)
-    → literal ≡ string_text found → IsText found → is_doc_line other found ≡ false → HasNoAttribute whole
-no_line whole after literal more found other front stands split is_found all_found fails inner text rest all is =
-    let at = after_front other inner after _ (sym front ∙ is.is) in
-    let same = one_literal literal (string_text text) _ _ stands (string_stands text (10 ∷ rest) all)
-    (sym split ∙ at.1) in
-    let text_is : text ≡ found = one_text text found all all_found (sym same ∙ is_found) in
-    both_ways _ fails (subst (λ t. is_doc_line other t ≡ true) text_is
-    (subst (λ b. is_doc_line b text ≡ true) (sym at.0) is.may))
+-- no attribute that a comment can replace begins there, if no comment can hold the text of the one that does
+pub no_form : (any : Bool) (whole literal doc_body rest : List ℕ) (inner : Bool)
+    → IsAttribute any whole inner literal doc_body rest → IsText doc_body → (CanHold any inner doc_body → ⊥)
+    → HasNoAttribute any whole
+no_form any whole literal doc_body rest inner attribute all fails other p text more all_text is can =
+    let at = after_front inner other _ _ (sym attribute.is ∙ is.is) in
+    let same = one_literal literal p _ _ attribute.stands is.stands at.1 in
+    let text_is : text ≡ doc_body = one_spelled any literal text doc_body all_text all
+    (subst (λ q. Spells any q text) (sym same) is.spells) attribute.spells in
+    fails (subst (λ t. CanHold any inner t) text_is (subst (λ b. CanHold any b text) (sym at.0) can))

@@ -2,7 +2,7 @@
 use Rattle.std.proofs.Common.{◌≡◌, ◌⊎◌, ℕ, Bool, true, false, not, ◌&&◌, ◌||◌, ◌==◌, List, [], ◌∷◌, ◌++◌, codes, refl}
 use Rattle.std.proofs.Common.{sym, ap, ap₂, ◌∙◌, subst, inl, inr, append_assoc, append-nil, eqb-true}
 use Rattle.std.specs.List.{list_all}
-use Rattle.std.proofs.lemmas.Bool.{both_ways, and_parts, not-false, not-true, or_parts}
+use Rattle.std.proofs.lemmas.Bool.{both_ways, and_parts, cond-true, cond-false, not-false, not-true, or_parts}
 use Rattle.lexical.specs.Class.{is_white}
 use Rattle.lexical.specs.Comment.{Comment, Doc, LineComment, closing, has_bare_return, is_doc}
 use Rattle.lexical.specs.Cover.{onto, StandBefore, IsCover}
@@ -10,15 +10,18 @@ use Rattle.lexical.specs.Piece.{Kind, Piece, FrontMark, Gap, Open, Close, Leaf, 
 use Rattle.lexical.specs.Piece as pieces
 use Rattle.lexical.specs.Text.{begins_with, ends_with, first_passes}
 use Rattle.lexical.proofs.CommentKindLemmas.{front_is}
+use Rattle.pm_token.specs.Escaped.{string_text}
+use Rattle.pm_token.proofs.ValueLawLemmas.{strings_come_back}
 use Rattle.pm_stream.specs.Events.{doc_onto}
-use Rattle.pm_stream.specs.Forest.{Forest, flattening}
-use Rattle.pm_stream.specs.Parsing.{ParsesTo}
+use Rattle.pm_stream.specs.Forest.{flattening}
 use Rattle.pm_stream.proofs.LawLemmas.{one_cover}
-use Rattle.proc_macro2.specs.Laws.{Gives}
 use Rattle.proc_macro2.proofs.EventSpans.{bare, piece_events, piece_event_onto, events_of_parsed, same_from_events}
-use Rattle.relayout.specs.Commented.{Part, White, Kept, Attribute, comment_front, is_doc_line, is_free}
-use Rattle.relayout.specs.Commented.{may_all, new_pieces, old_pieces}
+use Rattle.relayout.specs.Commented.{Part, White, Kept, Attribute, CanHold, IsDocBlock, Keeps, MayAll}
+use Rattle.relayout.specs.Commented.{block_comment, comment_front, doc_comment, is_doc_line, is_free}
+use Rattle.relayout.specs.Commented.{new_pieces, old_pieces}
+use Rattle.relayout.specs.Docs.{AreAlike, Both, Spelled, spelled_onto}
 use Rattle.relayout.specs.Relayout.{is_line}
+use Rattle.relayout.proofs.DocsLemmas.{alike_gives, onto_alike}
 use Rattle.relayout.proofs.StandLemmas.{Calm, Feeds, piece_near}
 
 -- ---- a doc comment of one line
@@ -90,6 +93,27 @@ doc_stands false text r may =
     documents [] plain = refl
     documents (c ∷ text) plain = rw plain refl
 
+-- ---- the doc comment for a text
+
+-- a block doc comment stands before LF too
+block_stands : (inner : Bool) (text r : List ℕ) → IsDocBlock inner text
+    → Doc inner text (block_comment inner text) (10 ∷ r)
+block_stands inner text r is =
+    piece_near false (pieces.Doc inner text) (block_comment inner text) [] [] (10 ∷ r) refl refl
+    (λ none line. inr (r, refl)) is.1
+
+held_stands : (any inner : Bool) (text r : List ℕ) → CanHold any inner text
+    → Doc inner text (doc_comment inner text) (10 ∷ r)
+held_stands any inner text r can = by_line (is_doc_line inner text) refl can
+  where
+    by_line : (b : Bool) → is_doc_line inner text ≡ b → CanHold any inner text
+        → Doc inner text (doc_comment inner text) (10 ∷ r)
+    by_line true line can =
+        subst (λ c. Doc inner text c (10 ∷ r)) (sym (cond-true _ _ _ line)) (doc_stands inner text r line)
+    by_line false other (inl line) = absurd (both_ways _ other line)
+    by_line false other (inr block) =
+        subst (λ c. Doc inner text c (10 ∷ r)) (sym (cond-false _ _ _ other)) (block_stands inner text r block.1)
+
 -- ---- what follows a piece, with the attributes and with the comments
 
 -- both texts begin with the same pieces, and then with the same white character, or they end
@@ -102,18 +126,19 @@ record Near (r t : List ℕ) : Type 0 where
   ends : ((old ≡ []) × (new ≡ []))
       ⊎ ((c : ℕ) × (s : List ℕ) × (u : List ℕ) × (old ≡ c ∷ s) × (new ≡ c ∷ u) × (is_white c ≡ true))
 
-near_all : (ps : List Part) → may_all false ps ≡ true → Near (onto (old_pieces ps) []) (onto (new_pieces ps) [])
-near_all [] may = record { both = []; old = []; new = []; was = refl; is = refl; ends = inl (refl, refl) }
-near_all (White c ∷ ps) may = record {
+near_all : (any : Bool) (ps : List Part) → MayAll any false ps
+    → Near (onto (old_pieces ps) []) (onto (new_pieces ps) [])
+near_all any [] may = record { both = []; old = []; new = []; was = refl; is = refl; ends = inl (refl, refl) }
+near_all any (White c ∷ ps) may = record {
   both = [];
   old = c ∷ onto (old_pieces ps) [];
   new = c ∷ onto (new_pieces ps) [];
   was = refl;
   is = refl;
-  ends = inr (c, _, _, refl, refl, (and_parts (is_white c) _ may).0);
+  ends = inr (c, _, _, refl, refl, may.0);
 }
-near_all (Kept x ∷ ps) may =
-    let near = near_all ps may in
+near_all any (Kept x ∷ ps) may =
+    let near = near_all any ps may.1 in
     record {
       both = x.1 ++ near.both;
       old = near.old;
@@ -122,7 +147,7 @@ near_all (Kept x ∷ ps) may =
       is = ap (λ r. x.1 ++ r) near.is ∙ sym (append_assoc x.1 near.both near.new);
       ends = near.ends;
     }
-near_all (Attribute inner text ∷ ps) may = absurd (both_ways false refl may)
+near_all any (Attribute inner literal text ∷ ps) may = absurd (both_ways false refl may.0.0)
 
 -- what follows a line comment begins with LF
 feed_after : (p s : List ℕ) (c : ℕ) → begins_with (codes "//") p ≡ true → Comment p (c ∷ s) → c ≡ 10
@@ -162,48 +187,70 @@ kept_stands first x r t near h =
 
 -- ---- all pieces
 
-stand_all : (first free : Bool) (ps : List Part) → may_all free ps ≡ true → StandBefore first (old_pieces ps) []
+stand_all : (any first free : Bool) (ps : List Part) → MayAll any free ps → StandBefore first (old_pieces ps) []
     → StandBefore first (new_pieces ps) []
-stand_all first free [] may stand = tt
-stand_all first free (White c ∷ ps) may stand =
-    let both = and_parts (is_white c) (may_all (is_free free (White c)) ps) may in
-    (inl (c, refl, both.0), stand_all false (is_free free (White c)) ps both.1 stand.1)
-stand_all first free (Kept x ∷ ps) may stand =
-    (kept_stands first x _ _ (near_all ps may) stand.0, stand_all false false ps may stand.1)
-stand_all first free (Attribute true text ∷ ps) may stand =
-    let both = and_parts (free && is_doc_line true text) (may_all true ps) may in (
-      doc_stands true text _ (and_parts free (is_doc_line true text) both.0).1,
-      (inl (10, refl, refl), stand_all false true ps both.1 stand.1.1.1.1.1.1.1.1.1.1.1),
-    )
-stand_all first free (Attribute false text ∷ ps) may stand =
-    let both = and_parts (free && is_doc_line false text) (may_all true ps) may in (
-      doc_stands false text _ (and_parts free (is_doc_line false text) both.0).1,
-      (inl (10, refl, refl), stand_all false true ps both.1 stand.1.1.1.1.1.1.1.1.1),
-    )
+stand_all any first free [] may stand = tt
+stand_all any first free (White c ∷ ps) may stand =
+    (inl (c, refl, may.0), stand_all any false (is_free free (White c)) ps may.1 stand.1)
+stand_all any first free (Kept x ∷ ps) may stand =
+    (kept_stands first x _ _ (near_all any ps may.1) stand.0, stand_all any false false ps may.1 stand.1)
+stand_all any first free (Attribute true literal text ∷ ps) may stand = (
+  held_stands any true text _ may.0.2,
+  (inl (10, refl, refl), stand_all any false true ps may.1 stand.1.1.1.1.1.1.1.1.1.1.1),
+)
+stand_all any first free (Attribute false literal text ∷ ps) may stand = (
+  held_stands any false text _ may.0.2,
+  (inl (10, refl, refl), stand_all any false true ps may.1 stand.1.1.1.1.1.1.1.1.1),
+)
 
--- the pieces with comments mean the same tokens
-events_of_parts : (ps : List Part) → piece_events (new_pieces ps) ≡ piece_events (old_pieces ps)
-events_of_parts [] = refl
-events_of_parts (White c ∷ ps) = events_of_parts ps
-events_of_parts (Kept x ∷ ps) = ap (piece_event_onto x.0) (events_of_parts ps)
-events_of_parts (Attribute true text ∷ ps) = ap (doc_onto 0 0 true text) (events_of_parts ps)
-events_of_parts (Attribute false text ∷ ps) = ap (doc_onto 0 0 false text) (events_of_parts ps)
+-- the pieces with comments mean the same tokens, if literals are spelled as comments are read
+events_of_parts : (free : Bool) (ps : List Part) → MayAll false free ps
+    → piece_events (new_pieces ps) ≡ piece_events (old_pieces ps)
+events_of_parts free [] may = refl
+events_of_parts free (White c ∷ ps) may = events_of_parts (is_free free (White c)) ps may.1
+events_of_parts free (Kept x ∷ ps) may = ap (piece_event_onto x.0) (events_of_parts false ps may.1)
+events_of_parts free (Attribute true literal text ∷ ps) may =
+    ap (doc_onto 0 0 true text) (events_of_parts true ps may.1)
+    ∙ ap (λ l. spelled_onto true l (piece_events (old_pieces ps))) (sym may.0.1)
+events_of_parts free (Attribute false literal text ∷ ps) may =
+    ap (doc_onto 0 0 false text) (events_of_parts true ps may.1)
+    ∙ ap (λ l. spelled_onto false l (piece_events (old_pieces ps))) (sym may.0.1)
+
+-- the pieces with comments mean tokens that are alike
+events_are_alike : (free : Bool) (ps : List Part) → MayAll true free ps
+    → AreAlike (piece_events (old_pieces ps)) (piece_events (new_pieces ps))
+events_are_alike free [] may = Both
+events_are_alike free (White c ∷ ps) may = events_are_alike (is_free free (White c)) ps may.1
+events_are_alike free (Kept x ∷ ps) may = onto_alike x.0 (events_are_alike false ps may.1)
+events_are_alike free (Attribute true literal text ∷ ps) may =
+    Spelled true literal (string_text text) text may.0.1.1 (strings_come_back text may.0.1.0)
+    (events_are_alike true ps may.1)
+events_are_alike free (Attribute false literal text ∷ ps) may =
+    Spelled false literal (string_text text) text may.0.1.1 (strings_come_back text may.0.1.0)
+    (events_are_alike true ps may.1)
 
 -- ---- the law
 
-pub comments_cover : (source : List ℕ) (ps : List Part) → IsCover (old_pieces ps) source → may_all true ps ≡ true
-    → IsCover (new_pieces ps) (onto (new_pieces ps) [])
-comments_cover source ps covers may = record { whole = refl; stand = stand_all true true ps may covers.stand }
+pub comments_cover : (any : Bool) (source : List ℕ) (ps : List Part) → IsCover (old_pieces ps) source
+    → MayAll any true ps → IsCover (new_pieces ps) (onto (new_pieces ps) [])
+comments_cover any source ps covers may =
+    record { whole = refl; stand = stand_all any true true ps may covers.stand }
 
-pub comments_keep : (source : List ℕ) (ps : List Part) → IsCover (old_pieces ps) source → may_all true ps ≡ true
-    → (base first : ℕ) (stream : Forest) → ParsesTo first source stream → Gives base (onto (new_pieces ps) []) stream
-comments_keep source ps covers may base first stream parses =
+pub comments_keep : (any : Bool) (source : List ℕ) (ps : List Part) → IsCover (old_pieces ps) source
+    → MayAll any true ps → Keeps any source (onto (new_pieces ps) [])
+comments_keep false source ps covers may = λ base first stream parses.
     let says : piece_events (new_pieces ps) ≡ bare (flattening stream) =
-    events_of_parts ps ∙ (ap piece_events (one_cover source (old_pieces ps) parses.pieces covers parses.covers)
+    events_of_parts true ps may ∙ (ap piece_events (one_cover source (old_pieces ps) parses.pieces covers parses.covers)
     ∙ events_of_parsed first source stream parses) in
     let x = same_from_events base stream (new_pieces ps) says in
     record {
       parsed = x.0;
-      parses = record { pieces = new_pieces ps; covers = comments_cover source ps covers may; expands = x.1 };
+      parses = record { pieces = new_pieces ps; covers = comments_cover false source ps covers may; expands = x.1 };
       same = x.2;
     }
+comments_keep true source ps covers may = λ base first stream parses.
+    let says : piece_events (old_pieces ps) ≡ bare (flattening stream) =
+    ap piece_events (one_cover source (old_pieces ps) parses.pieces covers parses.covers)
+    ∙ events_of_parsed first source stream parses in
+    alike_gives base (onto (new_pieces ps) []) stream (new_pieces ps) (comments_cover true source ps covers may)
+    (subst (λ es. AreAlike es (piece_events (new_pieces ps))) says (events_are_alike true ps may))

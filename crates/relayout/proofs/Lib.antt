@@ -5,7 +5,9 @@ mod RelaidLemmas
 mod ChoiceLemmas
 mod StayLemmas
 mod TokenLemmas
+mod DocsLemmas
 mod CommentLemmas
+mod FormLemmas
 mod PartLemmas
 mod AttributeLemmas
 mod LiteralLemmas

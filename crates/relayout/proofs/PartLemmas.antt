@@ -2,25 +2,22 @@
 use Rattle.std.proofs.Common.{◌≡◌, ℕ, Bool, true, false, ◌&&◌, List, [], ◌∷◌, ◌++◌, codes, refl}
 use Rattle.std.proofs.Common.{sym, ap, ◌∙◌, subst, inl, append_assoc, append-nil}
 use Rattle.std.proofs.Common.{◌||◌, ◌<◌, inr, length, arith}
-use Rattle.std.specs.Str.{chars}
-use Rattle.std.proofs.lemmas.Bool.{and_from, cases_Bool}
+use Rattle.std.proofs.lemmas.Bool.{cases_Bool}
 use Rattle.lexical.specs.Cover.{onto, StandBefore, IsCover}
+use Rattle.lexical.specs.Literal.{Literal as IsLiteral}
 use Rattle.lexical.specs.Piece.{Kind, Piece, Gap, IsPiece}
 use Rattle.lexical.specs.Text.{begins_with}
 use Rattle.lexical.proofs.PieceFacts.{piece_not_empty, piece_shortens}
 use Rattle.lexical.proofs.PieceLemmas.{one_piece}
 use Rattle.grammar_laws.proofs.LeafLaws.{onto_split}
-use Rattle.pm_token.specs.Escaped.{string_text}
-use Rattle.pm_token.specs.Text.{IsText}
-use Rattle.pm_token.proofs.EscapedLemmas.{doc_built}
 use Rattle.pm_stream.proofs.CoverLemmas.{onto-append}
 use Rattle.pm_stream.proofs.DocLemmas.{doc_name_built}
-use Rattle.proc_macro2.proofs.PieceStarts.{literal_stands, name_stands}
+use Rattle.proc_macro2.proofs.PieceStarts.{name_stands}
 use Rattle.relayout.specs.Comments.{AreFound, HasNoAttribute, IsAttribute, IsCommented, IsFirstPart, Stays}
 use Rattle.relayout.specs.Written.{is_white_gap}
 use Rattle.relayout.proofs.ChoiceLemmas.{gap_is}
-use Rattle.relayout.specs.Commented.{Part, White, Kept, Attribute}
-use Rattle.relayout.specs.Commented.{attribute_pieces, comment_front, doc_pieces, is_free, may_all, may_be}
+use Rattle.relayout.specs.Commented.{Part, White, Kept, Attribute, CanHold, MayAll}
+use Rattle.relayout.specs.Commented.{attribute_pieces, doc_pieces, is_free}
 use Rattle.relayout.specs.Commented.{new_part, new_pieces, old_part, old_pieces}
 use Rattle.relayout.proofs.CommentLemmas.{comments_cover, comments_keep}
 use Rattle.relayout.proofs.RelaidLemmas.{Cover}
@@ -58,29 +55,29 @@ past_pieces first x (y ∷ us) r h cover =
 some_piece : (part : Part) → (x : Piece) × (us : List Piece) × (old_part part ≡ x ∷ us)
 some_piece (White c) = ((Gap, c ∷ []), [], refl)
 some_piece (Kept piece) = (piece, [], refl)
-some_piece (Attribute true text) = (_, _, refl)
-some_piece (Attribute false text) = (_, _, refl)
+some_piece (Attribute true literal text) = (_, _, refl)
+some_piece (Attribute false literal text) = (_, _, refl)
 
 -- ---- what is written so far
 
 -- what is written for the parts so far, together with any parts for the rest, makes the whole text
-pub record Makes (source : List ℕ) (first free : Bool) (rest out : List ℕ) : Type 0 where
+pub record Makes (any : Bool) (source : List ℕ) (first free : Bool) (rest out : List ℕ) : Type 0 where
   pub only : Cover true source → Cover first rest
   pub all : (ps : List Part) → rest ≡ onto (old_pieces ps) [] → StandBefore first (old_pieces ps) []
-      → may_all free ps ≡ true → AreFound free ps
+      → MayAll any free ps → AreFound any free ps
       → (us : List Part) × (source ≡ onto (old_pieces us) []) × StandBefore true (old_pieces us) []
-      × (may_all true us ≡ true) × AreFound true us × (out ++ onto (new_pieces ps) [] ≡ onto (new_pieces us) [])
+      × MayAll any true us × AreFound any true us × (out ++ onto (new_pieces ps) [] ≡ onto (new_pieces us) [])
 
-pub makes_start : (source out : List ℕ) → out ≡ [] → Makes source true true source out
-makes_start source out none = record {
+pub makes_start : (any : Bool) (source out : List ℕ) → out ≡ [] → Makes any source true true source out
+makes_start any source out none = record {
   only = λ cover. cover;
   all = λ ps e stand may found. (ps, e, stand, may, found, ap (λ o. o ++ onto (new_pieces ps) []) none);
 }
 
-pub makes_part : (source : List ℕ) (first free now : Bool) (text rest out new : List ℕ) (part : Part)
-    → IsFirstPart first free text part rest → now ≡ is_free free part → new ≡ out ++ onto (new_part part) []
-    → Makes source first free text out → Makes source false now rest new
-makes_part source first free now text rest out new part is after push so =
+pub makes_part : (any : Bool) (source : List ℕ) (first free now : Bool) (text rest out new : List ℕ) (part : Part)
+    → IsFirstPart any first free text part rest → now ≡ is_free free part → new ≡ out ++ onto (new_part part) []
+    → Makes any source first free text out → Makes any source false now rest new
+makes_part any source first free now text rest out new part is after push so =
     let some = some_piece part in
     record {
       only = λ cover.
@@ -95,9 +92,8 @@ makes_part source first free now text rest out new part is after push so =
           let before = so.all (part ∷ ps) whole
           (subst (λ us. StandBefore first (us ++ old_pieces ps) []) (sym some.2)
           (stand_append first some.0 some.1 (old_pieces ps) [] there stand))
-          (and_from (may_be free part) (may_all (is_free free part) ps) is.may
-          (subst (λ b. may_all b ps ≡ true) after may))
-          (λ begins. subst (Stays part) whole (is.stays begins), subst (λ b. AreFound b ps) after found) in
+          (is.may, subst (λ b. MayAll any b ps) after may)
+          (λ begins. subst (Stays any part) whole (is.stays begins), subst (λ b. AreFound any b ps) after found) in
           let same : new ++ onto (new_pieces ps) [] ≡ out ++ onto (new_pieces (part ∷ ps)) [] =
           ap (λ n. n ++ onto (new_pieces ps) []) push
           ∙ (append_assoc out (onto (new_part part) []) (onto (new_pieces ps) [])
@@ -106,10 +102,10 @@ makes_part source first free now text rest out new part is after push so =
           (before.0, before.1, before.2, before.3, before.4, same ∙ before.5);
     }
 
-pub makes_all : (source : List ℕ) (first free : Bool) (rest out : List ℕ) → rest ≡ []
-    → Makes source first free rest out → IsCommented source out
-makes_all source first free rest out none so =
-    let all = so.all [] none tt refl tt in
+pub makes_all : (any : Bool) (source : List ℕ) (first free : Bool) (rest out : List ℕ) → rest ≡ []
+    → Makes any source first free rest out → IsCommented any source out
+makes_all any source first free rest out none so =
+    let all = so.all [] none tt tt tt in
     let is : out ≡ onto (new_pieces all.0) [] = sym (append-nil out) ∙ all.5 in
     let covers : IsCover (old_pieces all.0) source = record { whole = all.1; stand = all.2 } in
     rw is (record {
@@ -118,14 +114,15 @@ makes_all source first free rest out none so =
       may = all.3;
       found = all.4;
       is = refl;
-      covers_now = comments_cover source all.0 covers all.3;
-      tokens = comments_keep source all.0 covers all.3;
+      covers_now = comments_cover any source all.0 covers all.3;
+      tokens = comments_keep any source all.0 covers all.3;
     })
 
 -- ---- an attribute
 
-doc_stand : (first : Bool) (text r : List ℕ) → IsText text → StandBefore first (doc_pieces text) r
-doc_stand first text r all = (
+doc_stand : (first : Bool) (literal r : List ℕ) → IsLiteral literal (codes "]\n" ++ r)
+    → StandBefore first (doc_pieces literal) r
+doc_stand first literal r stands = (
   ((91, refl, refl), refl),
   (
     (refl, name_stands false (codes "doc") _ doc_name_built refl),
@@ -133,65 +130,55 @@ doc_stand first text r all = (
       inl (32, refl, refl),
       (
         (refl, inl (((61, refl, refl), refl), refl)),
-        (
-          inl (32, refl, refl),
-          (
-            (refl, literal_stands (string_text text) _ (doc_built text all) refl),
-            ((93, refl, refl), (inl (10, refl, refl), tt)),
-          ),
-        ),
+        (inl (32, refl, refl), ((refl, inl stands), ((93, refl, refl), (inl (10, refl, refl), tt)))),
       ),
     ),
   ),
 )
 
-attribute_stands : (first inner : Bool) (text r : List ℕ) → IsText text
-    → StandBefore first (attribute_pieces inner text) r
-attribute_stands first true text r all = (
+attribute_stands : (first inner : Bool) (literal r : List ℕ) → IsLiteral literal (codes "]\n" ++ r)
+    → StandBefore first (attribute_pieces inner literal) r
+attribute_stands first true literal r stands = (
   (refl, inl (((35, refl, refl), refl), refl)),
-  (inl (32, refl, refl), ((refl, inl (((33, refl, refl), refl), refl)), doc_stand false text r all)),
+  (inl (32, refl, refl), ((refl, inl (((33, refl, refl), refl), refl)), doc_stand false literal r stands)),
 )
-attribute_stands first false text r all =
-    ((refl, inl (((35, refl, refl), refl), refl)), doc_stand false text r all)
+attribute_stands first false literal r stands =
+    ((refl, inl (((35, refl, refl), refl), refl)), doc_stand false literal r stands)
 
 -- an attribute that a comment can replace is a part
-pub attribute_part : (first free inner : Bool) (whole text rest : List ℕ) → free ≡ true → IsText text
-    → IsAttribute whole inner text rest → IsFirstPart first free whole (Attribute inner text) rest
-attribute_part first free true whole text rest begins all is = record {
+pub attribute_part : (any first free inner : Bool) (whole literal text rest : List ℕ) → free ≡ true
+    → IsAttribute any whole inner literal text rest → CanHold any inner text
+    → IsFirstPart any first free whole (Attribute inner literal text) rest
+attribute_part any first free true whole literal text rest begins is can = record {
   whole = is.is;
-  stand = attribute_stands first true text rest all;
-  may = and_from free _ begins is.may;
+  stand = attribute_stands first true literal rest is.stands;
+  may = (begins, is.spells, can);
   stays = λ _. tt;
 }
-attribute_part first free false whole text rest begins all is = record {
+attribute_part any first free false whole literal text rest begins is can = record {
   whole = is.is;
-  stand = attribute_stands first false text rest all;
-  may = and_from free _ begins is.may;
+  stand = attribute_stands first false literal rest is.stands;
+  may = (begins, is.spells, can);
   stays = λ _. tt;
 }
-
-pub comment_chars : (inner : Bool) → chars (comment_front inner) ≡ comment_front inner
-unfolding chars
-comment_chars true = refl
-comment_chars false = refl
 
 -- the comment is written as the pieces of its part
-pub attribute_written : (out front text a b new : List ℕ) (inner : Bool) → front ≡ comment_front inner
-    → a ≡ out ++ front → b ≡ a ++ text → new ≡ b ++ (10 ∷ []) → new ≡ out ++ onto (new_part (Attribute inner text)) []
-attribute_written out front text a b new inner is first second third =
-    third ∙ (ap (λ x. x ++ (10 ∷ [])) (second ∙ ap (λ x. x ++ text) (first ∙ ap (λ x. out ++ x) is))
-    ∙ (ap (λ x. x ++ (10 ∷ [])) (append_assoc out (comment_front inner) text)
-    ∙ append_assoc out (comment_front inner ++ text) (10 ∷ [])))
+pub attribute_written : (out front doc_body end comment a b new : List ℕ) → a ≡ out ++ front → b ≡ a ++ doc_body
+    → new ≡ b ++ end → front ++ (doc_body ++ end) ≡ comment ++ (10 ∷ []) → new ≡ out ++ (comment ++ (10 ∷ []))
+attribute_written out front doc_body end comment a b new first second third is =
+    third ∙ (ap (λ x. x ++ end) (second ∙ ap (λ x. x ++ doc_body) first)
+    ∙ (append_assoc (out ++ front) doc_body end
+    ∙ (append_assoc out front (doc_body ++ end) ∙ ap (λ x. out ++ x) is)))
 
 -- ---- another piece
 
 -- a piece is a part if no attribute that a comment can replace begins there
-pub piece_part : (first free now : Bool) (text front rest out new : List ℕ) (k : Kind) → text ≡ front ++ rest
-    → IsPiece first k front rest → (free ≡ true → HasNoAttribute text)
+pub piece_part : (any first free now : Bool) (text front rest out new : List ℕ) (k : Kind) → text ≡ front ++ rest
+    → IsPiece first k front rest → (free ≡ true → HasNoAttribute any text)
     → now ≡ (is_white_gap (k, front) && (free || begins_with (codes "\n") front)) → new ≡ out ++ front
-    → (part : Part) × IsFirstPart first free text part rest × (now ≡ is_free free part)
+    → (part : Part) × IsFirstPart any first free text part rest × (now ≡ is_free free part)
     × (new ≡ out ++ onto (new_part part) [])
-piece_part first free now text front rest out new k whole stands none after push =
+piece_part any first free now text front rest out new k whole stands none after push =
     elim (cases_Bool (is_white_gap (k, front))) [
       | inl white ↦
           let gap = gap_is first (k, front) rest stands white in (
@@ -208,7 +195,7 @@ piece_part first free now text front rest out new k whole stands none after push
           )
       | inr solid ↦ (
         Kept (k, front),
-        record { whole = whole; stand = (stands, tt); may = refl; stays = none },
+        record { whole = whole; stand = (stands, tt); may = tt; stays = none },
         after ∙ ap (λ b. b && (free || begins_with (codes "\n") front)) solid,
         push ∙ ap (λ x. out ++ x) (sym (append-nil front)),
       )
@@ -222,9 +209,9 @@ pieces_shorten first x [] r h = piece_shortens first x.0 x.1 r h.0
 pieces_shorten first x (y ∷ us) r h =
     omega (arith, piece_shortens first x.0 x.1 (onto (y ∷ us) r) h.0, pieces_shorten false y us r h.1)
 
-pub part_shortens : (first free : Bool) (text rest : List ℕ) (part : Part) → IsFirstPart first free text part rest
-    → length rest < length text
-part_shortens first free text rest part is =
+pub part_shortens : (any first free : Bool) (text rest : List ℕ) (part : Part)
+    → IsFirstPart any first free text part rest → length rest < length text
+part_shortens any first free text rest part is =
     let some = some_piece part in
     subst (λ t. length rest < length t) (sym (is.whole ∙ ap (λ us. onto us rest) some.2))
     (pieces_shorten first some.0 some.1 rest (subst (λ us. StandBefore first us rest) some.2 is.stand))

@@ -1,6 +1,6 @@
 -- The loop of `relayout`: what is kept before it is written, and how a run of white characters is replaced.
-use Rattle.std.proofs.Common.{◌≡◌, ◌∙◌, ℕ, Bool, true, false, List, [], ◌∷◌, ◌++◌, None, Some, inl, inr, refl, sym}
-use Rattle.std.proofs.Common.{ap, ap₂, append_assoc, append-nil, subst}
+use Rattle.std.proofs.Common.{◌≡◌, ◌∙◌, ℕ, Bool, true, false, List, [], ◌∷◌, ◌++◌, Some, inl, inr, refl, sym}
+use Rattle.std.proofs.Common.{ap, ap₂, append_assoc, append-nil}
 use Rattle.std.specs.List.{list_all}
 use Rattle.std.specs.Str.{chars}
 use Rattle.std.proofs.lemmas.Bool.{and_parts, both_ways, cond-false, cond-true}
@@ -13,7 +13,7 @@ use Rattle.lexical.specs.declared.walk.PlacedPiece.{PlacedPiece}
 use Rattle.lexical.specs.declared.walk.PieceWalk.{PieceWalk}
 use Rattle.lexical.specs.declared.walk.Spaced.{Spaced}
 use Rattle.lexical.proofs.CommentKindLemmas.{comment_first}
-use Rattle.lexical.proofs.SpacedLemmas.{Covers, gaps, piece_of, next_there, spaced_back, spaced_end, spaced_on}
+use Rattle.lexical.proofs.SpacedLemmas.{Covers, gaps, piece_of, next_there, spaced_back, spaced_on}
 use Rattle.lexical.proofs.SpacedLemmas.{spaced_solid, white_back}
 use Rattle.relayout.specs.Relayout.{is_line}
 use Rattle.relayout.specs.Written.{Placed, choices_left, is_white_gap, next_choice, replacement, white_text}

@@ -4,4 +4,5 @@ pub mod Relaid
 pub mod Commented
 pub mod Comments
 pub mod Laws
+pub mod Docs
 pub mod Message

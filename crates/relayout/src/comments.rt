@@ -1,5 +1,4 @@
 //! Writes the doc attributes of a text as doc comments.
-ghost use Rattle.std.specs.List.{list_all};
 ghost use Rattle.std.specs.Prelude.{◌≡◌, ◌↔◌, ◌++◌, ◌&&◌, ◌||◌, [], ℕ, Bool, List, codes, false, true};
 ghost use Rattle.std.specs.Prelude.{IfErr, IfOk, IfSome, IsTrue, MatchOption, string_bytes};
 ghost use Rattle.std.specs.Str.{IsUtf8, chars};
@@ -10,16 +9,17 @@ ghost use Rattle.lexical.specs.Literal as lexical;
 ghost use Rattle.lexical.specs.Piece.{HasNoPiece};
 ghost use Rattle.lexical.specs.Text.{begins_with};
 ghost use Rattle.pm_token.specs.Escaped.{string_text};
+ghost use Rattle.pm_token.specs.LiteralText.{IsWholeLiteral};
 ghost use Rattle.pm_token.specs.Text.{IsText};
-ghost use Rattle.relayout.specs.Commented.{Part, attribute_front, comment_front, is_doc_line, is_free};
-ghost use Rattle.relayout.specs.Commented.{new_part};
-ghost use Rattle.relayout.specs.Comments.{BecomesComment, HasNoAttribute, IsCommented, IsFirstPart, in_line};
+ghost use Rattle.relayout.specs.Commented.{Part, Spells, attribute_front, is_free, new_part};
+ghost use Rattle.relayout.specs.Comments.{BecomesComment, HasNoAttribute, IsAttribute, IsCommented, IsFirstPart};
 ghost use Rattle.relayout.specs.Relaid.{HasNoCover, IfNoPiece};
 ghost use Rattle.relayout.specs.Written.{ends_line, is_white_gap};
 
 use crate::errors::RelayoutError;
+use crate::forms::form_of;
 use crate::literals::{escaped_text, plain_front};
-use lexical::parts::{TextCursor, before, begins, skip_to_either};
+use lexical::parts::{TextCursor, before, begins};
 use lexical::{PieceKind, literal_at, past_white, piece_at};
 use pm_token::parts::{TextBuilder, string_literal};
 use pm_token::{ConversionErrorKind, Literal};
@@ -39,7 +39,33 @@ use std::alloc::{AllocError, Global};
 ///
 /// Example: `#[doc = " a"]`, LF and `fn f() {}` become `/// a`, LF and `fn f() {}`.
 pub fn with_doc_comments(alloc: Global, text: &str) -> Result<String, RelayoutError>
-    ensures ok { IfOk result (λ out. IsCommented (chars text.now) (chars (string_bytes out))) }
+    ensures ok { IfOk result (λ out. IsCommented false (chars text.now) (chars (string_bytes out))) }
+    ensures no_piece { IfErr result (IfNoPiece (HasNoCover (chars text.now))) }
+{
+    commented(alloc, text, false)
+}
+
+/// Returns the text with its doc attributes written as doc comments, whatever the spelling of their literals.
+///
+/// It writes the comments of `with_doc_comments`, and more. A literal may be spelled in any way, as `r" a"`, which
+/// rustc makes of `/// a` in a macro. An attribute whose text no one-line comment can hold becomes `/**..*/` or
+/// `/*!..*/`, if that comment is read as this text and the text has no CR. The returned text parses to the same tokens
+/// up to spans, but a doc literal may become another spelling of its value. Everything else stays as it is.
+///
+/// Returns `NoPiece` if no pieces cover the text, and `Memory` if memory runs out. Delimiters need not match. The call
+/// takes time proportional to the length of the text.
+///
+/// Example: `#[doc = r" a"]`, LF, `#[doc = "b\nc"]` and LF become `/// a`, LF, `/**b`, LF, `c*/` and LF.
+pub fn with_any_doc_comments(alloc: Global, text: &str) -> Result<String, RelayoutError>
+    ensures ok { IfOk result (λ out. IsCommented true (chars text.now) (chars (string_bytes out))) }
+    ensures no_piece { IfErr result (IfNoPiece (HasNoCover (chars text.now))) }
+{
+    commented(alloc, text, true)
+}
+
+/// Does the work of `with_doc_comments` or, if `any` is true, of `with_any_doc_comments`.
+fn commented(alloc: Global, text: &str, any: bool) -> Result<String, RelayoutError>
+    ensures ok { IfOk result (λ out. IsCommented any (chars text.now) (chars (string_bytes out))) }
     ensures no_piece { IfErr result (IfNoPiece (HasNoCover (chars text.now))) }
 {
     let mut out = TextBuilder::with_room(alloc, text.len())?;
@@ -58,13 +84,13 @@ pub fn with_doc_comments(alloc: Global, text: &str) -> Result<String, RelayoutEr
             first = false;
             continue;
         }
-        if let Some(after) = push_comment(alloc, &mut out, kept, rest, free)? {
+        if let Some(after) = push_comment(alloc, &mut out, kept, rest, free, any)? {
             kept = after;
             rest = after;
             first = false;
             continue;
         }
-        let Some((after, is_free)) = past_piece(rest, first, free) else {
+        let Some((after, is_free)) = past_piece(rest, first, free, any) else {
             return Err(RelayoutError::NoPiece);
         };
         rest = after;
@@ -101,12 +127,13 @@ fn push_comment<'a>(
     kept: &str,
     text: &'a str,
     free: bool,
+    any: bool,
 ) -> Result<Option<&'a str>, AllocError>
     requires { (front : List ℕ) × (chars kept.now ≡ front ++ chars text.now) }
     ensures found { IfOk result (λ found. MatchOption found
-        ((IsTrue free → HasNoAttribute (chars text.now)) × (out.new ≡ out.old))
+        ((IsTrue free → HasNoAttribute any (chars text.now)) × (out.new ≡ out.old))
         (λ rest. (free ≡ true)
-        × BecomesComment (chars kept.now) (chars text.now) (chars rest.now) out.old out.new)) }
+        × BecomesComment any (chars kept.now) (chars text.now) (chars rest.now) out.old out.new)) }
     ensures utf8 { IfOk result (λ found. IfSome found (λ rest. IsUtf8 rest.now)) }
 {
     if !free {
@@ -115,7 +142,7 @@ fn push_comment<'a>(
     if !begins(text, "#") {
         return Ok(None);
     }
-    push_attribute(alloc, out, kept, text)
+    push_attribute(alloc, out, kept, text, any)
 }
 
 /// Does the work of `push_comment` for a text that only white space precedes on its line.
@@ -125,11 +152,12 @@ fn push_attribute<'a>(
     out: &mut TextBuilder,
     kept: &str,
     text: &'a str,
+    any: bool,
 ) -> Result<Option<&'a str>, AllocError>
     requires { (front : List ℕ) × (chars kept.now ≡ front ++ chars text.now) }
     ensures found { IfOk result (λ found. MatchOption found
-        (HasNoAttribute (chars text.now) × (out.new ≡ out.old))
-        (λ rest. BecomesComment (chars kept.now) (chars text.now) (chars rest.now) out.old out.new)) }
+        (HasNoAttribute any (chars text.now) × (out.new ≡ out.old))
+        (λ rest. BecomesComment any (chars kept.now) (chars text.now) (chars rest.now) out.old out.new)) }
     ensures utf8 { IfOk result (λ found. IfSome found (λ rest. IsUtf8 rest.now)) }
 {
     let Some((inner, after)) = past_front(text) else {
@@ -138,64 +166,59 @@ fn push_attribute<'a>(
     // Most literals hold their text as it is or with short escapes. These are read without the lexer.
     if let Some((front, more)) = plain_front(after) {
         if let Some(end) = TextCursor::new(more).past("\"]\n") {
-            return push_doc(out, kept, text, inner, front, end.rest);
+            return push_doc(alloc, out, kept, text, inner, any, front, end.rest);
         }
         if let Some((doc_body, rest)) = escaped_text(alloc, front, more)? {
-            return push_doc(out, kept, text, inner, doc_body.as_str(), rest);
+            return push_doc(alloc, out, kept, text, inner, any, doc_body.as_str(), rest);
         }
     }
     let Some((literal, rest)) = split_literal(after) else {
         return Ok(None);
     };
-    let Some(doc_body) = text_of(alloc, literal)? else {
+    let Some(doc_body) = text_of(alloc, literal, any)? else {
         return Ok(None);
     };
-    push_doc(out, kept, text, inner, doc_body.as_str(), rest)
+    push_doc(alloc, out, kept, text, inner, any, doc_body.as_str(), rest)
 }
 
-/// Writes the comment for an attribute whose text is `doc_body`, if a one-line comment can hold that text, and returns
-/// `rest`, which follows the attribute's line. Otherwise it returns `None` and writes nothing.
+/// Writes the comment for an attribute whose text is `doc_body`, if a comment can hold that text, and returns `rest`,
+/// which follows the attribute's line. Otherwise it returns `None` and writes nothing.
 fn push_doc<'a>(
+    alloc: Global,
     out: &mut TextBuilder,
     kept: &str,
     text: &str,
     inner: bool,
+    any: bool,
     doc_body: &str,
     rest: &'a str,
 ) -> Result<Option<&'a str>, AllocError>
     requires kept { (front : List ℕ) × (chars kept.now ≡ front ++ chars text.now) }
-    requires is { chars text.now
-        ≡ attribute_front inner ++ (string_text (chars doc_body.now) ++ (codes "]\n" ++ chars rest.now)) }
+    requires is { (literal : List ℕ)
+        × IsAttribute any (chars text.now) inner literal (chars doc_body.now) (chars rest.now) }
     ensures found { IfOk result (λ found. MatchOption found
-        (HasNoAttribute (chars text.now) × (out.new ≡ out.old))
-        (λ rest. BecomesComment (chars kept.now) (chars text.now) (chars rest.now) out.old out.new)) }
+        (HasNoAttribute any (chars text.now) × (out.new ≡ out.old))
+        (λ rest. BecomesComment any (chars kept.now) (chars text.now) (chars rest.now) out.old out.new)) }
     ensures utf8 { IfOk result (λ found. IfSome found (λ rest. IsUtf8 rest.now)) }
 {
-    if !is_doc_line(inner, doc_body) {
+    let Some((front, end)) = form_of(alloc, inner, any, doc_body)? else {
         return Ok(None);
-    }
+    };
     out.push_text(before(kept, text))?;
-    out.push_text(front_of(inner))?;
+    out.push_text(front)?;
     out.push_text(doc_body)?;
-    out.push('\n')?;
+    out.push_text(end)?;
     Ok(Some(rest))
-}
-
-/// Returns `//!` for an inner comment and `///` for an outer one.
-fn front_of(inner: bool) -> &'static str
-    ensures { result.now ≡ comment_front inner }
-{
-    if inner { "//!" } else { "///" }
 }
 
 /// Returns what follows the piece at the start of the text, and whether only white space precedes that on its line.
 /// `free` says whether only white space precedes the piece on its line. If so, no attribute that becomes a comment may
 /// begin there. Returns `None` if no piece begins there.
 #[inline(always)]
-fn past_piece(text: &str, first: bool, free: bool) -> Option<(&str, bool)>
-    requires { IsTrue free → HasNoAttribute (chars text.now) }
+fn past_piece(text: &str, first: bool, free: bool, _any: bool) -> Option<(&str, bool)>
+    requires { IsTrue free → HasNoAttribute _any (chars text.now) }
     ensures found { MatchOption result (HasNoPiece first (chars text.now))
-        (λ next. (part : Part) × IsFirstPart first free (chars text.now) part (chars next.0.now)
+        (λ next. (part : Part) × IsFirstPart _any first free (chars text.now) part (chars next.0.now)
         × (next.1 ≡ is_free free part) × (chars text.now ≡ onto (new_part part) [] ++ chars next.0.now)) }
     ensures utf8 { IfSome result (λ next. IsUtf8 next.0.now) }
 {
@@ -254,17 +277,22 @@ fn split_literal(text: &str) -> Option<(&str, &str)>
     Some((&text[..bytes], end.rest))
 }
 
-/// Returns the text for which `Literal::string` writes this literal, if there is one.
-fn text_of(alloc: Global, literal: &str) -> Result<Option<String>, AllocError>
+/// Returns the text that this literal spells, if there is one. If `any` is false, the literal must be the one that
+/// `Literal::string` writes for the text.
+fn text_of(alloc: Global, literal: &str, any: bool) -> Result<Option<String>, AllocError>
+    requires { IsWholeLiteral (chars literal.now) }
     ensures { IfOk result (λ found. MatchOption found
-        ((text : List ℕ) → IsText text → chars literal.now ≡ string_text text → ⊥)
-        (λ text. chars literal.now ≡ string_text (chars (string_bytes text)))) }
+        ((text : List ℕ) → IsText text → Spells any (chars literal.now) text → ⊥)
+        (λ text. Spells any (chars literal.now) (chars (string_bytes text)))) }
 {
-    if !Literal::is_whole(literal) {
-        return Ok(None);
-    }
     match Literal::from_str_unchecked(alloc, literal)?.str_value(alloc) {
-        Ok(text) => same_literal(alloc, literal, text),
+        Ok(text) => {
+            if any {
+                Ok(Some(text))
+            } else {
+                same_literal(alloc, literal, text)
+            }
+        }
         Err(ConversionErrorKind::Memory(error)) => Err(error),
         Err(ConversionErrorKind::InvalidLiteralKind) => Ok(None),
         Err(ConversionErrorKind::FailedToUnescape(_)) => Ok(None),
@@ -290,20 +318,4 @@ fn is_same(text: &str, other: &str) -> bool
     ensures { IsTrue result ↔ (chars text.now ≡ chars other.now) }
 {
     text == other
-}
-
-/// Whether a doc comment of one line can hold the text.
-fn is_doc_line(inner: bool, text: &str) -> bool
-    ensures { result ≡ is_doc_line inner (chars text.now) }
-{
-    is_in_line(text) && (inner || !begins(text, "/"))
-}
-
-/// Whether the text has neither LF nor CR in it.
-fn is_in_line(text: &str) -> bool
-    ensures { result ≡ list_all in_line (chars text.now) }
-{
-    skip_to_either(TextCursor::new(text), b'\n', b'\r')
-        .rest
-        .is_empty()
 }

@@ -1,11 +1,11 @@
-//! The error of `relayout` and `with_doc_comments`.
+//! The error of the calls of this crate.
 ghost use Rattle.std.specs.Prelude.{◌≡◌};
 
 use std::alloc::AllocError;
 use std::error::Error;
 use std::fmt;
 
-/// Why `relayout` or `with_doc_comments` returned no text.
+/// Why `relayout`, `with_doc_comments` or `with_any_doc_comments` returned no text.
 #[derive(Debug, Drop, PartialEq, Eq)]
 pub enum RelayoutError {
     /// No pieces cover the text: somewhere in it no piece begins.

@@ -19,10 +19,13 @@ pub fn tokens_stay()
     ensures { TokensStay }
 {}
 
-/// If doc comments replace the attributes that they are read as, the text parses to the same tokens up to spans.
+/// If doc comments replace attributes of the same texts, the text parses to the same tokens up to spans, except that a
+/// doc literal may become another spelling of its value.
 ///
-/// Each attribute must begin its line and end it, and a one-line comment must be able to hold its text (`doc-line`):
-/// the text has no LF and no CR, and after `///` it does not begin with a slash.
+/// Each attribute must begin its line and end it, and a comment must be able to hold its text. A one-line comment holds
+/// a text that has no LF and no CR, and does not begin with a slash after `///` (`doc-line`). A block holds a text that
+/// has no CR and that the block is read as (`doc-block`). If all comments have one line, and all literals are spelled
+/// as `Literal::string` writes them, no spelling changes.
 ///
 /// Example: `#[doc = " a"]` and LF may become `/// a` and LF, and `# ![doc = "/b"]` and LF may become `//!/b` and LF.
 pub fn comments_stay()

@@ -2,7 +2,7 @@
 use proc_macro2::{Delimiter, Group, Literal, Span, TokenStream, TokenTree};
 use proved_macros::proved_tokens::pm_stream::{Group as OwnGroup, TokenStream as OwnStream, TokenTree as OwnTree};
 use proved_macros::proved_tokens::pm_token::Delimiter as OwnDelimiter;
-use proved_macros::{from_proved, to_proved, Spans};
+use proved_macros::{from_proved, pretty, to_proved, Spans};
 
 /// Leaves an item as it is, after it went over to a proved stream and came back.
 #[proc_macro_attribute]
@@ -108,4 +108,43 @@ pub fn literals_as_read(input: proc_macro::TokenStream) -> proc_macro::TokenStre
         count += 1;
     }
     TokenStream::from(TokenTree::from(Literal::usize_unsuffixed(count))).into()
+}
+
+/// Compares what the compiler reads of each doc comment that `pretty` writes with the text of its attribute, for all
+/// texts of up to five of some characters, and answers how many comments there were.
+#[proc_macro]
+pub fn docs_as_read(_: proc_macro::TokenStream) -> proc_macro::TokenStream {
+    let mut texts = vec![String::new()];
+    let mut from = 0;
+    for _ in 0..5 {
+        let to = texts.len();
+        for index in from..to {
+            texts.extend([' ', '\n', '*', '/', '!', 'a'].map(|c| format!("{}{c}", texts[index])));
+        }
+        from = to;
+    }
+    let mut count = 0;
+    for text in &texts {
+        for front in ["#", "# !"] {
+            let attribute = format!("{front} [doc = r\"{text}\"]").parse().expect("it is an attribute");
+            let written = pretty(&attribute).expect("it is spaced well");
+            if written.starts_with('/') {
+                let read: TokenStream = written.parse().expect("it is a comment");
+                let own = to_proved(&read, &mut Spans::new()).expect("the compiler's tokens are of the grammar");
+                assert_eq!(own.trees().len(), front.len() / 2 + 2, "of {written:?}");
+                let value = own.trees().last().and_then(doc_value);
+                assert_eq!(value.as_deref(), Some(text.as_str()), "of {written:?}");
+                count += 1;
+            }
+        }
+    }
+    TokenStream::from(TokenTree::from(Literal::usize_unsuffixed(count))).into()
+}
+
+/// The text of a doc attribute's group.
+fn doc_value(tree: &OwnTree) -> Option<String> {
+    match tree {
+        OwnTree::Group(group) => group.doc()?.str_value().ok(),
+        _ => None,
+    }
 }

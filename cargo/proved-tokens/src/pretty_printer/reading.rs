@@ -75,7 +75,8 @@ fn has_statements(trees: &[TokenTree]) -> bool {
 
 /// Returns the atom of a literal with this text. It needs several lines if its text has several.
 fn literal_atom(text: &str) -> Atom {
-    let word = match text.starts_with("\"") {
+    // A raw string begins with `r`.
+    let word = match text.starts_with("\"") || text.starts_with("r") {
         true => Lexeme::String,
         false => Lexeme::Literal,
     };

@@ -2,8 +2,9 @@
 //! Writes the doc attributes of a text as doc comments.
 
 use crate::relayout::errors::RelayoutError;
+use crate::relayout::forms::form_of;
 use crate::relayout::literals::{escaped_text, plain_front};
-use crate::lexical::parts::{TextCursor, before, begins, skip_to_either};
+use crate::lexical::parts::{TextCursor, before, begins};
 use crate::lexical::{PieceKind, literal_at, past_white, piece_at};
 use crate::pm_token::parts::{TextBuilder, string_literal};
 use crate::pm_token::{ConversionErrorKind, Literal};
@@ -25,18 +26,56 @@ use crate::shim::alloc::AllocError;
 ///
 /// # Contract
 ///
-/// - `ensures ok`: <code>[IfOk] result (λ out. [IsCommented] ([chars] text.now) ([chars] ([string_bytes]
-///   out)))</code>
+/// - `ensures ok`: <code>[IfOk] result (λ out. [IsCommented] [false] ([chars] text.now) ([chars]
+///   ([string_bytes] out)))</code>
 /// - `ensures no_piece`: <code>[IfErr] result ([IfNoPiece] ([HasNoCover] ([chars] text.now)))</code>
 ///
 /// [IfOk]: crate::contracts#std.IfOk
 /// [IsCommented]: crate::contracts#relayout.Comments.IsCommented
+/// [false]: crate::contracts#std.false
 /// [chars]: crate::contracts#std.chars
 /// [string_bytes]: crate::contracts#std.string_bytes
 /// [IfErr]: crate::contracts#std.IfErr
 /// [IfNoPiece]: crate::contracts#relayout.Relaid.IfNoPiece
 /// [HasNoCover]: crate::contracts#relayout.Relaid.HasNoCover
 pub fn with_doc_comments(text: &str) -> Result<String, RelayoutError>
+{
+    commented(text, false)
+}
+
+/// Returns the text with its doc attributes written as doc comments, whatever the spelling of their literals.
+///
+/// It writes the comments of `with_doc_comments`, and more. A literal may be spelled in any way, as `r" a"`, which
+/// rustc makes of `/// a` in a macro. An attribute whose text no one-line comment can hold becomes `/**..*/` or
+/// `/*!..*/`, if that comment is read as this text and the text has no CR. The returned text parses to the same tokens
+/// up to spans, but a doc literal may become another spelling of its value. Everything else stays as it is.
+///
+/// Returns `NoPiece` if no pieces cover the text, and `Memory` if memory runs out. Delimiters need not match. The call
+/// takes time proportional to the length of the text.
+///
+/// Example: `#[doc = r" a"]`, LF, `#[doc = "b\nc"]` and LF become `/// a`, LF, `/**b`, LF, `c*/` and LF.
+///
+/// # Contract
+///
+/// - `ensures ok`: <code>[IfOk] result (λ out. [IsCommented] [true] ([chars] text.now) ([chars] ([string_bytes]
+///   out)))</code>
+/// - `ensures no_piece`: <code>[IfErr] result ([IfNoPiece] ([HasNoCover] ([chars] text.now)))</code>
+///
+/// [IfOk]: crate::contracts#std.IfOk
+/// [IsCommented]: crate::contracts#relayout.Comments.IsCommented
+/// [true]: crate::contracts#std.true
+/// [chars]: crate::contracts#std.chars
+/// [string_bytes]: crate::contracts#std.string_bytes
+/// [IfErr]: crate::contracts#std.IfErr
+/// [IfNoPiece]: crate::contracts#relayout.Relaid.IfNoPiece
+/// [HasNoCover]: crate::contracts#relayout.Relaid.HasNoCover
+pub fn with_any_doc_comments(text: &str) -> Result<String, RelayoutError>
+{
+    commented(text, true)
+}
+
+/// Does the work of `with_doc_comments` or, if `any` is true, of `with_any_doc_comments`.
+fn commented(text: &str, any: bool) -> Result<String, RelayoutError>
 {
     let mut out = TextBuilder::with_room(text.len())?;
     // `kept` is the text that is not written yet, and `rest` its end that is not read yet. What is kept is copied in
@@ -54,13 +93,13 @@ pub fn with_doc_comments(text: &str) -> Result<String, RelayoutError>
             first = false;
             continue;
         }
-        if let Some(after) = push_comment(&mut out, kept, rest, free)? {
+        if let Some(after) = push_comment(&mut out, kept, rest, free, any)? {
             kept = after;
             rest = after;
             first = false;
             continue;
         }
-        let Some((after, is_free)) = past_piece(rest, first, free) else {
+        let Some((after, is_free)) = past_piece(rest, first, free, any) else {
             return Err(RelayoutError::NoPiece);
         };
         rest = after;
@@ -94,6 +133,7 @@ fn push_comment<'a>(
     kept: &str,
     text: &'a str,
     free: bool,
+    any: bool,
 ) -> Result<Option<&'a str>, AllocError>
 {
     if !free {
@@ -102,7 +142,7 @@ fn push_comment<'a>(
     if !begins(text, "#") {
         return Ok(None);
     }
-    push_attribute(out, kept, text)
+    push_attribute(out, kept, text, any)
 }
 
 /// Does the work of `push_comment` for a text that only white space precedes on its line.
@@ -111,6 +151,7 @@ fn push_attribute<'a>(
     out: &mut TextBuilder,
     kept: &str,
     text: &'a str,
+    any: bool,
 ) -> Result<Option<&'a str>, AllocError>
 {
     let Some((inner, after)) = past_front(text) else {
@@ -119,53 +160,48 @@ fn push_attribute<'a>(
     // Most literals hold their text as it is or with short escapes. These are read without the lexer.
     if let Some((front, more)) = plain_front(after) {
         if let Some(end) = TextCursor::new(more).past("\"]\n") {
-            return push_doc(out, kept, text, inner, front, end.rest);
+            return push_doc(out, kept, text, inner, any, front, end.rest);
         }
         if let Some((doc_body, rest)) = escaped_text(front, more)? {
-            return push_doc(out, kept, text, inner, doc_body.as_str(), rest);
+            return push_doc(out, kept, text, inner, any, doc_body.as_str(), rest);
         }
     }
     let Some((literal, rest)) = split_literal(after) else {
         return Ok(None);
     };
-    let Some(doc_body) = text_of(literal)? else {
+    let Some(doc_body) = text_of(literal, any)? else {
         return Ok(None);
     };
-    push_doc(out, kept, text, inner, doc_body.as_str(), rest)
+    push_doc(out, kept, text, inner, any, doc_body.as_str(), rest)
 }
 
-/// Writes the comment for an attribute whose text is `doc_body`, if a one-line comment can hold that text, and returns
-/// `rest`, which follows the attribute's line. Otherwise it returns `None` and writes nothing.
+/// Writes the comment for an attribute whose text is `doc_body`, if a comment can hold that text, and returns `rest`,
+/// which follows the attribute's line. Otherwise it returns `None` and writes nothing.
 fn push_doc<'a>(
     out: &mut TextBuilder,
     kept: &str,
     text: &str,
     inner: bool,
+    any: bool,
     doc_body: &str,
     rest: &'a str,
 ) -> Result<Option<&'a str>, AllocError>
 {
-    if !is_doc_line(inner, doc_body) {
+    let Some((front, end)) = form_of(inner, any, doc_body)? else {
         return Ok(None);
-    }
+    };
     out.push_text(before(kept, text))?;
-    out.push_text(front_of(inner))?;
+    out.push_text(front)?;
     out.push_text(doc_body)?;
-    out.push('\n')?;
+    out.push_text(end)?;
     Ok(Some(rest))
-}
-
-/// Returns `//!` for an inner comment and `///` for an outer one.
-fn front_of(inner: bool) -> &'static str
-{
-    if inner { "//!" } else { "///" }
 }
 
 /// Returns what follows the piece at the start of the text, and whether only white space precedes that on its line.
 /// `free` says whether only white space precedes the piece on its line. If so, no attribute that becomes a comment may
 /// begin there. Returns `None` if no piece begins there.
 #[cfg_attr(not(debug_assertions), inline(always))]
-fn past_piece(text: &str, first: bool, free: bool) -> Option<(&str, bool)>
+fn past_piece(text: &str, first: bool, free: bool, _any: bool) -> Option<(&str, bool)>
 {
     let Some(piece) = piece_at(text, first) else {
         return None;
@@ -211,14 +247,18 @@ fn split_literal(text: &str) -> Option<(&str, &str)>
     Some((&text[..bytes], end.rest))
 }
 
-/// Returns the text for which `Literal::string` writes this literal, if there is one.
-fn text_of(literal: &str) -> Result<Option<String>, AllocError>
+/// Returns the text that this literal spells, if there is one. If `any` is false, the literal must be the one that
+/// `Literal::string` writes for the text.
+fn text_of(literal: &str, any: bool) -> Result<Option<String>, AllocError>
 {
-    if !Literal::is_whole(literal) {
-        return Ok(None);
-    }
     match Literal::from_str_unchecked(literal)?.str_value() {
-        Ok(text) => same_literal(literal, text),
+        Ok(text) => {
+            if any {
+                Ok(Some(text))
+            } else {
+                same_literal(literal, text)
+            }
+        }
         Err(ConversionErrorKind::Memory(error)) => Err(error),
         Err(ConversionErrorKind::InvalidLiteralKind) => Ok(None),
         Err(ConversionErrorKind::FailedToUnescape(_)) => Ok(None),
@@ -240,18 +280,4 @@ fn same_literal(literal: &str, text: String) -> Result<Option<String>, AllocErro
 fn is_same(text: &str, other: &str) -> bool
 {
     text == other
-}
-
-/// Whether a doc comment of one line can hold the text.
-fn is_doc_line(inner: bool, text: &str) -> bool
-{
-    is_in_line(text) && (inner || !begins(text, "/"))
-}
-
-/// Whether the text has neither LF nor CR in it.
-fn is_in_line(text: &str) -> bool
-{
-    skip_to_either(TextCursor::new(text), b'\n', b'\r')
-        .rest
-        .is_empty()
 }

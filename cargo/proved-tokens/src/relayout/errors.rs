@@ -1,10 +1,10 @@
 // Made from crates/relayout/src/errors.rt by dev/erase: change that file, not this one.
-//! The error of `relayout` and `with_doc_comments`.
+//! The error of the calls of this crate.
 
 use crate::shim::alloc::AllocError;
 use crate::shim::fmt;
 
-/// Why `relayout` or `with_doc_comments` returned no text.
+/// Why `relayout`, `with_doc_comments` or `with_any_doc_comments` returned no text.
 #[derive(Debug, PartialEq, Eq)]
 #[non_exhaustive]
 pub enum RelayoutError {

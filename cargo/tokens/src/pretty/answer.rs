@@ -7,11 +7,11 @@ use crate::messages::Failure;
 use proved_tokens::pretty_printer::to_pretty_string;
 use proved_tokens::proc_macro2::{SourceMap, TokenStream};
 use proved_tokens::quoting::QuoteError;
-use proved_tokens::relayout::{RelayoutError, with_doc_comments};
+use proved_tokens::relayout::{RelayoutError, with_any_doc_comments};
 use proved_tokens::shim::io::Write;
 
-/// Writes the tokens of the text, in a layout that reads back to them. Doc comments replace the attributes that they
-/// are read as. The line `#!..` at the start of a script comes first.
+/// Writes the tokens of the text, in a layout that reads back to them, up to the spelling of doc literals. Doc comments
+/// replace the doc attributes whose texts they can hold. The line `#!..` at the start of a script comes first.
 ///
 /// Returns how many plain comments the text has, which are left out. If it has some and `deny` is true, nothing is
 /// written.
@@ -63,7 +63,7 @@ fn pretty_text(stream: &TokenStream) -> Result<String, Failure>
         Err(QuoteError::NoneGroup | QuoteError::LoneQuote) => unreachable!(),
     _ => unreachable!("each case is above"),
 };
-    match with_doc_comments(pretty.as_str()) {
+    match with_any_doc_comments(pretty.as_str()) {
         Ok(text) => Ok(text),
         Err(RelayoutError::Memory(_)) => Err(Failure::Memory),
         Err(RelayoutError::NoPiece) => unreachable!(),

@@ -21,6 +21,6 @@ returns-clause-found c =
     ap chars c.split_at.ensures.back
     ∙ piece_rest c.args.first c.args.text.now c.in-Some.piece c.utf8.text found in
     let whole : chars c.args.text.now ≡ own ++ after = found.whole ∙ sym (ap₂ (λ p r. p ++ r) front rest) in
-    let part = piece_part c.args.first c.args.free _ (chars c.args.text.now) own after [] own
+    let part = piece_part c.args._any c.args.first c.args.free _ (chars c.args.text.now) own after [] own
     (kind_of c.in-Some.piece.kind own) whole (rw (front, rest) found.stands) c.requires c.is_free.ensures refl in
     (part.0, part.1, part.2, whole ∙ ap (λ p. p ++ after) part.3)

@@ -1,0 +1,91 @@
+// Made from crates/relayout/src/forms.rt by dev/erase: change that file, not this one.
+//! The doc comment that can hold a text.
+
+use crate::lexical::parts::{TextCursor, begins, skip_to, skip_to_either};
+use crate::lexical::{PieceKind, piece_at};
+use crate::pm_token::parts::TextBuilder;
+use crate::shim::alloc::AllocError;
+
+/// Returns what precedes and what follows the text in a doc comment and the LF after it. This is a comment of one line
+/// or, if `blocks` is true and no line can hold the text, a block. Returns `None` if no such comment can hold the text.
+pub(crate) fn form_of(
+    inner: bool,
+    blocks: bool,
+    doc_body: &str,
+) -> Result<Option<(&'static str, &'static str)>, AllocError>
+{
+    if is_doc_line(inner, doc_body) {
+        return Ok(Some((front_of(inner), "\n")));
+    }
+    if !blocks {
+        return Ok(None);
+    }
+    if is_doc_block(inner, doc_body)? {
+        Ok(Some((block_front_of(inner), "*/\n")))
+    } else {
+        Ok(None)
+    }
+}
+
+/// Returns `//!` for an inner comment and `///` for an outer one.
+fn front_of(inner: bool) -> &'static str
+{
+    if inner { "//!" } else { "///" }
+}
+
+/// Returns `/*!` for an inner comment and `/**` for an outer one.
+fn block_front_of(inner: bool) -> &'static str
+{
+    if inner { "/*!" } else { "/**" }
+}
+
+/// Whether a doc comment of one line can hold the text.
+fn is_doc_line(inner: bool, text: &str) -> bool
+{
+    is_in_line(text) && (inner || !begins(text, "/"))
+}
+
+/// Whether the text has neither LF nor CR in it.
+fn is_in_line(text: &str) -> bool
+{
+    skip_to_either(TextCursor::new(text), b'\n', b'\r')
+        .rest
+        .is_empty()
+}
+
+/// Whether the text has no CR in it. rustc reads a CR LF of a comment as LF, but not that of a literal.
+fn has_no_return(text: &str) -> bool
+{
+    skip_to(TextCursor::new(text), b'\r').rest.is_empty()
+}
+
+/// Whether a block doc comment can hold the text. The comment is read to find out.
+fn is_doc_block(inner: bool, doc_body: &str) -> Result<bool, AllocError>
+{
+    if !has_no_return(doc_body) {
+        return Ok(false);
+    }
+    let mut comment = TextBuilder::with_room(doc_body.len())?;
+    comment.push_text(block_front_of(inner))?;
+    comment.push_text(doc_body)?;
+    comment.push_text("*/")?;
+    Ok(is_doc(comment.into_string().as_str(), inner, doc_body))
+}
+
+/// Whether the whole text is a doc comment with the text `doc_body`.
+fn is_doc(comment: &str, inner: bool, doc_body: &str) -> bool
+{
+    let Some(piece) = piece_at(comment, false) else {
+        return false;
+    };
+    if piece.bytes != comment.len() {
+        return false;
+    }
+    match piece.kind {
+        PieceKind::Doc {
+            inner: is_inner,
+            text,
+        } => is_inner == inner && text == doc_body,
+        _ => false,
+    }
+}
