@@ -26,7 +26,7 @@ METHODS = set('''
     copied debug_list debug_struct encode_utf8 entry escape_unicode extend_from_slice
     field filter find finish first first_chunk fmt format from_mut get get_mut hash
     ilog10 insert into_bytes into_iter into_string is_ascii is_ascii_alphabetic is_ascii_alphanumeric is_ascii_digit
-    is_ascii_hexdigit is_char_boundary is_digit is_empty is_err is_none is_ok is_some is_whitespace iter
+    is_ascii_hexdigit is_char_boundary is_digit is_empty is_err is_none is_ok is_some is_whitespace iter iter_mut
     kind last len len_utf8 lines map max min next next_back ok or_else parse partition_point pop pop_front push
     push_reserved push_str
     range read read_to_end remove reserve resize rev reverse saturating_add saturating_mul saturating_sub shrink_to_fit

@@ -840,11 +840,6 @@
 //!   spaced
 //! - <a id="pretty_printer.Laws.WasWellSpaced"></a>**WasWellSpaced**: a stream is well spaced if it is when it
 //!   is joined
-//! - <a id="pretty_printer.Joined.begins_operator"></a>**begins_operator**: whether the two marks begin an
-//!   operator or a comment if they are written close
-//! - <a id="pretty_printer.Joined.joined"></a>**joined**: `joined`: the same trees with the same spans, in
-//!   which each mark that is wanted and may be joined is Joint. `wants` has an answer for each mark in reading
-//!   order
 //!
 //! # Words of `proc_macro2`
 //!
@@ -885,6 +880,8 @@
 //!   spacings makes the stream well spaced
 //! - <a id="quoting.Fault.IsFaultOf"></a>**IsFaultOf**: the error is the `first-fault` of the stream, unless it
 //!   is `Memory`
+//! - <a id="quoting.Joined.IsJoined"></a>**IsJoined**: some marks of the stream are joined, and nothing else is
+//!   changed
 //! - <a id="quoting.TextFault.IsTextFault"></a>**IsTextFault**: the error is that of the template, or the
 //!   syntax error of its text. After `Memory` the text parses; after `Parse(Memory)` nothing is known
 //! - <a id="quoting.Choice.KeepsAllItMay"></a>**KeepsAllItMay**: if some well spaced choice of spacings keeps
@@ -902,6 +899,8 @@
 //! - <a id="quoting.Laws.WellSpacedWithoutFault"></a>**WellSpacedWithoutFault**: a respaced stream without a
 //!   `first-fault` is well spaced
 //! - <a id="quoting.Items.and_last"></a>**and_last**: the list with one more value at the end
+//! - <a id="quoting.Joined.begins_operator"></a>**begins_operator**: whether the two marks begin an operator or
+//!   a comment if they are written close
 //! - <a id="quoting.Items.each_of"></a>**each_of**: the list of the values of `xs`
 //! - <a id="quoting.Items.end"></a>**end**: the values of a list, in order. Each is trees, or the reason why it
 //!   has none, or a list

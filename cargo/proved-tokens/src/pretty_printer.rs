@@ -11,7 +11,6 @@ mod atoms;
 mod chosen;
 mod expressions;
 mod groups;
-mod join;
 pub mod laws;
 mod limits;
 mod lines;
@@ -24,10 +23,10 @@ mod signs;
 mod tree;
 
 use chosen::Chosen;
-use join::join;
 use crate::layout::{Chooser, Gap, GapContext, LayoutError, text_with};
 use printer::Printer;
 use crate::proc_macro2::TokenStream;
+use crate::quoting::join::join_marks;
 use crate::quoting::{Quote, QuoteError};
 
 impl Chooser for Chosen {
@@ -94,11 +93,11 @@ fn lay_out(stream: &TokenStream) -> Result<String, LayoutError>
 {
     laws::joining();
     let mut chosen = Printer::new(stream)?.choose()?;
-    if !chosen.wants_any() {
+    if chosen.visits().is_empty() {
         let text = text_with(stream, &mut chosen)?;
         return Ok(text);
     }
-    let joined = join(stream, chosen.wants())?;
+    let joined = join_marks(stream, chosen.visits())?;
     let text = text_with(&joined, &mut chosen)?;
     Ok(text)
 }

@@ -10,7 +10,7 @@ use Rattle.proc_macro2.specs.Same.{without_spans}
 use Rattle.proc_macro2.specs.Parsing.{ParsesTo}
 use Rattle.layout.specs.Layout.{IsLayout}
 use Rattle.layout.specs.Writing.{ReadsBack}
-use Rattle.pretty_printer.specs.Joined.{joined}
+use Rattle.quoting.specs.Joined.{joined}
 use Rattle.relayout.specs.Comments.{IsCommented}
 use Rattle.relayout.specs.Docs.{AreAlike}
 use Rattle.relayout.specs.Relaid.{HasNoCover}

@@ -8,7 +8,7 @@ use Rattle.proc_macro2.specs.Forest.{Forest}
 use Rattle.proc_macro2.specs.Parsing.{ParsesTo}
 use Rattle.messages.specs.Parsed.{first}
 use Rattle.layout.specs.Layout.{IsLayout}
-use Rattle.pretty_printer.specs.Joined.{joined}
+use Rattle.quoting.specs.Joined.{joined}
 use Rattle.relayout.specs.Comments.{IsCommented}
 use Rattle.relayout.specs.Docs.{GivesDocs}
 use Rattle.pretty.specs.Comments.{comments}

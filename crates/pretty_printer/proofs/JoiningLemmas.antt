@@ -9,8 +9,8 @@ use Rattle.proc_macro2.specs.Forest.{Forest, nil, leaf, group}
 use Rattle.proc_macro2.specs.Token.{Token, Name, Mark, Literal}
 use Rattle.proc_macro2.specs.WellSpaced.{fits, follows_joint, follows_quote, next_token, well_spaced, IsWellSpaced}
 use Rattle.quoting.specs.Choice.{all_alone, unspaced_token}
-use Rattle.pretty_printer.specs.Joined.{first_want, joined, joined_token, may_join, past_stream}
-use Rattle.pretty_printer.specs.Joined.{operator_fronts, past_token}
+use Rattle.quoting.specs.Joined.{first_want, joined, joined_token, may_join, past_stream}
+use Rattle.quoting.specs.Joined.{operator_fronts, past_token}
 
 -- ---- only spacings change
 

@@ -1,6 +1,2 @@
 mod PrettyTextLemmas
 mod JoiningLemmas
-mod JoinedPartLemmas
-mod JoinedListLemmas
-mod ArrayLemmas
-mod PushLemmas

@@ -5,7 +5,7 @@ use Rattle.layout.specs.Writing.{ReadsBack}
 use Rattle.proc_macro2.specs.Forest.{Forest}
 use Rattle.proc_macro2.specs.WellSpaced.{IsWellSpaced}
 use Rattle.quoting.specs.Choice.{IsChoiceFor}
-use Rattle.pretty_printer.specs.Joined.{joined}
+use Rattle.quoting.specs.Joined.{joined}
 use Rattle.pretty_printer.specs.PrettyText.{IsPrettyText}
 
 -- joining changes only spacings

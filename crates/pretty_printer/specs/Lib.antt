@@ -1,4 +1,2 @@
-pub mod Joined
-pub mod JoinedPart
 pub mod PrettyText
 pub mod Laws

@@ -5,7 +5,7 @@ use Rattle.layout.specs.Writing.{ReadsBack}
 use Rattle.proc_macro2.specs.Forest.{Forest}
 use Rattle.proc_macro2.specs.WellSpaced.{IsWellSpaced}
 use Rattle.quoting.specs.Respaced.{respace_marks}
-use Rattle.pretty_printer.specs.Joined.{joined}
+use Rattle.quoting.specs.Joined.{joined}
 
 -- the text is a layout of the stream in which some marks are joined, and reads back to it
 pub record IsJoinedLayout (stream : Forest) (text : List ℕ) : Type 0 where

@@ -179,13 +179,9 @@ impl Atom {
         }
     }
 
-    /// The number of its marks.
-    pub fn marks(&self) -> usize {
-        match self.kind {
-            Kind::Lexeme(Lexeme::Lifetime) => 1,
-            Kind::Sign(_) => self.width,
-            _ => 0,
-        }
+    /// Whether it begins with a mark.
+    pub fn has_marks(&self) -> bool {
+        self.is_sign() || self.is_word(Lexeme::Lifetime)
     }
 
     /// The first mark of an operator or a lifetime. Of an operator that may begin with several marks: `=`.

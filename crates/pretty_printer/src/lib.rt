@@ -18,7 +18,6 @@ mod atoms;
 mod chosen;
 mod expressions;
 mod groups;
-mod join;
 pub mod laws;
 mod limits;
 mod lines;
@@ -31,10 +30,10 @@ mod signs;
 mod tree;
 
 use chosen::Chosen;
-use join::join;
 use layout::{Chooser, Gap, GapContext, LayoutError, text_with};
 use printer::Printer;
 use proc_macro2::TokenStream;
+use quoting::join::join_marks;
 use quoting::{Quote, QuoteError};
 use std::alloc::Global;
 
@@ -94,11 +93,11 @@ fn lay_out(alloc: Global, stream: &TokenStream) -> Result<String, LayoutError>
 {
     laws::joining();
     let mut chosen = Printer::new(alloc, stream)?.choose()?;
-    if !chosen.wants_any() {
+    if chosen.visits().is_empty() {
         let text = text_with(stream, &mut chosen, alloc)?;
         return Ok(text);
     }
-    let joined = join(alloc, stream, chosen.wants())?;
+    let joined = join_marks(alloc, stream, chosen.visits())?;
     let text = text_with(&joined, &mut chosen, alloc)?;
     Ok(text)
 }

@@ -1,30 +1,31 @@
 //! Reads a stream part by part, and chooses the gaps of each.
 use crate::atoms::{Lexeme, Role};
-use crate::chosen::Chosen;
-use crate::join::begins_operator;
+use crate::chosen::{Chosen, ListPosition};
 use crate::reading::{Unread, push_list};
 use crate::roles::assign_roles;
 use crate::tree::{NOWHERE, Tree};
 use layout::Gap;
 use proc_macro2::TokenStream;
+use quoting::join::begins_operator;
 use std::alloc::{AllocError, Global};
 
 /// Chooses the gaps of a stream, one after another.
 #[derive(Drop)]
 pub struct Printer<'a> {
-    /// The stream's own list, and after it the lists inside the groups of the part that is written.
+    /// The stream's own list, and after it the lists inside the groups of the part that is read.
     tree: Tree,
     groups: Vec<Unread<'a>>,
     /// The numbers of nodes and of groups of the stream's own list, whose parts are the last nodes.
     nodes: usize,
     top_groups: usize,
+    /// The index after the last atom of that list.
+    end: usize,
     /// The next part, and the first group of it.
     part: usize,
     next_group: usize,
-    /// The index of the next atom in the list that is written, the one after its last, and those of the lists around.
-    at: usize,
-    end: usize,
-    outer: Vec<(usize, usize)>,
+    /// The list that is read, up to the end of the part, and the lists around it.
+    here: ListPosition,
+    outer: Vec<ListPosition>,
     /// The gaps so far.
     chosen: Chosen,
 }
@@ -45,10 +46,10 @@ impl<'a> Printer<'a> {
             tree,
             top_groups: groups.len(),
             groups,
+            end,
             part,
             next_group: 0,
-            at: first,
-            end,
+            here: ListPosition::new(first, first),
             outer: Vec::new(alloc),
             chosen: Chosen::new(alloc),
         })
@@ -57,17 +58,19 @@ impl<'a> Printer<'a> {
     /// Returns the gaps of the stream.
     pub fn choose(mut self) -> Result<Chosen, AllocError> {
         for _ in 0..usize::MAX {
-            if self.at < self.end {
-                self.step()?;
+            if self.pass_atoms()? {
                 continue;
             }
-            let gap = self.tree.atom(self.at).gap;
-            let Some((at, end)) = self.outer.pop() else {
+            if let Some(around) = self.outer.pop() {
+                let gap = self.tree.atom(self.here.end).gap;
+                let depth = self.outer.len();
+                self.chosen.close(gap, depth)?;
+                self.here = around;
+            } else if self.part < self.nodes {
+                self.lay_part();
+            } else {
                 break;
-            };
-            self.chosen.add(gap, 1)?;
-            self.at = at;
-            self.end = end;
+            }
         }
         match self.tree.failure {
             Some(error) => Err(error),
@@ -75,53 +78,32 @@ impl<'a> Printer<'a> {
         }
     }
 
-    /// Chooses the gap before the next atom of the list.
-    #[inline(always)]
-    fn step(&mut self) -> Result<(), AllocError> {
-        let index = self.at;
-        let in_parts = self.outer.is_empty() && self.part < self.nodes;
-        if in_parts && index == self.tree.node(self.part).first {
-            self.lay_part();
-        }
-        let own = self.tree.atom(index);
-        let (gap, tokens, node) = (own.gap, own.tokens(), own.node);
-        let (group, marks) = (own.is_group(), own.marks());
-        if marks > 0 {
-            if matches!(gap, Gap::Nothing) && self.may_touch(index) {
-                self.chosen.want()?;
+    /// Chooses the gaps before the next atoms of the list, up to a group or the end. Returns whether it enters a group.
+    fn pass_atoms(&mut self) -> Result<bool, AllocError> {
+        let tree = &self.tree;
+        let mut here = self.here;
+        let mut before = tree.previous(here.at);
+        for own in tree.atoms.get(here.at..here.end).unwrap_or(&[]) {
+            let touches = own.has_marks() && before.is_sign() && !before.glued;
+            if touches && matches!(own.gap, Gap::Nothing) && may_touch(tree, here.at) {
+                self.chosen.want(&self.outer, &here)?;
             }
-            self.chosen.pass_marks(marks);
+            self.chosen.add(own.gap)?;
+            here.at = here.at.saturating_add(1);
+            if own.is_group() {
+                let inner = tree.node(own.node);
+                self.outer.push(here)?;
+                self.here = ListPosition::new(inner.from, inner.until);
+                return Ok(true);
+            }
+            for _ in 1..own.tokens() {
+                self.chosen.add(Gap::Nothing)?;
+                here.extra = here.extra.saturating_add(1);
+            }
+            before = own;
         }
-        self.chosen.add(gap, tokens)?;
-        self.at = index.saturating_add(1);
-        if group {
-            let inner = self.tree.node(node);
-            let (from, until) = (inner.from, inner.until);
-            let pushed = self.outer.push((self.at, self.end));
-            self.tree.check(pushed);
-            self.at = from;
-            self.end = until;
-        }
-        Ok(())
-    }
-
-    /// Returns whether the operator before this one or before this lifetime may be written close to it. The marks of an
-    /// inner doc attribute stay Alone, as they are read from `//!`.
-    fn may_touch(&self, index: usize) -> bool {
-        let own = self.tree.atom(index);
-        let before = self.tree.previous(index);
-        let open = before.is_sign() && !before.glued;
-        if !open || begins_operator(before.last_mark(), own.first_mark()) {
-            return false;
-        }
-        let list = self.tree.next(index);
-        if !before.is_mark('#') || !list.is_group() {
-            return true;
-        }
-        let first = self.tree.node(list.node).from;
-        let named = self.tree.atom(first).width == "doc".len();
-        let text = self.tree.atom(first.saturating_add(2));
-        !(named && text.is_word(Lexeme::String))
+        self.here = here;
+        Ok(false)
     }
 
     /// Reads the next part, and breaks its lines.
@@ -139,6 +121,10 @@ impl<'a> Printer<'a> {
         };
         self.tree.set_gap(part.first, gap);
         self.part = self.part.saturating_add(1);
+        self.here.end = match self.part < self.nodes {
+            true => self.tree.node(self.part).first,
+            false => self.end,
+        };
     }
 
     /// Reads and measures the groups of the part that ends here.
@@ -186,4 +172,21 @@ impl<'a> Printer<'a> {
         }
         assign_roles(tree, first, end, own.is_brace(), own.role);
     }
+}
+
+/// Returns whether the operator before this atom, which begins with a mark, may be written close to it. The marks of an
+/// inner doc attribute stay Alone, as they are read from `//!`.
+fn may_touch(tree: &Tree, index: usize) -> bool {
+    let before = tree.previous(index);
+    if begins_operator(before.last_mark(), tree.atom(index).first_mark()) {
+        return false;
+    }
+    let list = tree.next(index);
+    if !before.is_mark('#') || !list.is_group() {
+        return true;
+    }
+    let first = tree.node(list.node).from;
+    let named = tree.atom(first).width == "doc".len();
+    let text = tree.atom(first.saturating_add(2));
+    !(named && text.is_word(Lexeme::String))
 }

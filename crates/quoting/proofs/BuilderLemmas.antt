@@ -7,7 +7,7 @@ use Rattle.proc_macro2.specs.declared.TokenTree.{TokenTree}
 use Rattle.proc_macro2.specs.declared.TokenTree.TheVariants.{Group, Ident, Punct, Literal}
 use Rattle.pm_stream.proofs.TreeLemmas.{IsBuilt-joined, forest-push}
 use Rattle.quoting.proofs.PartLemmas.{joined_assoc, joined_nil}
-use Rattle.quoting.proofs.RespacedListLemmas.{copied_more}
+use Rattle.quoting.proofs.OpenListLemmas.{copied_more}
 
 -- a list with one more tree at the end
 pub built_last : (items new : List TokenTree) (t : TokenTree) → new ≡ items ++ t ∷ [] → IsBuilt (forest items)

@@ -3,7 +3,8 @@ mod SpacingLemmas
 mod SearchLemmas
 mod FaultLemmas
 mod PartLemmas
-mod RespacedListLemmas
+mod OpenListLemmas
+mod JoinLemmas
 mod PushLemmas
 mod Examples
 mod BuilderLemmas

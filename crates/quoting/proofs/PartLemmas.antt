@@ -1,14 +1,16 @@
--- The open lists of `respaced`. Each is the list of the next group in the list around it.
+-- The lists that are open while a stream is changed. Each is the list of the next group in the list around it.
 use Rattle.std.proofs.Common.{◌≡◌, ℕ, ◌+◌, ◌*◌, ◌<◌, Result, Ok, Err, IfOk, List, [], ◌∷◌, ◌++◌, refl, sym, ap, ap₂}
 use Rattle.std.proofs.Common.{subst, ◌∙◌, arith}
 use Rattle.proc_macro2.specs.Forest.{Forest, nil, leaf, group, chain}
 use Rattle.proc_macro2.specs.Trees.{before, forest}
 use Rattle.proc_macro2.specs.Size.{count}
 use Rattle.proc_macro2.specs.WellSpaced.{next_token}
+use Rattle.proc_macro2.specs.declared.Delimiter.{Delimiter}
 use Rattle.proc_macro2.specs.declared.Group.{Group as Grouped}
 use Rattle.proc_macro2.specs.declared.TokenTree.{TokenTree}
 use Rattle.proc_macro2.specs.declared.TokenTree.TheVariants.{Group, Ident, Punct, Literal}
-use Rattle.quoting.specs.Part.{Adds, IsOpen, Part, first_group, part_result, others, respaced_alone}
+use Rattle.quoting.specs.Part.{Adds, IsOpen, Linked, Part, first_group, first_whole, others, part_closed, part_result}
+use Rattle.quoting.specs.Part.{respaced_alone, unwound}
 use Rattle.quoting.specs.Respaced.{respace_marks}
 
 -- ---- joined forests
@@ -25,25 +27,11 @@ joined_assoc (group d lo hi f k) g h = ap (group d lo hi f) (joined_assoc k g h)
 
 -- ---- the outer lists
 
--- the whole list after respacing, if its next group has the given contents
-abbrev pub part_closed : Part → Forest → Forest
-part_closed part inside = chain part.done
-    (chain (first_group part.left inside) (respace_marks (forest (others part.left))))
-
--- the outermost list after respacing, if the innermost list becomes the given trees
-abbrev pub unwound : List Part → Forest → Forest
-unwound [] inside = inside
-unwound (part ∷ parts) inside = part_closed part (unwound parts inside)
-
--- the trees of the first list before respacing, or else the given trees
-abbrev pub first_whole : List Part → Forest → Forest
-first_whole [] whole = whole
-first_whole (part ∷ parts) whole = part.whole
-
--- each list is that of the next group in the list around it. The given trees are the innermost list
-abbrev pub Linked : List Part → Forest → Type 0
-Linked [] whole = Unit {0}
-Linked (part ∷ parts) whole = IsOpen part.left (first_whole parts whole) × Linked parts whole
+-- what becomes of a list's trees is told by its first tree and by the trees after it
+pub record IsByTrees (each : Forest → Forest) : Type 0 where
+  pub none : each nil ≡ nil
+  pub at_group : (d : Delimiter) (lo hi : ℕ) (inside rest : Forest)
+      → each (group d lo hi inside rest) ≡ group d lo hi (each inside) (each rest)
 
 -- the number of trees and group ends that are left after the open groups
 abbrev pub outer_count : List Part → ℕ
@@ -53,10 +41,10 @@ outer_count (part ∷ parts) = 1 + 2 * count (forest (others part.left)) + outer
 abbrev pub left_count : Part → List Part → ℕ
 left_count here outer = 2 * count (forest here.left) + outer_count outer
 
-unwound-push : (outer : List Part) (part : Part) (inside : Forest)
-    → unwound (outer ++ part ∷ []) inside ≡ unwound outer (part_closed part inside)
-unwound-push [] part inside = refl
-unwound-push (p ∷ outer) part inside = ap (part_closed p) (unwound-push outer part inside)
+unwound-push : (each : Forest → Forest) (outer : List Part) (part : Part) (inside : Forest)
+    → unwound each (outer ++ part ∷ []) inside ≡ unwound each outer (part_closed each part inside)
+unwound-push each [] part inside = refl
+unwound-push each (p ∷ outer) part inside = ap (part_closed each p) (unwound-push each outer part inside)
 
 outer_count-push : (outer : List Part) (part : Part)
     → outer_count (outer ++ part ∷ []) ≡ 1 + 2 * count (forest (others part.left)) + outer_count outer
@@ -83,42 +71,43 @@ linked_pop (p ∷ outer) part whole h =
     let more = linked_pop outer part whole h.1 in
     ((subst (IsOpen p.left) (first_whole-push outer part whole) h.0, more.0), more.1)
 
--- ---- the state of the loop
+-- ---- the state of a loop
 
--- the state leads to the result, and each list is that of the next group in the list around it
-pub record IsOnTheWay (here : Part) (outer : List Part) (answer : Forest) : Type 0 where
-  pub answer_is : unwound outer (part_result here) ≡ answer
+-- the state leads to the answer, and each list is that of the next group in the list around it
+pub record IsOnTheWay (each : Forest → Forest) (here : Part) (outer : List Part) (answer : Forest) : Type 0 where
+  pub answer_is : unwound each outer (part_result each here) ≡ answer
   pub linked : Linked outer here.whole
 
 -- the state at the start, when no tree is done
-pub begin_parts : (here : Part) (outer : List Part) (f : Forest) → here.done ≡ nil → forest here.left ≡ f → outer ≡ []
-    → IsOnTheWay here outer (respace_marks f)
-begin_parts here outer f done left none = record {
+pub begin_parts : (each : Forest → Forest) (here : Part) (outer : List Part) (f : Forest)
+    → here.done ≡ nil → forest here.left ≡ f → outer ≡ [] → IsOnTheWay each here outer (each f)
+begin_parts each here outer f done left none = record {
   answer_is =
-      ap (λ o. unwound o (part_result here)) none
-      ∙ (ap (λ x. chain x (respace_marks (forest here.left))) done ∙ ap respace_marks left);
+      ap (λ o. unwound each o (part_result each here)) none
+      ∙ (ap (λ x. chain x (each (forest here.left))) done ∙ ap each left);
   linked = subst (λ o. Linked o here.whole) (sym none) tt;
 }
 
 -- ---- a step at a group
 
-pub open_group : (here new : Part) (outer more : List Part) (t : TokenTree) (after : List TokenTree) (g : Grouped)
-    (answer : Forest)
-    → here.left ≡ t ∷ after → t ≡ Group g → new.whole ≡ g.stream → new.done ≡ nil → forest new.left ≡ g.stream
-    → more ≡ outer ++ here ∷ [] → IsOnTheWay here outer answer → IsOnTheWay new more answer
-open_group here new outer more t after g answer left is whole done inside push was =
+pub open_group : (each : Forest → Forest) (here new : Part) (outer more : List Part) (t : TokenTree)
+    (after : List TokenTree) (g : Grouped) (answer : Forest)
+    → IsByTrees each → here.left ≡ t ∷ after → t ≡ Group g → new.whole ≡ g.stream → new.done ≡ nil
+    → forest new.left ≡ g.stream → more ≡ outer ++ here ∷ [] → IsOnTheWay each here outer answer
+    → IsOnTheWay each new more answer
+open_group each here new outer more t after g answer by left is whole done inside push was =
     let first : here.left ≡ Group g ∷ after = left ∙ ap (λ u. u ∷ after) is in
-    let inner : part_result new ≡ respace_marks g.stream =
-    ap (λ x. chain x (respace_marks (forest new.left))) done ∙ ap respace_marks inside in
-    let same : part_closed here (part_result new) ≡ part_result here =
-    ap (part_closed here) inner
-    ∙ (ap (λ ts. chain here.done (chain (first_group ts (respace_marks g.stream)) (respace_marks (forest (others ts)))))
-    first
-    ∙ ap (λ ts. chain here.done (respace_marks (forest ts))) (sym first)) in
+    let inner : part_result each new ≡ each g.stream =
+    ap (λ x. chain x (each (forest new.left))) done ∙ ap each inside in
+    let same : part_closed each here (part_result each new) ≡ part_result each here =
+    ap (part_closed each here) inner
+    ∙ (ap (λ ts. chain here.done (chain (first_group ts (each g.stream)) (each (forest (others ts))))) first
+    ∙ (ap (chain here.done) (sym (by.at_group g.delimiter g.span.lo g.span.hi g.stream (forest after)))
+    ∙ ap (λ ts. chain here.done (each (forest ts))) (sym first))) in
     record {
       answer_is =
-          ap (λ o. unwound o (part_result new)) push
-          ∙ (unwound-push outer here (part_result new) ∙ (ap (unwound outer) same ∙ was.answer_is));
+          ap (λ o. unwound each o (part_result each new)) push
+          ∙ (unwound-push each outer here (part_result each new) ∙ (ap (unwound each outer) same ∙ was.answer_is));
       linked =
           subst (λ o. Linked o new.whole) (sym push)
           (linked_push outer here new.whole was.linked
@@ -136,6 +125,25 @@ open_less here new outer more t after g left is inside push =
 
 -- ---- a step at another tree
 
+-- the state after a step that changes only the innermost list
+pub step_inside : (each : Forest → Forest) (here new : Part) (outer : List Part) (answer : Forest)
+    → new.whole ≡ here.whole → part_result each new ≡ part_result each here → IsOnTheWay each here outer answer
+    → IsOnTheWay each new outer answer
+step_inside each here new outer answer whole same was = record {
+  answer_is = ap (unwound each outer) same ∙ was.answer_is;
+  linked = subst (Linked outer) (sym whole) was.linked;
+}
+
+-- the list after a step, if the first tree that was left is done as `each` says
+pub adds_result : (each : Forest → Forest) (here new : Part) (t : TokenTree) (after : List TokenTree) (first : Forest)
+    → here.left ≡ t ∷ after → each (before t (forest after)) ≡ chain first (each (forest after))
+    → Adds here first new → part_result each new ≡ part_result each here
+adds_result each here new t after first left by adds =
+    let rest : new.left ≡ after = adds.left ∙ ap others left in
+    ap₂ (λ x ts. chain x (each (forest ts))) adds.done rest
+    ∙ (joined_assoc here.done first (each (forest after))
+    ∙ ap (chain here.done) (sym by ∙ ap (λ ts. each (forest ts)) (sym left)))
+
 respaced-before : (t : TokenTree) (rest : Forest) → ((g : Grouped) → t ≡ Group g → ⊥)
     → respace_marks (before t rest) ≡ chain (respaced_alone t (next_token rest)) (respace_marks rest)
 respaced-before (Group g) rest other = absurd (other g refl)
@@ -145,21 +153,14 @@ respaced-before (Literal l) rest other = refl
 
 pub step_token : (here new : Part) (outer : List Part) (t : TokenTree) (after : List TokenTree) (answer : Forest)
     → here.left ≡ t ∷ after → ((g : Grouped) → t ≡ Group g → ⊥)
-    → Adds here (respaced_alone t (next_token (forest after))) new → IsOnTheWay here outer answer
-    → IsOnTheWay new outer answer
-step_token here new outer t after answer left other adds was =
-    let first = respaced_alone t (next_token (forest after)) in
-    let rest : new.left ≡ after = adds.left ∙ ap others left in
-    let same : part_result new ≡ part_result here =
-    ap₂ (λ x ts. chain x (respace_marks (forest ts))) adds.done rest
-    ∙ (joined_assoc here.done first (respace_marks (forest after))
-    ∙ ap (chain here.done) (sym (respaced-before t (forest after) other)
-    ∙ ap (λ ts. respace_marks (forest ts)) (sym left)))
-    in
-    record {
-      answer_is = ap (unwound outer) same ∙ was.answer_is;
-      linked = subst (Linked outer) (sym adds.whole) was.linked;
-    }
+    → Adds here (respaced_alone t (next_token (forest after))) new → IsOnTheWay respace_marks here outer answer
+    → IsOnTheWay respace_marks new outer answer
+step_token here new outer t after answer left other adds =
+    step_inside respace_marks here new outer answer adds.whole
+    (adds_result respace_marks here new t after _ left (respaced-before t (forest after) other) adds)
+
+pub by_trees_respaced : IsByTrees respace_marks
+by_trees_respaced = record { none = refl; at_group = λ d lo hi inside rest. refl }
 
 count-before : (t : TokenTree) (rest : Forest) → count rest < count (before t rest)
 count-before (Group g) rest = omega arith
@@ -175,27 +176,30 @@ step_less here new outer t after first left adds =
 
 -- ---- a step at the end of a list
 
-ended_here : (here : Part) → here.left ≡ [] → part_result here ≡ here.done
-ended_here here none = ap (λ ts. chain here.done (respace_marks (forest ts))) none ∙ joined_nil here.done
+ended_here : (each : Forest → Forest) (here : Part) → IsByTrees each → here.left ≡ []
+    → part_result each here ≡ here.done
+ended_here each here by none =
+    ap (λ ts. chain here.done (each (forest ts))) none ∙ (ap (chain here.done) by.none ∙ joined_nil here.done)
 
-pub is_open : (here part : Part) (outer more : List Part) (answer : Forest) → outer ≡ more ++ part ∷ []
-    → IsOnTheWay here outer answer → IsOpen part.left here.whole
-is_open here part outer more answer pop was =
+pub is_open : (each : Forest → Forest) (here part : Part) (outer more : List Part) (answer : Forest)
+    → outer ≡ more ++ part ∷ [] → IsOnTheWay each here outer answer → IsOpen part.left here.whole
+is_open each here part outer more answer pop was =
     (linked_pop more part here.whole (subst (λ o. Linked o here.whole) pop was.linked)).1
 
-pub close_group : (here part new : Part) (outer more : List Part) (answer : Forest) → here.left ≡ []
-    → outer ≡ more ++ part ∷ [] → Adds part (first_group part.left here.done) new → IsOnTheWay here outer answer
-    → IsOnTheWay new more answer
-close_group here part new outer more answer none pop adds was =
-    let same : part_result new ≡ part_closed part (part_result here) =
-    ap₂ (λ x ts. chain x (respace_marks (forest ts))) adds.done adds.left
-    ∙ (joined_assoc part.done (first_group part.left here.done) (respace_marks (forest (others part.left)))
-    ∙ ap (part_closed part) (sym (ended_here here none))) in
+pub close_group : (each : Forest → Forest) (here part new : Part) (outer more : List Part) (answer : Forest)
+    → IsByTrees each → here.left ≡ [] → outer ≡ more ++ part ∷ []
+    → Adds part (first_group part.left here.done) new → IsOnTheWay each here outer answer
+    → IsOnTheWay each new more answer
+close_group each here part new outer more answer by none pop adds was =
+    let same : part_result each new ≡ part_closed each part (part_result each here) =
+    ap₂ (λ x ts. chain x (each (forest ts))) adds.done adds.left
+    ∙ (joined_assoc part.done (first_group part.left here.done) (each (forest (others part.left)))
+    ∙ ap (part_closed each part) (sym (ended_here each here by none))) in
     record {
       answer_is =
-          ap (unwound more) same
-          ∙ (sym (unwound-push more part (part_result here))
-          ∙ (ap (λ o. unwound o (part_result here)) (sym pop) ∙ was.answer_is));
+          ap (unwound each more) same
+          ∙ (sym (unwound-push each more part (part_result each here))
+          ∙ (ap (λ o. unwound each o (part_result each here)) (sym pop) ∙ was.answer_is));
       linked =
           subst (Linked more) (sym adds.whole)
           (linked_pop more part here.whole (subst (λ o. Linked o here.whole) pop was.linked)).0;
@@ -206,10 +210,10 @@ pub close_less : (here part new : Part) (outer more : List Part) (first : Forest
 close_less here part new outer more first pop adds =
     omega (arith, ap outer_count pop, outer_count-push more part, ap (λ ts. count (forest ts)) adds.left)
 
-pub all_done : (here : Part) (outer : List Part) (answer : Forest) → here.left ≡ [] → outer ≡ []
-    → IsOnTheWay here outer answer → here.done ≡ answer
-all_done here outer answer none end was =
-    sym (ended_here here none) ∙ (ap (λ o. unwound o (part_result here)) (sym end) ∙ was.answer_is)
+pub all_done : (each : Forest → Forest) (here : Part) (outer : List Part) (answer : Forest)
+    → IsByTrees each → here.left ≡ [] → outer ≡ [] → IsOnTheWay each here outer answer → here.done ≡ answer
+all_done each here outer answer by none end was =
+    sym (ended_here each here by none) ∙ (ap (λ o. unwound each o (part_result each here)) (sym end) ∙ was.answer_is)
 
 pub result_is : {E : Type 0} (r : Result Forest E) (done answer : Forest) → IfOk r (λ f. f ≡ done) → done ≡ answer
     → IfOk r (λ f. f ≡ answer)

@@ -3,6 +3,7 @@ pub mod Respaced
 pub mod Fault
 pub mod Choice
 pub mod Part
+pub mod Joined
 pub mod Put
 pub mod Laws
 pub mod Items

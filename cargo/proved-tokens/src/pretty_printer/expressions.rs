@@ -157,6 +157,12 @@ impl Tree {
                 return self.take_dot(index);
             }
             Kind::Sign(_) if own.role == Role::BarClose => return self.attach(ASSIGN, index),
+            Kind::Sign(_) if own.role == Role::BarOpen && previous.role == Role::Greater => {
+                // The lifetimes of a closure are before it.
+                let first = self.node(self.reader.operand).first;
+                self.reader.operand = NOWHERE;
+                return self.open(Form::Closure, first, WEAKEST);
+            }
             _ if strength > WEAKEST => return self.take_operator(index, strength),
             _ => {}
         }

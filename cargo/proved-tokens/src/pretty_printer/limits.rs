@@ -70,15 +70,16 @@ impl Tree {
 
     /// Sets the offset of each atom in the list on one line. All its groups are measured.
     pub fn place(&mut self, first: usize, end: usize) {
-        let mut offset: usize = 0;
-        let mut tall: usize = 0;
-        for index in first..end {
-            if let Some(own) = self.atoms.get_mut(index) {
-                let space = (index > first && own.is_spaced()) as usize;
-                own.offset = offset.saturating_add(space);
+        let (mut offset, mut tall): (usize, usize) = (0, 0);
+        // No space is before the first.
+        let mut space: usize = 0;
+        if first <= end && end <= self.atoms.len() {
+            for own in self.atoms[first..end].iter_mut() {
+                own.offset = offset.saturating_add(space & own.is_spaced() as usize);
                 own.tall_before = tall;
                 offset = own.offset.saturating_add(own.width);
                 tall = tall.saturating_add(own.tall as usize);
+                space = 1;
             }
         }
     }

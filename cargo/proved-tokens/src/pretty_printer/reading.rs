@@ -6,7 +6,7 @@ use crate::shim::prelude::Grow;
 use crate::pretty_printer::atoms::{Atom, Kind, Lexeme, NOTHING, Role, Sign, word_of};
 use crate::pretty_printer::tree::{Form, Tree};
 use crate::pm_token::parts::{is_raw, name_of};
-use crate::proc_macro2::{Ident, Spacing, TokenTree};
+use crate::proc_macro2::{Ident, Punct, Spacing, TokenTree};
 use crate::shim::alloc::AllocError;
 
 /// A group whose atoms are not read yet.
@@ -25,13 +25,10 @@ pub fn push_list<'a>(
     trees: &'a [TokenTree],
 ) -> Result<(), AllocError> {
     tree.atoms.reserve_fallibly(trees.len().saturating_add(1))?;
-    let mut past: usize = 0;
-    for index in 0..trees.len() {
-        if index < past {
-            continue;
-        }
-        let atom = match trees.get(index) {
-            Some(TokenTree::Group(group)) => {
+    let mut left = trees;
+    while let Some((first, after)) = left.split_first() {
+        let atom = match first {
+            TokenTree::Group(group) => {
                 let own = tree.atoms.len();
                 let node = tree.push_node(Form::Group, own, own.saturating_add(1));
                 let trees = group.stream_ref().trees();
@@ -43,17 +40,14 @@ pub fn push_list<'a>(
                 }
                 atom
             }
-            Some(TokenTree::Ident(ident)) if is_raw(ident) => {
-                Atom::new(Kind::Lexeme(Lexeme::Name), width_of(ident))
-            }
-            Some(TokenTree::Ident(ident)) => {
-                Atom::new(Kind::Lexeme(word_of(name_of(ident))), width_of(ident))
-            }
-            Some(TokenTree::Literal(literal)) => literal_atom(literal.text()),
-            Some(TokenTree::Punct(punct)) => mark_atom(punct.as_char(), trees, index),
-            None => break,
+            TokenTree::Ident(ident) => ident_atom(ident),
+            TokenTree::Literal(literal) => literal_atom(literal.text()),
+            TokenTree::Punct(mark) => mark_atom(mark, after),
         };
-        past = index.saturating_add(atom.tokens());
+        left = match atom.tokens().saturating_sub(1) {
+            0 => after,
+            more => after.get(more..after.len()).unwrap_or(&[]),
+        };
         tree.atoms.push_fallibly(atom)?;
     }
     tree.atoms.push_fallibly(NOTHING)?;
@@ -62,15 +56,31 @@ pub fn push_list<'a>(
 
 /// Returns whether `;` or `=>` is among the trees.
 fn has_statements(trees: &[TokenTree]) -> bool {
-    for index in 0..trees.len() {
-        if let Some(TokenTree::Punct(punct)) = trees.get(index) {
-            let mark = punct.as_char();
-            if mark == ';' || mark == '=' && next_mark(trees, index) == Some('>') {
-                return true;
+    let mut equals = false;
+    for tree in trees {
+        match tree {
+            TokenTree::Punct(mark) => {
+                let c = mark.as_char();
+                if c == ';' || equals && c == '>' {
+                    return true;
+                }
+                equals = c == '=' && mark.spacing() == Spacing::Joint;
             }
+            _ => equals = false,
         }
     }
     false
+}
+
+/// Returns the atom of an identifier.
+#[cfg_attr(not(debug_assertions), inline(always))]
+fn ident_atom(ident: &Ident) -> Atom {
+    let name = name_of(ident);
+    let width = char_count(name);
+    match is_raw(ident) {
+        true => Atom::new(Kind::Lexeme(Lexeme::Name), width.saturating_add(2)),
+        false => Atom::new(Kind::Lexeme(word_of(name)), width),
+    }
 }
 
 /// Returns the atom of a literal with this text. It needs several lines if its text has several.
@@ -98,55 +108,43 @@ fn char_count(text: &str) -> usize {
     }
 }
 
-/// Returns the number of characters of an identifier.
-#[cfg_attr(not(debug_assertions), inline(always))]
-fn width_of(ident: &Ident) -> usize {
-    let front: usize = if is_raw(ident) { 2 } else { 0 };
-    char_count(name_of(ident)).saturating_add(front)
-}
-
-/// Returns the atom of the lifetime or the operator that begins with this mark, which is the tree at this index.
-fn mark_atom(first: char, trees: &[TokenTree], index: usize) -> Atom {
-    let next = index.saturating_add(1);
-    if first == '\'' {
-        if let Some(TokenTree::Ident(ident)) = trees.get(next) {
-            let width = width_of(ident).saturating_add(1);
-            return Atom::new(Kind::Lexeme(Lexeme::Lifetime), width);
-        }
+/// Returns the atom of the lifetime or the operator that begins with this mark before these trees.
+fn mark_atom(mark: &Punct, after: &[TokenTree]) -> Atom {
+    if let ('\'', Some(TokenTree::Ident(ident))) = (mark.as_char(), after.first()) {
+        let width = ident_atom(ident).width.saturating_add(1);
+        return Atom::new(Kind::Lexeme(Lexeme::Lifetime), width);
     }
-    let (sign, width) = match (first, next_mark(trees, index).unwrap_or(' ')) {
-        ('.', '.') => match next_mark(trees, next) {
-            Some('.' | '=') => (Sign::Range, 3),
-            _ => (Sign::Range, 2),
-        },
-        (':', ':') => (Sign::Path, 2),
-        ('-', '>') => (Sign::Arrow, 2),
-        ('=', '>') => (Sign::Arm, 2),
-        ('&', '&') => (Sign::And, 2),
-        ('|', '|') => (Sign::Or, 2),
-        ('=' | '!' | '<' | '>', '=') => (Sign::Compare, 2),
-        ('+' | '-' | '*' | '/' | '%' | '^' | '&' | '|', '=') => (Sign::Assign, 2),
-        _ => (Sign::One(first), 1),
+    let mut atom = Atom::new(Kind::Sign(Sign::One(mark.as_char())), 1);
+    atom.glued = mark.spacing() == Spacing::Joint;
+    let Some((second, rest)) = next_mark(mark, after) else {
+        return atom;
     };
-    let mut atom = Atom::new(Kind::Sign(sign), width);
-    atom.glued = is_joint(trees, index.saturating_add(width).saturating_sub(1));
+    let sign = match (mark.as_char(), second.as_char()) {
+        ('.', '.') => Sign::Range,
+        (':', ':') => Sign::Path,
+        ('-', '>') => Sign::Arrow,
+        ('=', '>') => Sign::Arm,
+        ('&', '&') => Sign::And,
+        ('|', '|') => Sign::Or,
+        ('=' | '!' | '<' | '>', '=') => Sign::Compare,
+        ('+' | '-' | '*' | '/' | '%' | '^' | '&' | '|', '=') => Sign::Assign,
+        _ => return atom,
+    };
+    let (last, width) = match (sign, next_mark(second, rest)) {
+        (Sign::Range, Some((third, _))) if matches!(third.as_char(), '.' | '=') => (third, 3),
+        _ => (second, 2),
+    };
+    atom.kind = Kind::Sign(sign);
+    atom.width = width;
+    atom.glued = last.spacing() == Spacing::Joint;
     atom
 }
 
-/// Returns the mark after the one at this index, if an operator may go on with it.
-fn next_mark(trees: &[TokenTree], index: usize) -> Option<char> {
-    match trees.get(index.saturating_add(1)) {
-        Some(TokenTree::Punct(punct)) if is_joint(trees, index) && punct.as_char() != '\'' => {
-            Some(punct.as_char())
-        }
+/// Returns the mark after this one, if an operator may go on with it, and the trees after it.
+fn next_mark<'a>(mark: &Punct, after: &'a [TokenTree]) -> Option<(&'a Punct, &'a [TokenTree])> {
+    match after.split_first() {
+        Some((TokenTree::Punct(next), rest))
+            if mark.spacing() == Spacing::Joint && next.as_char() != '\'' => Some((next, rest)),
         _ => None,
-    }
-}
-
-/// Returns whether a Joint mark is at this index.
-fn is_joint(trees: &[TokenTree], index: usize) -> bool {
-    match trees.get(index) {
-        Some(TokenTree::Punct(punct)) => punct.spacing() == Spacing::Joint,
-        _ => false,
     }
 }

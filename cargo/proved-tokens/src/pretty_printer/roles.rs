@@ -65,7 +65,7 @@ impl State {
     fn take(&mut self, tree: &mut Tree, index: usize) {
         let own = tree.atom(index);
         let previous = tree.previous(index);
-        let mut role = own.role;
+        let (mut role, mut tall) = (own.role, own.tall);
         self.ends = false;
         match own.kind {
             Kind::Lexeme(word) => {
@@ -73,6 +73,7 @@ impl State {
                     self.take_head(word, head, previous, tree.next(index));
                 } else if word == Lexeme::Where && is_item(self.head) {
                     role = Role::Where;
+                    tall = self.head != Head::Impl;
                 }
             }
             Kind::Group(_) => role = self.group_role(tree, index, own),
@@ -82,7 +83,7 @@ impl State {
                     Role::Greater => self.depth = self.depth.saturating_sub(1),
                     _ => {}
                 }
-                role = self.sign_role(sign, role, previous, tree.next(index), index);
+                role = self.sign_role(tree, index, sign, role);
             }
             Kind::Nothing => {}
         }
@@ -95,7 +96,7 @@ impl State {
         if let Some(changed) = tree.atoms.get_mut(index) {
             changed.role = role;
             changed.ends = self.ends;
-            changed.tall = changed.tall || role == Role::Where && self.head != Head::Impl;
+            changed.tall = tall;
             changed.gap = if spaced { Gap::Space } else { Gap::Nothing };
         }
     }

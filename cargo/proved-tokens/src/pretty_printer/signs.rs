@@ -64,15 +64,9 @@ fn ends_types(atom: &Atom, previous: &Atom) -> bool {
 }
 
 impl State {
-    /// Returns the role of an operator at this index between these atoms. `role` is the one that it has as an angle.
-    pub fn sign_role(
-        &mut self,
-        sign: Sign,
-        role: Role,
-        previous: &Atom,
-        next: &Atom,
-        index: usize,
-    ) -> Role {
+    /// Returns the role of an operator at this index. `role` is the one that it has as an angle.
+    pub fn sign_role(&mut self, tree: &Tree, index: usize, sign: Sign, role: Role) -> Role {
+        let (previous, next) = (tree.previous(index), tree.next(index));
         let mark = match sign {
             Sign::One(mark) => mark,
             _ => ' ',
@@ -92,10 +86,14 @@ impl State {
                 _ => {}
             }
         }
-        let value = previous.is_value() && !(index == self.start && previous.is_brace());
+        let begins = index == self.start;
+        let value = previous.is_value() && !(begins && previous.is_brace());
         match sign {
             Sign::One('!') => bang_role(previous, next, value),
-            Sign::One('|') | Sign::Or => self.bar_role(mark, value),
+            Sign::One('|') if begins && begins_arm(tree, index) => Role::Between,
+            Sign::One('|') | Sign::Or => self.bar_role(mark, value && !ends_binder(tree, previous)),
+            // For example `a ?= b` in a macro.
+            Sign::One('?') if next.is_mark('=') && tree.atom(index).glued => Role::Between,
             _ if role != Role::Plain => role,
             _ => plain_role(sign, value),
         }
@@ -112,6 +110,23 @@ impl State {
         self.in_bars = found == Role::BarOpen;
         found
     }
+}
+
+/// Returns whether the atom ends the lifetimes of a closure, such as `for<'a>`.
+fn ends_binder(tree: &Tree, previous: &Atom) -> bool {
+    previous.role == Role::Greater && tree.previous(previous.node).is_word(Lexeme::For)
+}
+
+/// Returns whether the pattern of an arm begins with this atom, which begins a statement or an arm.
+fn begins_arm(tree: &Tree, index: usize) -> bool {
+    for at in index..usize::MAX {
+        match tree.next(at).kind {
+            Kind::Sign(Sign::Arm) => return true,
+            Kind::Sign(Sign::One(',' | ';')) | Kind::Nothing => return false,
+            _ => {}
+        }
+    }
+    false
 }
 
 /// Returns the role of `!`.

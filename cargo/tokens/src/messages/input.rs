@@ -1,9 +1,10 @@
 // Made from crates/messages/src/input.rt by dev/erase: change that file, not this one.
 //! The words and the input of a program.
 
-use proved_tokens::shim::prelude::{GrowText, HostRuntime, TryClone};
+use proved_tokens::shim::prelude::{Grow, GrowText, HostRuntime, TryClone};
 
 use crate::messages::errors::Failure;
+use proved_tokens::shim::alloc::AllocError;
 use proved_tokens::shim::env::Args;
 use proved_tokens::shim::fs::File;
 use proved_tokens::shim::io;
@@ -40,6 +41,22 @@ pub fn path(words: &[String], usage: &'static str) -> Result<String, Failure>
         [path] => Ok(path.try_clone()?),
         _ => Err(Failure::Usage(usage)),
     }
+}
+
+/// Adds a path after those that a program reads. Fails if memory runs out.
+pub fn push_path(paths: &mut Vec<String>, path: &str) -> Result<(), AllocError>
+{
+    paths.push_fallibly(String::from_str_fallibly(path)?)?;
+    Ok(())
+}
+
+/// Adds the path `-`, which is standard input, if a program has no path to read. Fails if memory runs out.
+pub fn push_input_if_empty(paths: &mut Vec<String>) -> Result<(), AllocError>
+{
+    if paths.is_empty() {
+        push_path(paths, "-")?;
+    }
+    Ok(())
 }
 
 /// Whether the word is an option, known or not: whether it begins with `-` and is not `-` alone.

@@ -24,6 +24,16 @@ pub fn conclude<E: Write>(
     ExitCode::from(status(&outcome))
 }
 
+/// Returns the exit status that a program's run gives. If the run failed, its reason is written to `errors` as by
+/// `conclude`, with the path `-`.
+pub fn exit_code<E: Write>(outcome: Result<u8, Failure>, errors: &mut E) -> ExitCode
+{
+    match outcome {
+        Ok(status) => ExitCode::from(status),
+        Err(failure) => conclude("-", Err(failure), errors),
+    }
+}
+
 /// Returns the exit status of a program: 0 after success, 1 after a syntax error, and 2 after any other failure.
 pub fn status(outcome: &Result<(), Failure>) -> u8
 {

@@ -1,9 +1,7 @@
 // Made from crates/outline/src/options.rt by dev/erase: change that file, not this one.
 //! What the arguments of the program say.
 
-use proved_tokens::shim::prelude::{Grow, GrowText};
-
-use crate::messages::{Failure, is_option};
+use crate::messages::{Failure, is_option, push_input_if_empty, push_path};
 use proved_tokens::shim::alloc::AllocError;
 
 /// The usage line of the program.
@@ -50,7 +48,7 @@ pub fn options_of(words: &[String]) -> Result<Options, Failure>
             known => options.take(known, word.as_str())?,
         }
     }
-    options.read_input_at_least()?;
+    push_input_if_empty(&mut options.paths)?;
     Ok(options)
 }
 
@@ -81,25 +79,9 @@ impl Options {
         match known {
             ArgumentKind::Json => self.form = Form::Json,
             ArgumentKind::Ctags => self.form = Form::Ctags,
-            ArgumentKind::Path => self.push_path(word)?,
+            ArgumentKind::Path => push_path(&mut self.paths, word)?,
             ArgumentKind::Unknown => {}
         }
-        Ok(())
-    }
-
-    /// Adds standard input if there is no path.
-    fn read_input_at_least(&mut self) -> Result<(), AllocError>
-    {
-        if self.paths.is_empty() {
-            self.push_path("-")?;
-        }
-        Ok(())
-    }
-
-    /// Appends a path.
-    fn push_path(&mut self, path: &str) -> Result<(), AllocError>
-    {
-        self.paths.push_fallibly(String::from_str_fallibly(path)?)?;
         Ok(())
     }
 }

@@ -1,9 +1,7 @@
 // Made from crates/rust_check/src/options.rt by dev/erase: change that file, not this one.
 //! The options and paths of the command line.
 
-use proved_tokens::shim::prelude::{Grow, GrowText};
-
-use crate::messages::{Failure, is_option};
+use crate::messages::{Failure, is_option, push_input_if_empty, push_path};
 use proved_tokens::shim::alloc::AllocError;
 
 /// The usage line.
@@ -72,7 +70,7 @@ pub fn request_of(words: &[String]) -> Result<Request, Failure>
             known => options.take(known, word.as_str())?,
         }
     }
-    options.read_input_at_least()?;
+    push_input_if_empty(&mut options.paths)?;
     Ok(Request::Check(options))
 }
 
@@ -112,25 +110,9 @@ impl Options {
             ArgumentKind::Json => self.form = Form::Json,
             ArgumentKind::Hidden => self.hidden = true,
             ArgumentKind::Colour(coloured) => self.coloured = coloured,
-            ArgumentKind::Path => self.push_path(word)?,
+            ArgumentKind::Path => push_path(&mut self.paths, word)?,
             _ => {}
         }
-        Ok(())
-    }
-
-    /// Adds standard input as the path if no file is named.
-    fn read_input_at_least(&mut self) -> Result<(), AllocError>
-    {
-        if self.paths.is_empty() {
-            self.push_path("-")?;
-        }
-        Ok(())
-    }
-
-    /// Appends a path.
-    fn push_path(&mut self, path: &str) -> Result<(), AllocError>
-    {
-        self.paths.push_fallibly(String::from_str_fallibly(path)?)?;
         Ok(())
     }
 

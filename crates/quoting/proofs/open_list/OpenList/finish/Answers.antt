@@ -1,0 +1,12 @@
+use Rattle.std.proofs.Common.{◌∙◌, ap, sym, Option}
+use Rattle.proc_macro2.specs.Forest.{Forest}
+use Rattle.quoting.proofs.OpenListLemmas.{finish_unchanged, part_of}
+use Rattle.quoting.proofs.open_list.OpenList.finish.Goals as goal
+
+pub returns-in-None : goal.returns-in-None
+returns-in-None c =
+    let inside = c.self.inside in
+    finish_unchanged _ inside.stream.now inside.done inside.trees.now c.args.self c.clone.result
+    (ap (λ (changed : Option Forest). part_of inside.stream.now changed inside.done inside.trees.now) (sym c.in-None.is)
+    ∙ c.self.view_is)
+    c.self.invariant.2 c.requires c.clone.ensures.cases
