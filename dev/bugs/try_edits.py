@@ -1,10 +1,10 @@
 #!/usr/bin/env python3
 """Tries edits that plant bugs: the prover must refuse each.
 
-An edit is a file as those of `dev/bugs/CRATE` and of `crates/CRATE/must-fail`. Name a crate for its edits in dev/bugs/,
-a folder for those in it, or single files; with no name all of dev/bugs/ are tried. Each edit is tried in a copy of its
-crate over what `rt check` keeps in out/, so that only what the edit changes is proved. A crate that was not checked
-since it changed is proved first, in the copy.
+Name a crate for its edits in dev/bugs/CRATE.txt, `CRATE/NAME` for those of them whose names begin so, a folder
+`crates/CRATE/must-fail` for those that the gate tries, or one of its files. With no name all edits of dev/bugs/ are
+tried. Each edit is tried in a copy of its crate over what `rt check` keeps in out/, so that only what the edit changes
+is proved. A crate that was not checked since it changed is proved first, in the copy.
 
 Edits of functions are tried up to --together at a time in one check, each in a function of its own, and count as
 refused where the prover says so of that very function. What it doesn't say so of, and what changes anything else, is
@@ -27,7 +27,9 @@ from concurrent.futures import ThreadPoolExecutor, as_completed
 from pathlib import Path
 from queue import Queue
 
-TOP = Path(__file__).resolve().parents[2]
+sys.dont_write_bytecode = True
+from planted import TOP, BadEdit, files_of_bugs, of_bugs, of_file, of_gate  # noqa: E402
+
 PARTS = ("src", "specs", "proofs")
 REFUSED, BY_NAME, PASSED, BAD = "refused", "refused for a name alone", "NOT REFUSED", "BAD EDIT"
 
@@ -41,68 +43,45 @@ PLACE = re.compile(r"(?:note: )?(?:\./)?(\S+?):\d+:\d+: ")
 ERROR = re.compile(r"(?:\./)?(\S+?):\d+:\d+: error: (?:(`[^`]*`): )?(.*)")
 
 
-class BadEdit(Exception):
-    """Says why an edit can't be applied."""
-
-
 # ---- the edits
 
 
-def crate_of(path):
-    """The crate of an edit's file, by the folder that it lies in."""
-    return path.parent.parent.name if path.parent.name == "must-fail" else path.parent.name
-
-
 def edits_named(names):
-    """The files of the edits that the words of the command line name, by their crates."""
-    files = []
-    for name in names or sorted(it.name for it in (TOP / "dev/bugs").iterdir() if it.is_dir()):
-        path = Path(name) if name.endswith(".edit") or "/" in name else TOP / "dev/bugs" / name
-        files += [path] if path.is_file() else sorted(path.glob("*.edit"))
-        if not path.exists():
-            sys.exit(f"there is no edit and no folder {path}")
+    """The edits that the words of the command line name, by their crates."""
+    edits = []
+    for name in names or [file.stem for file in files_of_bugs()]:
+        path, (crate, _, front) = Path(name), name.partition("/")
+        if path.suffix == ".edit" and path.is_file():
+            found = [of_file(path)]
+        elif path.name == "must-fail" and path.is_dir():
+            found = of_gate(path.resolve().parent.name)
+        else:
+            file = TOP / "dev/bugs" / f"{crate}.txt"
+            found = [edit for edit in of_bugs(file) if edit.name.startswith(front)] if file.is_file() else []
+        if not found:
+            sys.exit(f"there is no edit {name}")
+        edits += found
     by_crate, known = {}, libraries()
-    for file in files:
-        crate = crate_of(file.resolve())
-        if crate not in known:
-            sys.exit(f"{file}: crates.txt has no crate {crate}")
-        by_crate.setdefault(crate, []).append(file)
+    for edit in edits:
+        if edit.crate not in known:
+            sys.exit(f"{edit.place}: crates.txt has no crate {edit.crate}")
+        by_crate.setdefault(edit.crate, []).append(edit)
     return by_crate
-
-
-def replacements(text):
-    """The steps of an edit: a file of the crate, the text that stands in it once, and what takes its place."""
-    steps, file, old = [], None, None
-    for line in text.split("\n"):
-        word, _, rest = line.partition(" ")
-        if word == "file:":
-            file = rest.strip()
-        elif word == "old:":
-            old = rest
-        elif word == "new:":
-            if not file or not old:
-                raise BadEdit("a line 'new:' stands before any 'file:' or 'old:'")
-            steps.append((file, old, rest))
-            old = None
-    if not steps:
-        raise BadEdit("it has no lines 'old:' and 'new:'")
-    return steps
 
 
 def apply(edit, crate):
     """Changes the files of the copied crate as the edit says, and returns their paths in it."""
-    steps = replacements(edit.read_text(encoding="utf-8"))
-    for name, old, new in steps:
-        file = crate / name
-        if not name.startswith(PARTS) or not file.is_file():
+    def read(name):
+        if not name.startswith(PARTS) or not (crate / name).is_file():
             raise BadEdit(f"there is no file {name}")
-        text = file.read_text(encoding="utf-8")
-        if text.count(old) != 1:
-            raise BadEdit(f"{name} has the text of a line 'old:' {text.count(old)} times, and not once: {old.strip()}")
+        return (crate / name).read_text(encoding="utf-8")
+
+    texts = edit.changed(read)
+    for name, text in texts.items():
         # A new file, so that what the other copies share stays as it was.
-        file.unlink()
-        file.write_text(text.replace(old, new), encoding="utf-8")
-    return {name for name, _, _ in steps}
+        (crate / name).unlink()
+        (crate / name).write_text(text, encoding="utf-8")
+    return set(texts)
 
 
 # ---- copies of the repository
@@ -172,7 +151,7 @@ def function_at(text, line):
 def function_of(edit, crate):
     """The file, first line and name of the one function that an edit changes, or nothing."""
     try:
-        steps = replacements(edit.read_text(encoding="utf-8"))
+        steps = edit.steps()
     except BadEdit:
         return None
     found = set()
@@ -324,7 +303,7 @@ def main():
     words = argparse.ArgumentParser(prog="dev/bugs/try.sh", description=__doc__, formatter_class=form)
     words.add_argument("-j", "--lanes", type=int, default=1, metavar="N", help="how many edits to try at a time (1)")
     words.add_argument("--together", type=int, default=24, metavar="N", help="how many edits to try in one check (24)")
-    words.add_argument("names", nargs="*", metavar="CRATE | FOLDER | FILE.edit")
+    words.add_argument("names", nargs="*", metavar="CRATE | CRATE/NAME | FOLDER | FILE.edit")
     given = words.parse_args()
     # So that the copies are removed where a signal ends this.
     signal.signal(signal.SIGTERM, lambda *_: sys.exit("stopped"))
