@@ -7,7 +7,7 @@ use Rattle.declarations.specs.Fault.{extent_at, first_extent}
 use Rattle.declarations.specs.Forms.{AreAttributes, AreGenerics, IsVisibility, IsWhere}
 use Rattle.declarations.specs.Reader.{Finds, Sticks}
 use Rattle.declarations.specs.Reading.{FaultAt, IsOnly, Reads}
-use Rattle.declarations.specs.declared.class.SignClass.{SignClass}
+use Rattle.item_tables.specs.declared.class.SignClass.{SignClass}
 use Rattle.declarations.specs.rules.Names.{G}
 use Rattle.declarations.specs.rules.Parts.{attributes, generics, visibility, where_clause}
 use Rattle.declarations.specs.rules.Pieces.{ByRule, ReadsBy}

@@ -5,7 +5,7 @@ use Rattle.pm_stream.specs.declared.stream.TokenTree.{TokenTree}
 use Rattle.declarations.specs.Reading.{FaultAt, IsOnly, Reads, StopsBefore}
 use Rattle.declarations.specs.Signs.{classes_of, signs}
 use Rattle.declarations.specs.Walk.{IsFront}
-use Rattle.declarations.specs.declared.class.SignClass.{SignClass}
+use Rattle.item_tables.specs.declared.class.SignClass.{SignClass}
 
 -- ---- forms with the same pieces
 

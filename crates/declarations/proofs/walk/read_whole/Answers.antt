@@ -1,5 +1,5 @@
 use Rattle.std.proofs.Common.{◌≡◌, ◌∙◌, ap, ◌==◌, true, false, length, arith}
-use Rattle.declarations.specs.Grammar.{ends}
+use Rattle.item_tables.specs.Grammar.{ends}
 use Rattle.declarations.proofs.WholeLemmas.{span_at, whole_fault}
 use Rattle.declarations.proofs.walk.read_whole.Goals as goal
 use Rattle.declarations.proofs.walk.read_whole.Goals.{else-is_empty-via-then-is_empty+else-may_end}

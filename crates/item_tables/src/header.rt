@@ -1,8 +1,8 @@
 //! The steps of the walk over an item, from its name on. A step says where a sign leads.
 ghost use Rattle.std.specs.Prelude.{◌≡◌};
-ghost use Rattle.declarations.specs.Header.{alias_header, body, closing, function_header, generics, has_where};
-ghost use Rattle.declarations.specs.Header.{header, impl_header, in_block, in_braces, in_semicolon, is_alone};
-ghost use Rattle.declarations.specs.Header.{return_header, struct_header, trait_header, typed_header, value};
+ghost use Rattle.item_tables.specs.Header.{alias_header, body, closing, function_header, generics, has_where};
+ghost use Rattle.item_tables.specs.Header.{header, impl_header, in_block, in_braces, in_semicolon, is_alone};
+ghost use Rattle.item_tables.specs.Header.{return_header, struct_header, trait_header, typed_header, value};
 
 use crate::class::{Keyword, SignClass};
 use crate::walk_state::{
@@ -71,7 +71,7 @@ fn value(item: Item) -> Option<Shift>
 }
 
 /// The step after the header of an item, or after its where clause.
-pub(crate) fn body(item: Item, class: SignClass) -> Option<Shift>
+pub fn body(item: Item, class: SignClass) -> Option<Shift>
     ensures { result ≡ body item class }
 {
     match class {
@@ -84,7 +84,7 @@ pub(crate) fn body(item: Item, class: SignClass) -> Option<Shift>
 }
 
 /// Whether the part is read on its own, so that no body has to follow.
-pub(crate) fn is_alone(item: Item) -> bool
+pub fn is_alone(item: Item) -> bool
     ensures { result ≡ is_alone item }
 {
     match item {
@@ -113,7 +113,7 @@ fn has_where(item: Item) -> bool
 }
 
 /// The step after the header of an item, where a where clause may begin.
-pub(crate) fn header(item: Item, class: SignClass) -> Option<Shift>
+pub fn header(item: Item, class: SignClass) -> Option<Shift>
     ensures { result ≡ header item class }
 {
     match class {
@@ -188,7 +188,7 @@ fn trait_header(class: SignClass) -> Option<Shift>
 }
 
 /// The step after the generic parameters of an `impl`, if no type begins there.
-pub(crate) fn impl_header(class: SignClass) -> Option<Shift>
+pub fn impl_header(class: SignClass) -> Option<Shift>
     ensures { result ≡ impl_header class }
 {
     match class {
@@ -199,7 +199,7 @@ pub(crate) fn impl_header(class: SignClass) -> Option<Shift>
 }
 
 /// The step after the generic parameters of an item, which may be left out.
-pub(crate) fn closing(item: Item, class: SignClass) -> Option<Shift>
+pub fn closing(item: Item, class: SignClass) -> Option<Shift>
     ensures { result ≡ closing item class }
 {
     match item {
@@ -215,7 +215,7 @@ pub(crate) fn closing(item: Item, class: SignClass) -> Option<Shift>
 }
 
 /// The step after a name that generic parameters may follow.
-pub(crate) fn generics(item: Item, class: SignClass) -> Option<Shift>
+pub fn generics(item: Item, class: SignClass) -> Option<Shift>
     ensures { result ≡ generics item class }
 {
     match class {

@@ -1,13 +1,13 @@
 //! The steps of the walk over an item, up to its name. A step says where a sign leads.
 ghost use Rattle.std.specs.Prelude.{◌≡◌};
-ghost use Rattle.declarations.specs.Front.{async_front, auto_front, call_group, call_name, call_path, call_word};
-ghost use Rattle.declarations.specs.Front.{const_front, const_gen, const_safe, crate_name, declaration, default_front};
-ghost use Rattle.declarations.specs.Front.{default_unsafe, extern_abi, extern_front, front_names, front_step};
-ghost use Rattle.declarations.specs.Front.{front_type, function_extern, gen_front, impl_angle, impl_const, impl_front};
-ghost use Rattle.declarations.specs.Front.{impl_word, item_keyword, item_word, macro_parameters, before_fn, rename};
-ghost use Rattle.declarations.specs.Front.{after_renaming_name, safe_front, static_front, type_item, unmarked_item};
-ghost use Rattle.declarations.specs.Front.{unsafe_extern, unsafe_front, until, until_first, use_front, use_path};
-ghost use Rattle.declarations.specs.Front.{use_segment};
+ghost use Rattle.item_tables.specs.Front.{async_front, auto_front, call_group, call_name, call_path, call_word};
+ghost use Rattle.item_tables.specs.Front.{const_front, const_gen, const_safe, crate_name, declaration, default_front};
+ghost use Rattle.item_tables.specs.Front.{default_unsafe, extern_abi, extern_front, front_names, front_step};
+ghost use Rattle.item_tables.specs.Front.{front_type, function_extern, gen_front, impl_angle, impl_const, impl_front};
+ghost use Rattle.item_tables.specs.Front.{impl_word, item_keyword, item_word, macro_parameters, before_fn, rename};
+ghost use Rattle.item_tables.specs.Front.{after_renaming_name, safe_front, static_front, type_item, unmarked_item};
+ghost use Rattle.item_tables.specs.Front.{unsafe_extern, unsafe_front, until, until_first, use_front, use_path};
+ghost use Rattle.item_tables.specs.Front.{use_segment};
 
 use crate::class::{Keyword, SignClass, Word};
 use crate::header::{body, generics, header, impl_header};
@@ -66,7 +66,7 @@ fn item_word(word: Word) -> Option<Shift>
 }
 
 /// The step after the visibility of an item.
-pub(crate) fn declaration(class: SignClass) -> Option<Shift>
+pub fn declaration(class: SignClass) -> Option<Shift>
     ensures { result ≡ declaration class }
 {
     match class {
@@ -77,7 +77,7 @@ pub(crate) fn declaration(class: SignClass) -> Option<Shift>
 }
 
 /// The step where an item begins without a visibility. It may be a macro call, or a group without delimiters.
-pub(crate) fn unmarked_item(class: SignClass) -> Option<Shift>
+pub fn unmarked_item(class: SignClass) -> Option<Shift>
     ensures { result ≡ unmarked_item class }
 {
     match class {
@@ -93,7 +93,7 @@ pub(crate) fn unmarked_item(class: SignClass) -> Option<Shift>
 }
 
 /// The step where a struct, an enum or a union begins, after its visibility.
-pub(crate) fn type_item(class: SignClass) -> Option<Shift>
+pub fn type_item(class: SignClass) -> Option<Shift>
     ensures { result ≡ type_item class }
 {
     match class {
@@ -466,7 +466,7 @@ fn until(item: Item, class: SignClass) -> Option<Shift>
 }
 
 /// The step before an item's name.
-pub(crate) fn front_step(item: Item, front: Front, class: SignClass) -> Option<Shift>
+pub fn front_step(item: Item, front: Front, class: SignClass) -> Option<Shift>
     ensures { result ≡ front_step item front class }
 {
     match (front, class) {
@@ -517,7 +517,7 @@ pub(crate) fn front_step(item: Item, front: Front, class: SignClass) -> Option<S
 }
 
 /// The type that can begin before an item's name. Only an `impl` has one.
-pub(crate) fn front_type(front: Front) -> Option<TypeStart>
+pub fn front_type(front: Front) -> Option<TypeStart>
     ensures { result ≡ front_type front }
 {
     match front {
@@ -530,7 +530,7 @@ pub(crate) fn front_type(front: Front) -> Option<TypeStart>
 }
 
 /// Whether the next sign can be the item's name.
-pub(crate) fn front_names(front: Front) -> bool
+pub fn front_names(front: Front) -> bool
     ensures { result ≡ front_names front }
 {
     match front {

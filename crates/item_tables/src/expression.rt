@@ -1,14 +1,14 @@
 //! The steps of the walk over an expression, up to its end. A step says where a sign leads.
 ghost use Rattle.std.specs.Prelude.{◌≡◌};
-ghost use Rattle.declarations.specs.Expression.{cast, cast_whole, closure, expression, expression_dot};
-ghost use Rattle.declarations.specs.Expression.{expression_less, expression_open, expression_whole, operator};
-ghost use Rattle.declarations.specs.Expression.{variant_end};
+ghost use Rattle.item_tables.specs.Expression.{cast, cast_whole, closure, expression, expression_dot};
+ghost use Rattle.item_tables.specs.Expression.{expression_less, expression_open, expression_whole, operator};
+ghost use Rattle.item_tables.specs.Expression.{variant_end};
 
 use crate::class::SignClass;
 use crate::walk_state::{Continuation, Item, Part, Shift, Spot, open_angle, to_spot};
 
 /// The step where an operand must come.
-pub(crate) fn expression(item: Item, class: SignClass) -> Option<Shift>
+pub fn expression(item: Item, class: SignClass) -> Option<Shift>
     ensures { result ≡ expression item class }
 {
     match class {
@@ -47,7 +47,7 @@ pub(crate) fn expression(item: Item, class: SignClass) -> Option<Shift>
 }
 
 /// The step where an operand may come, or what follows an operand.
-pub(crate) fn expression_open(item: Item, class: SignClass) -> Option<Shift>
+pub fn expression_open(item: Item, class: SignClass) -> Option<Shift>
     ensures { result ≡ expression_open item class }
 {
     match class {
@@ -94,7 +94,7 @@ fn operator(item: Item, class: SignClass) -> Option<Shift>
 }
 
 /// The step after an operand of an expression.
-pub(crate) fn expression_whole(item: Item, class: SignClass) -> Option<Shift>
+pub fn expression_whole(item: Item, class: SignClass) -> Option<Shift>
     ensures { result ≡ expression_whole item class }
 {
     match class {
@@ -105,7 +105,7 @@ pub(crate) fn expression_whole(item: Item, class: SignClass) -> Option<Shift>
 }
 
 /// The step after a `Joint` `<` that is an operator. A second mark may belong to the operator, as in `<<`.
-pub(crate) fn expression_less(item: Item, class: SignClass) -> Option<Shift>
+pub fn expression_less(item: Item, class: SignClass) -> Option<Shift>
     ensures { result ≡ expression_less item class }
 {
     match class {
@@ -118,7 +118,7 @@ pub(crate) fn expression_less(item: Item, class: SignClass) -> Option<Shift>
 }
 
 /// The step after an operand and `.`.
-pub(crate) fn expression_dot(item: Item, class: SignClass) -> Option<Shift>
+pub fn expression_dot(item: Item, class: SignClass) -> Option<Shift>
     ensures { result ≡ expression_dot item class }
 {
     match class {
@@ -128,7 +128,7 @@ pub(crate) fn expression_dot(item: Item, class: SignClass) -> Option<Shift>
 }
 
 /// The step within the bars of a closure.
-pub(crate) fn closure(item: Item, class: SignClass) -> Option<Shift>
+pub fn closure(item: Item, class: SignClass) -> Option<Shift>
     ensures { result ≡ closure item class }
 {
     match class {
@@ -140,7 +140,7 @@ pub(crate) fn closure(item: Item, class: SignClass) -> Option<Shift>
 }
 
 /// The step where the type of a cast must come.
-pub(crate) fn cast(item: Item, class: SignClass) -> Option<Shift>
+pub fn cast(item: Item, class: SignClass) -> Option<Shift>
     ensures { result ≡ cast item class }
 {
     match class {
@@ -173,7 +173,7 @@ pub(crate) fn cast(item: Item, class: SignClass) -> Option<Shift>
 }
 
 /// The step after the type of a cast, or after a part of it.
-pub(crate) fn cast_whole(item: Item, class: SignClass) -> Option<Shift>
+pub fn cast_whole(item: Item, class: SignClass) -> Option<Shift>
     ensures { result ≡ cast_whole item class }
 {
     match class {
@@ -184,7 +184,7 @@ pub(crate) fn cast_whole(item: Item, class: SignClass) -> Option<Shift>
 }
 
 /// The step after a whole variant in a list.
-pub(crate) fn variant_end(item: Item, class: SignClass) -> Option<Shift>
+pub fn variant_end(item: Item, class: SignClass) -> Option<Shift>
     ensures { result ≡ variant_end item class }
 {
     match (item, class) {

@@ -1,7 +1,7 @@
 //! The states of the walk over a declaration, and the moves from one state to another.
 ghost use Rattle.std.specs.Prelude.{◌≡◌};
-ghost use Rattle.declarations.specs.Moves.{at_spot, close_to, move_to, open_angle, to_bounds, to_front, to_spot};
-ghost use Rattle.declarations.specs.Moves.{to_type, turn_to, type_from};
+ghost use Rattle.item_tables.specs.Moves.{at_spot, close_to, move_to, open_angle, to_bounds, to_front, to_spot};
+ghost use Rattle.item_tables.specs.Moves.{to_type, turn_to, type_from};
 
 use crate::class::Word;
 use crate::types::{Turn, TypeState};
@@ -291,7 +291,7 @@ pub struct TypeStart {
     pub state: TypeState,
 }
 
-pub(crate) fn turn_to(item: Item, rule: Continuation, state: State, turn: Turn) -> Option<Shift>
+pub fn turn_to(item: Item, rule: Continuation, state: State, turn: Turn) -> Option<Shift>
     ensures { result ≡ turn_to item rule state turn }
 {
     Some(Shift {
@@ -308,51 +308,51 @@ fn move_to(item: Item, rule: Continuation, state: State) -> Option<Shift>
     turn_to(item, rule, state, Turn::Stay)
 }
 
-pub(crate) fn at_spot(item: Item, rule: Continuation, spot: Spot) -> Option<Shift>
+pub fn at_spot(item: Item, rule: Continuation, spot: Spot) -> Option<Shift>
     ensures { result ≡ at_spot item rule spot }
 {
     move_to(item, rule, State::At(spot))
 }
 
-pub(crate) fn to_spot(item: Item, spot: Spot) -> Option<Shift>
+pub fn to_spot(item: Item, spot: Spot) -> Option<Shift>
     ensures { result ≡ to_spot item spot }
 {
     at_spot(item, Continuation::Alone, spot)
 }
 
-pub(crate) fn to_front(item: Item, front: Front) -> Option<Shift>
+pub fn to_front(item: Item, front: Front) -> Option<Shift>
     ensures { result ≡ to_front item front }
 {
     to_spot(item, Spot::Front(front))
 }
 
 /// The move out of the angle brackets of generic parameters.
-pub(crate) fn close_to(item: Item, spot: Spot) -> Option<Shift>
+pub fn close_to(item: Item, spot: Spot) -> Option<Shift>
     ensures { result ≡ close_to item spot }
 {
     turn_to(item, Continuation::Alone, State::At(spot), Turn::Close)
 }
 
-pub(crate) fn to_type(item: Item, rule: Continuation) -> Option<Shift>
+pub fn to_type(item: Item, rule: Continuation) -> Option<Shift>
     ensures { result ≡ to_type item rule }
 {
     move_to(item, rule, State::Range(TypeState::Wanted))
 }
 
-pub(crate) fn to_bounds(item: Item, rule: Continuation) -> Option<Shift>
+pub fn to_bounds(item: Item, rule: Continuation) -> Option<Shift>
     ensures { result ≡ to_bounds item rule }
 {
     move_to(item, rule, State::Range(TypeState::Bound))
 }
 
 /// The move into the angle brackets of an expression.
-pub(crate) fn open_angle(item: Item, rule: Continuation) -> Option<Shift>
+pub fn open_angle(item: Item, rule: Continuation) -> Option<Shift>
     ensures { result ≡ open_angle item rule }
 {
     turn_to(item, rule, State::Range(TypeState::Argument), Turn::Open)
 }
 
-pub(crate) fn type_from(rule: Continuation, state: TypeState) -> Option<TypeStart>
+pub fn type_from(rule: Continuation, state: TypeState) -> Option<TypeStart>
     ensures { result ≡ type_from rule state }
 {
     Some(TypeStart { rule, state })
