@@ -17,7 +17,7 @@ mod answer;
 mod calls;
 
 use answer::{print_calls, status};
-use messages::{Failure, conclude, read_text, say, words};
+use messages::{Failure, exit_code, read_text, say, words};
 use std::env;
 use std::io::{BufWriter, Write};
 use std::process::ExitCode;
@@ -25,10 +25,7 @@ use std::process::ExitCode;
 const USAGE: &str = "find_calls NAME [FILE..]";
 
 fn main(rt: HostRuntime) -> ExitCode {
-    match run(&rt) {
-        Ok(status) => ExitCode::from(status),
-        Err(failure) => conclude(rt.alloc(), "-", Err(failure), &mut rt.stderr()),
-    }
+    exit_code(rt.alloc(), run(&rt), &mut rt.stderr())
 }
 
 /// Searches what the words after the program's name ask for, and answers the status.

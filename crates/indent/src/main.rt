@@ -18,17 +18,14 @@ mod options;
 mod tests;
 
 use answer::{is_indented, print_text};
-use messages::{Failure, conclude, read_text, say, words};
+use messages::{Failure, exit_code, read_text, say, words};
 use options::{Options, USAGE, options_of};
 use std::env;
 use std::io::Write;
 use std::process::ExitCode;
 
 fn main(rt: HostRuntime) -> ExitCode {
-    match run(&rt) {
-        Ok(status) => ExitCode::from(status),
-        Err(failure) => conclude(rt.alloc(), "-", Err(failure), &mut rt.stderr()),
-    }
+    exit_code(rt.alloc(), run(&rt), &mut rt.stderr())
 }
 
 /// Does what the command line demands, and returns the exit status.

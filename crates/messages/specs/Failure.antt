@@ -44,3 +44,8 @@ failure_status (Write error) = 2
 abbrev pub status_of : Result Unit Failure → ℕ
 status_of (Ok done) = 0
 status_of (Err failure) = failure_status failure
+
+-- the exit status that a run gives, or the one after its failure
+abbrev pub exit_of : Result ℕ Failure → ℕ
+exit_of (Ok status) = status
+exit_of (Err failure) = failure_status failure

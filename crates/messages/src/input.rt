@@ -1,12 +1,12 @@
 //! The words and the input of a program.
-ghost use Rattle.std.specs.Prelude.{◌≡◌, ◌↔◌, Err, IfErr, IfOk, IfSome, IsTrue, IsFalse, Ok, Some, OnErr, map};
-ghost use Rattle.std.specs.Prelude.{option_map, string_bytes};
+ghost use Rattle.std.specs.Prelude.{◌≡◌, ◌↔◌, ◌++◌, [], ◌∷◌, Err, IfErr, IfOk, IfSome, IsTrue, IsFalse, Ok, Some};
+ghost use Rattle.std.specs.Prelude.{OnErr, OnOk, map, option_map, string_bytes};
 ghost use Rattle.std.specs.IoError.{error_kind};
 ghost use Rattle.messages.specs.Input.{IsTextOf};
-ghost use Rattle.messages.specs.Words.{is_no_text, is_option, path_of, words_of};
+ghost use Rattle.messages.specs.Words.{is_no_text, is_option, or_dash, path_of, words_of};
 
 use crate::errors::Failure;
-use std::alloc::Global;
+use std::alloc::{AllocError, Global};
 use std::env::Args;
 use std::fs::File;
 use std::io;
@@ -50,6 +50,24 @@ pub fn path(alloc: Global, words: &[String], usage: &'static str) -> Result<Stri
         [path] => Ok(path.clone()?),
         _ => Err(Failure::Usage(usage)),
     }
+}
+
+/// Adds a path after those that a program reads. Fails if memory runs out.
+pub fn push_path(alloc: Global, paths: &mut Vec<String>, path: &str) -> Result<(), AllocError>
+    ensures { OnOk result (map string_bytes paths.new.items ≡ map string_bytes paths.old.items ++ (path.now ∷ [])) }
+{
+    paths.push(String::from_str(alloc, path)?)?;
+    Ok(())
+}
+
+/// Adds the path `-`, which is standard input, if a program has no path to read. Fails if memory runs out.
+pub fn push_input_if_empty(alloc: Global, paths: &mut Vec<String>) -> Result<(), AllocError>
+    ensures { OnOk result (map string_bytes paths.new.items ≡ or_dash (map string_bytes paths.old.items)) }
+{
+    if paths.is_empty() {
+        push_path(alloc, paths, "-")?;
+    }
+    Ok(())
 }
 
 /// Whether the word is an option, known or not: whether it begins with `-` and is not `-` alone.

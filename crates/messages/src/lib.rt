@@ -9,7 +9,7 @@ mod report;
 mod text;
 
 pub use errors::Failure;
-pub use input::{is_option, path, read_text, words};
+pub use input::{is_option, path, push_input_if_empty, push_path, read_text, words};
 pub use json::json_escape;
-pub use report::{conclude, say, say_at, say_of, status};
+pub use report::{conclude, exit_code, say, say_at, say_of, status};
 pub use text::split_chars;

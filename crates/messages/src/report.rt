@@ -2,7 +2,7 @@
 ghost use Rattle.std.specs.Prelude.{◌≡◌, ◌++◌, ℕ, List, OnOk, IfSome, codes};
 ghost use Rattle.std.specs.Io.KnownBytes.{Appends};
 ghost use Rattle.std.specs.Process.{exit_status};
-ghost use Rattle.messages.specs.Failure.{is_closed, status_of};
+ghost use Rattle.messages.specs.Failure.{exit_of, is_closed, status_of};
 ghost use Rattle.messages.specs.Message.{at_line_column, message, of_file};
 
 use crate::errors::Failure;
@@ -27,6 +27,17 @@ pub fn conclude<E: Write>(
         let _ = say(alloc, path, failure, errors);
     }
     ExitCode::from(status(&outcome))
+}
+
+/// Returns the exit status that a program's run gives. If the run failed, its reason is written to `errors` as by
+/// `conclude`, with the path `-`.
+pub fn exit_code<E: Write>(alloc: Global, outcome: Result<u8, Failure>, errors: &mut E) -> ExitCode
+    ensures { exit_status result ≡ exit_of outcome }
+{
+    match outcome {
+        Ok(status) => ExitCode::from(status),
+        Err(failure) => conclude(alloc, "-", Err(failure), errors),
+    }
 }
 
 /// Returns the exit status of a program: 0 after success, 1 after a syntax error, and 2 after any other failure.

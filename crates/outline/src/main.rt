@@ -27,17 +27,14 @@ mod options;
 mod tags;
 
 use files::list_files;
-use messages::{Failure, conclude, words};
+use messages::{Failure, exit_code, words};
 use options::{USAGE, options_of};
 use std::env;
 use std::io::{BufWriter, Write};
 use std::process::ExitCode;
 
 fn main(rt: HostRuntime) -> ExitCode {
-    match run(&rt) {
-        Ok(status) => ExitCode::from(status),
-        Err(failure) => conclude(rt.alloc(), "-", Err(failure), &mut rt.stderr()),
-    }
+    exit_code(rt.alloc(), run(&rt), &mut rt.stderr())
 }
 
 /// Does what the program's arguments say, and returns the exit status.

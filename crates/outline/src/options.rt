@@ -2,9 +2,9 @@
 ghost use Rattle.std.specs.Prelude.{◌≡◌, ◌⊎◌, IfErr, IfOk, None, OnOk, Some, map, string_bytes};
 ghost use Rattle.messages.specs.Failure.{usage_of};
 ghost use Rattle.messages.specs.declared.errors.Failure.TheVariants.{Memory};
-ghost use Rattle.outline.specs.Options.{asks, no_wish, or_input, wishes_of, with_word, word_of};
+ghost use Rattle.outline.specs.Options.{asks, no_wish, wishes_of, with_word, word_of};
 
-use messages::{Failure, is_option};
+use messages::{Failure, is_option, push_input_if_empty, push_path};
 use std::alloc::{AllocError, Global};
 
 /// The usage line of the program.
@@ -56,7 +56,7 @@ pub fn options_of(alloc: Global, words: &[String]) -> Result<Options, Failure>
             known => options.take(alloc, known, word.as_str())?,
         }
     }
-    options.read_input_at_least(alloc)?;
+    push_input_if_empty(alloc, &mut options.paths)?;
     Ok(options)
 }
 
@@ -90,27 +90,9 @@ impl Options {
         match known {
             ArgumentKind::Json => self.form = Form::Json,
             ArgumentKind::Ctags => self.form = Form::Ctags,
-            ArgumentKind::Path => self.push_path(alloc, word)?,
+            ArgumentKind::Path => push_path(alloc, &mut self.paths, word)?,
             ArgumentKind::Unknown => {}
         }
-        Ok(())
-    }
-
-    /// Adds standard input if there is no path.
-    fn read_input_at_least(&mut self, alloc: Global) -> Result<(), AllocError>
-        ensures { OnOk result (wishes_of self.new ≡ or_input (wishes_of self.old)) }
-    {
-        if self.paths.is_empty() {
-            self.push_path(alloc, "-")?;
-        }
-        Ok(())
-    }
-
-    /// Appends a path.
-    fn push_path(&mut self, alloc: Global, path: &str) -> Result<(), AllocError>
-        ensures { OnOk result (wishes_of self.new ≡ with_word ArgumentKind.Path path.now (wishes_of self.old)) }
-    {
-        self.paths.push(String::from_str(alloc, path)?)?;
         Ok(())
     }
 }

@@ -24,17 +24,14 @@ mod turns;
 mod writing;
 
 use files::check_files;
-use messages::{Failure, conclude, words};
+use messages::{Failure, exit_code, words};
 use options::{Form, Options, Request, USAGE, request_of};
 use std::env;
 use std::io::{BufWriter, Write};
 use std::process::ExitCode;
 
 fn main(rt: HostRuntime) -> ExitCode {
-    match run(&rt) {
-        Ok(status) => ExitCode::from(status),
-        Err(failure) => conclude(rt.alloc(), "-", Err(failure), &mut rt.stderr()),
-    }
+    exit_code(rt.alloc(), run(&rt), &mut rt.stderr())
 }
 
 /// Does what the command line demands, and returns the exit status.

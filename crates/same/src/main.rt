@@ -17,17 +17,14 @@ mod source_word;
 mod words;
 
 use answer::{Source, check_text, compare};
-use messages::{Failure, conclude, read_text, say, words};
+use messages::{Failure, exit_code, read_text, say, words};
 use std::env;
 use std::process::ExitCode;
 
 const USAGE: &str = "same [--comments] A B";
 
 fn main(rt: HostRuntime) -> ExitCode {
-    match run(&rt) {
-        Ok(status) => ExitCode::from(status),
-        Err(failure) => conclude(rt.alloc(), "-", Err(failure), &mut rt.stderr()),
-    }
+    exit_code(rt.alloc(), run(&rt), &mut rt.stderr())
 }
 
 /// Compares the files that the command line names, and returns the exit status.
