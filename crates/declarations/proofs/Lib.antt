@@ -18,6 +18,8 @@ pub mod EndingLemmas
 pub mod ListLemmas
 pub mod CompileErrorLemmas
 pub mod ClassLemmas
+pub mod ExpectedLemmas
+pub mod ExpectsLemmas
 pub mod RuleLemmas
 pub mod StackLemmas
 pub mod AgreeLemmas

@@ -33,7 +33,8 @@ whole_read start trees [] place walked ended none = record {
 whole_read start trees (tree ∷ left) place walked ended none = absurd (omega arith)
 
 -- a walk cannot go on past the signs where it stops
-stuck : (start place : WalkState) (front : List SignClass) (sign : SignClass) (more : List SignClass) (last : WalkState)
+pub stuck : (start place : WalkState) (front : List SignClass) (sign : SignClass) (more : List SignClass)
+    (last : WalkState)
     → walk step start front ≡ Some place → step place sign ≡ None
     → walk step start (front ++ sign ∷ more) ≡ Some last → ⊥
 stuck start place front sign more last walks stop goes =

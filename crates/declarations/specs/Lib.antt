@@ -13,6 +13,7 @@ pub mod Signs
 pub mod Reading
 pub mod Reader
 pub mod Whole
+pub mod Expected
 pub mod Item
 pub mod Ending
 pub mod Field

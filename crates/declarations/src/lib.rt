@@ -18,6 +18,7 @@ mod class;
 mod entry;
 mod entry_check;
 mod entry_list;
+mod expected;
 mod expression;
 mod fault;
 mod field;

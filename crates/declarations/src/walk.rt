@@ -1,6 +1,7 @@
 //! The walk over the signs of trees by the tables of the grammar.
 ghost use Rattle.std.specs.Prelude.{◌≡◌, ◌≢◌, ◌+◌, ◌≤◌, ◌<◌, ◌^◌, IfErr, IfNone, IfOk, IfSome, MatchResult, OnOk, cond};
 ghost use Rattle.std.specs.Prelude.{false, length, true};
+ghost use Rattle.declarations.specs.Expected.{Expects};
 ghost use Rattle.declarations.specs.Fault.{extent_at};
 ghost use Rattle.declarations.specs.Forms.{IsFrom};
 ghost use Rattle.declarations.specs.Grammar.{names, step};
@@ -11,6 +12,7 @@ ghost use Rattle.declarations.specs.Whole.{IsWhole, ReadsAll};
 ghost use Rattle.declarations.specs.declared.class.SignClass.{SignClass as ClassValue};
 ghost use Rattle.declarations.specs.declared.walk_state.WalkState.{WalkState as PlaceValue};
 
+use crate::expected::{Expected, steps_from};
 use crate::fault::Fault;
 use crate::signs::first_sign;
 use crate::walk_state::{Item, WalkState};
@@ -94,12 +96,23 @@ struct Stop<'a> {
     named: &'a [TokenTree],
 }
 
+/// The number of trees before the place where a walk stops, and the signs that can come next there.
+#[cold]
+pub(crate) fn expected_at(trees: &[TokenTree], start: WalkState) -> (usize, Expected)
+    requires { start.depth ≡ 0 }
+    ensures { Expects (IsFrom start) trees.now result.0 result.1 }
+{
+    let stop = walk_from(trees, start);
+    (trees.len() - stop.left.len(), steps_from(stop.place))
+}
+
 /// Walks from a state on, as far as the signs are steps.
 fn walk_from<'a>(trees: &'a [TokenTree], start: WalkState) -> Stop<'a>
     requires { start.depth ≡ 0 }
     ensures walked { Walked start trees.now result.left.now result.place (first_name result.named.now) }
     ensures stops { Stops step result.place (classes_of (signs result.left.now)) }
     ensures fewer { length result.left.now ≤ length trees.now }
+    ensures depth { result.place.depth ≤ length trees.now }
 {
     let mut place = start;
     let mut left = trees;
