@@ -17,7 +17,7 @@ pub struct Expected {
 }
 
 /// All classes, in the order of their numbers.
-pub(crate) const CLASSES: [SignClass; 66] = [
+pub(crate) const CLASSES: [SignClass; 68] = [
     SignClass::Word(Word::Auto),
     SignClass::Word(Word::Default),
     SignClass::Word(Word::Safe),
@@ -84,6 +84,8 @@ pub(crate) const CLASSES: [SignClass; 66] = [
     SignClass::Dot,
     SignClass::Infix,
     SignClass::Mark,
+    SignClass::Block,
+    SignClass::Word(Word::Gen),
 ];
 
 impl Expected {

@@ -54,6 +54,7 @@ pub use class::{Keyword, SignClass, Word};
 pub use entry::{Entry, EntryKind, parse_entry};
 pub use entry_check::{EntryError, EntryProblem, check_entries};
 pub use entry_list::Entries;
+pub use expected::Expected;
 pub use fault::Fault;
 pub use field::{Field, parse_field, parse_tuple_field};
 pub use file::{File, Items, parse_file, parse_item};
