@@ -48,7 +48,7 @@ OF_PRIMITIVES = set('from from_le_bytes from_u32 from_digit MAX MIN'.split())
 MACROS = set('format format_args matches unreachable write writeln'.split())
 
 # Attributes that stay as they are.
-ATTRIBUTES = {'inline', 'non_exhaustive'}
+ATTRIBUTES = {'cold', 'inline', 'non_exhaustive'}
 DERIVES = set('Clone Copy Debug Drop Eq Hash Ord PartialEq PartialOrd'.split())
 
 # The modules by their sources that `proc-macro2` never calls. The library has them by its feature `whole`.

@@ -31,17 +31,6 @@ module _ (g : G) (form : List SignClass → List SignClass → Type 0) (by : Rea
       only_to (ByRule g) form by trees part rest
       (only_reading g start trees part rest (found_reads g start trees part rest f whole))
 
-  pub part_fault : (trees left : List TokenTree) (at : ℕ) → Sticks g trees left → at ≡ length trees - length left
-      → FaultAt form trees at
-  part_fault trees left at s counted =
-      let within = remains_within trees left s.remains in
-      fault_to (ByRule g) form by trees at (stuck_fault g start trees left at s (omega arith))
-
-pub part_span : (g : G) (trees left : List TokenTree) (at : ℕ) (span : Option Extent) → Sticks g trees left
-    → at ≡ length trees - length left → span ≡ first_extent left
-    → span ≡ extent_at trees at
-part_span g trees left at span s counted first = remains_span trees left at span s.remains counted first
-
 -- ---- attributes
 
 pub attributes_read : (trees part rest : List TokenTree) → Finds attributes trees rest → trees ≡ part ++ rest
@@ -52,12 +41,7 @@ pub attributes_only : (trees part rest : List TokenTree) → Finds attributes tr
     → IsOnly AreAttributes trees part rest
 attributes_only = part_only attributes AreAttributes attribute_lists (starts attributes refl refl)
 
-pub attributes_fault : (trees left : List TokenTree) (at : ℕ) → Sticks attributes trees left
-    → at ≡ length trees - length left
-    → FaultAt AreAttributes trees at
-attributes_fault = part_fault attributes AreAttributes attribute_lists (starts attributes refl refl)
-
-pub ruleset attribute_parts = (attributes_read, attributes_only, attributes_fault, part_span)
+pub ruleset attribute_parts = (attributes_read, attributes_only)
 
 -- ---- visibilities
 
@@ -69,12 +53,7 @@ pub visibility_only : (trees part rest : List TokenTree) → Finds visibility tr
     → IsOnly IsVisibility trees part rest
 visibility_only = part_only visibility IsVisibility visibilities (starts visibility refl refl)
 
-pub visibility_fault : (trees left : List TokenTree) (at : ℕ) → Sticks visibility trees left
-    → at ≡ length trees - length left
-    → FaultAt IsVisibility trees at
-visibility_fault = part_fault visibility IsVisibility visibilities (starts visibility refl refl)
-
-pub ruleset visibility_parts = (visibility_reads, visibility_only, visibility_fault, part_span)
+pub ruleset visibility_parts = (visibility_reads, visibility_only)
 
 -- ---- generic parameters
 
@@ -86,12 +65,7 @@ pub generics_only : (trees part rest : List TokenTree) → Finds generics trees 
     → IsOnly AreGenerics trees part rest
 generics_only = part_only generics AreGenerics generic_parameters (starts generics refl refl)
 
-pub generics_fault : (trees left : List TokenTree) (at : ℕ) → Sticks generics trees left
-    → at ≡ length trees - length left
-    → FaultAt AreGenerics trees at
-generics_fault = part_fault generics AreGenerics generic_parameters (starts generics refl refl)
-
-pub ruleset generic_parts = (generics_read, generics_only, generics_fault, part_span)
+pub ruleset generic_parts = (generics_read, generics_only)
 
 -- ---- where clauses
 
@@ -103,9 +77,4 @@ pub where_only : (trees part rest : List TokenTree) → Finds where_clause trees
     → IsOnly IsWhere trees part rest
 where_only = part_only where_clause IsWhere where_clauses (starts where_clause refl refl)
 
-pub where_fault : (trees left : List TokenTree) (at : ℕ) → Sticks where_clause trees left
-    → at ≡ length trees - length left
-    → FaultAt IsWhere trees at
-where_fault = part_fault where_clause IsWhere where_clauses (starts where_clause refl refl)
-
-pub ruleset where_parts = (where_reads, where_only, where_fault, part_span)
+pub ruleset where_parts = (where_reads, where_only)

@@ -12,7 +12,7 @@ or_extent (Some extent) end = Some extent
 
 -- the error with this span, if it has none
 abbrev pub ending_at : Option Extent → Fault → Fault
-ending_at end fault = record { at = fault.at; span = or_extent fault.span end }
+ending_at end fault = record { at = fault.at; span = or_extent fault.span end; expected = fault.expected }
 
 -- the error is one of these, with this span if trees are missing at the end
 abbrev pub EndsAt : Option Extent → (Fault → Type 0) → Fault → Type 0

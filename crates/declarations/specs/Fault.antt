@@ -21,6 +21,7 @@ abbrev pub fault_text : Option Extent → List ℕ
 fault_text None = codes "the declaration ends too early"
 fault_text (Some extent) = codes "not expected here"
 
--- whether both errors have the same number of trees before them, and the same span or none
+-- whether both errors have the same number of trees before them, and the same span or none. What was expected does not
+-- matter
 abbrev pub fault_eq : Fault → Fault → Bool
 fault_eq = eq_of_both (on (λ fault. fault.at) ◌==◌) (on (λ fault. fault.span) (option_eq extent_eq))

@@ -1,6 +1,7 @@
 //! The item at the start of trees, with its kind and name.
 ghost use Rattle.std.specs.Prelude.{◌≡◌, ◌<◌, IfErr, IfOk, MatchOption, None, Option, Some, length};
 ghost use Rattle.pm_token.specs.Leaf.{Name};
+ghost use Rattle.declarations.specs.Expected.{Expects};
 ghost use Rattle.declarations.specs.Fault.{extent_at};
 ghost use Rattle.declarations.specs.Forms.{IsAnyItem};
 ghost use Rattle.declarations.specs.Kind.{Tells, kind_of};
@@ -79,6 +80,7 @@ pub fn split_any_item<'a>(trees: &'a [TokenTree]) -> Result<(AnyItem<'a>, &'a [T
         × MatchOption found.0.name (name ≡ None) (λ ident. name ≡ Some ident.now)) }
     ensures fault { IfErr result (λ fault. FaultAt IsAnyItem trees.now fault.at) }
     ensures span { IfErr result (λ fault. fault.span ≡ extent_at trees.now fault.at) }
+    ensures expected { IfErr result (λ fault. Expects IsAnyItem trees.now fault.at fault.expected) }
 {
     let start = WalkState {
         item: Item::Alone,

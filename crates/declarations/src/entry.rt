@@ -155,10 +155,7 @@ fn fault_within(group: &Group, inner: Fault) -> Fault
     ensures at { result.at ≡ 0 }
     ensures span { result.span ≡ Some (span_or inner.span group.now.span) }
 {
-    Fault {
-        at: 0,
-        span: Some(span_or(inner.span, group.span())),
-    }
+    Fault::at_span(0, Some(span_or(inner.span, group.span())))
 }
 
 /// The span, or else the other one.

@@ -7,7 +7,7 @@ ghost use Rattle.declarations.specs.EntryCheck.{number_of, place_of, in_backtick
 
 use crate::entry::{Entry, spot_of};
 use crate::entry_list::first_entry;
-use crate::fault::{Fault, are_same, or_span};
+use crate::fault::{are_same, or_span};
 use pm_span::Span;
 use pm_stream::{Group, TokenTree};
 use pm_token::Ident;
@@ -94,26 +94,19 @@ pub fn check_entries<'a>(list: &'a [TokenTree], known: &'a [&'a str]) -> Result<
             Ok((entry, next)) => {
                 let place = place_of(&entry, known);
                 if place == known.len() {
-                    let fault = Fault {
-                        at: before,
-                        span: spot_of(left, &entry),
-                    };
-                    return Err(wrong(EntryProblem::Unknown, fault, entry.name(), known));
+                    let span = spot_of(left, &entry);
+                    return Err(wrong(EntryProblem::Unknown, before, span, entry.name(), known));
                 }
                 if seen[place] {
-                    let fault = Fault {
-                        at: before,
-                        span: spot_of(left, &entry),
-                    };
-                    return Err(wrong(EntryProblem::Repeated, fault, entry.name(), known));
+                    let span = spot_of(left, &entry);
+                    return Err(wrong(EntryProblem::Repeated, before, span, entry.name(), known));
                 }
                 seen[place] = true;
                 left = next;
             }
             Err(fault) => {
                 let at = before + fault.at;
-                let span = fault.span;
-                return Err(wrong(EntryProblem::NoEntry, Fault { at, span }, None, known));
+                return Err(wrong(EntryProblem::NoEntry, at, fault.span, None, known));
             }
         }
     }
@@ -122,20 +115,21 @@ pub fn check_entries<'a>(list: &'a [TokenTree], known: &'a [&'a str]) -> Result<
 
 fn wrong<'a>(
     problem: EntryProblem,
-    fault: Fault,
+    at: usize,
+    span: Option<Span>,
     name: Option<&'a Ident>,
     known: &'a [&'a str],
 ) -> EntryError<'a>
     ensures problem { result.problem ≡ problem }
-    ensures at { result.at ≡ fault.at }
-    ensures span { result.span ≡ fault.span }
+    ensures at { result.at ≡ at }
+    ensures span { result.span ≡ span }
     ensures name { result.name ≡ name.entry }
     ensures known { result.known.now ≡ known.now }
 {
     EntryError {
         problem,
-        at: fault.at,
-        span: fault.span,
+        at,
+        span,
         name,
         known,
     }

@@ -5,6 +5,7 @@ ghost use Rattle.declarations.specs.Ending.{closing_of, ending_at, or_extent};
 ghost use Rattle.declarations.specs.Fault.{first_extent};
 ghost use Rattle.pm_span.specs.Extent.{extent_eq};
 
+use crate::expected::Expected;
 use pm_span::Span;
 use pm_stream::{Group, TokenTree};
 use std::error::Error;
@@ -28,10 +29,24 @@ pub struct Fault {
     /// The span of the first tree of that sign, or `None` if more trees are missing, to which [`within`](Fault::within)
     /// adds the span of the closing delimiter.
     pub span: Option<Span>,
+    /// The signs that can come next.
+    expected: Expected,
 }
 
 impl Fault {
-    /// The error after `at` trees, where `left` are the trees that remain.
+    /// The error after `at` trees with this span, which does not say what was expected.
+    pub(crate) fn at_span(at: usize, span: Option<Span>) -> Fault
+        ensures at { result.at ≡ at }
+        ensures span { result.span ≡ span }
+    {
+        Fault {
+            at,
+            span,
+            expected: Expected::nothing(),
+        }
+    }
+
+    /// The error after `at` trees, where `left` are the trees that remain. It does not say what was expected.
     pub(crate) fn ahead_of(at: usize, left: &[TokenTree]) -> Fault
         ensures at { result.at ≡ at }
         ensures span { result.span ≡ first_extent left.now }
@@ -40,7 +55,33 @@ impl Fault {
             Some((tree, _)) => Some(tree.span()),
             None => None,
         };
-        Fault { at, span }
+        Fault::at_span(at, span)
+    }
+
+    /// The error with these signs as those that can come next.
+    pub(crate) fn expecting(self, expected: Expected) -> Fault
+        ensures at { result.at ≡ self.at }
+        ensures span { result.span ≡ self.span }
+        ensures expected { result.expected ≡ expected }
+    {
+        Fault {
+            at: self.at,
+            span: self.span,
+            expected,
+        }
+    }
+
+    /// The error with this many trees before it.
+    pub(crate) fn after(self, at: usize) -> Fault
+        ensures at { result.at ≡ at }
+        ensures span { result.span ≡ self.span }
+        ensures expected { result.expected ≡ self.expected }
+    {
+        Fault {
+            at,
+            span: self.span,
+            expected: self.expected,
+        }
     }
 
     /// Returns the field [`span`](Fault::span): the span of the first tree that does not fit.
@@ -68,7 +109,20 @@ impl Fault {
         Fault {
             at: self.at,
             span: or_span(self.span, end),
+            expected: self.expected,
         }
+    }
+
+    /// Returns the signs that could come after the first `at` trees, in place of what is there.
+    ///
+    /// A sign is in the set exactly if the first `at` trees, this sign and perhaps more can be a whole part of the kind
+    /// that was read. The end is in the set if the first `at` trees are a whole part themselves. For `struct 5` the set
+    /// of [`parse_type_item`](crate::parse_type_item) has the words, which can be names, and for `struct S; 5` it has
+    /// only the end. The set is empty if the call does not say what it expected.
+    pub fn expected(&self) -> Expected
+        ensures { result ≡ self.now.expected }
+    {
+        self.expected
     }
 }
 
@@ -81,7 +135,8 @@ impl PartialEq for Fault {
 
     ghost laws = { Prim.search (comparing, rules) };
 
-    /// Whether both errors have the same number of trees before them, and the same span or none.
+    /// Whether both errors have the same number of trees before them, and the same span or none. The expected signs do
+    /// not matter.
     fn eq(&self, other: &Fault) -> bool {
         self.at == other.at && are_same(self.span, other.span)
     }

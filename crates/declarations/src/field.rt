@@ -1,6 +1,7 @@
 //! The fields of a struct, a variant or a union.
 ghost use Rattle.std.specs.Prelude.{◌≡◌, IfErr, IfOk, MatchResult};
 ghost use Rattle.declarations.specs.Field.{IsFieldAt, HasFieldParts, HasTypeParts};
+ghost use Rattle.declarations.specs.Expected.{Expects};
 ghost use Rattle.declarations.specs.Fault.{extent_at};
 ghost use Rattle.declarations.specs.Forms.{IsField, IsTupleField};
 ghost use Rattle.declarations.specs.Reading.{FaultAt};
@@ -33,6 +34,7 @@ pub fn parse_field(trees: &[TokenTree]) -> Result<(Field<'_>, &[TokenTree]), Fau
     ensures ok { IfOk result (λ found. IsFieldAt IsField HasFieldParts trees.now found.0 found.1.now) }
     ensures fault { IfErr result (λ fault. FaultAt IsField trees.now fault.at) }
     ensures span { IfErr result (λ fault. fault.span ≡ extent_at trees.now fault.at) }
+    ensures expected { IfErr result (λ fault. Expects IsField trees.now fault.at fault.expected) }
 {
     let (part, rest) = split_field(trees)?;
     match named_field(part) {
@@ -49,6 +51,7 @@ pub fn parse_tuple_field(trees: &[TokenTree]) -> Result<(Field<'_>, &[TokenTree]
     ensures ok { IfOk result (λ found. IsFieldAt IsTupleField HasTypeParts trees.now found.0 found.1.now) }
     ensures fault { IfErr result (λ fault. FaultAt IsTupleField trees.now fault.at) }
     ensures span { IfErr result (λ fault. fault.span ≡ extent_at trees.now fault.at) }
+    ensures expected { IfErr result (λ fault. Expects IsTupleField trees.now fault.at fault.expected) }
 {
     let (part, rest) = split_tuple_field(trees)?;
     match tuple_field(part) {

@@ -2,6 +2,7 @@
 ghost use Rattle.std.specs.Prelude.{◌≡◌, [], IfErr, IfOk, List, MatchOption, None, Option, Some, length};
 ghost use Rattle.pm_stream.specs.declared.stream.TokenTree.{TokenTree as Tree};
 ghost use Rattle.pm_token.specs.Leaf.{Name};
+ghost use Rattle.declarations.specs.Expected.{Expects};
 ghost use Rattle.declarations.specs.Fault.{extent_at};
 ghost use Rattle.declarations.specs.File.{FileFaultAt, IsFile, body_of, braces, last_braces};
 ghost use Rattle.declarations.specs.Forms.{IsAnyItem};
@@ -58,10 +59,7 @@ pub fn parse_file(trees: &[TokenTree]) -> Result<File<'_>, Fault>
             Ok((_, rest)) => left = rest,
             Err(fault) => {
                 let at = trees.len() - left.len() + fault.at;
-                return Err(Fault {
-                    at,
-                    span: fault.span,
-                });
+                return Err(fault.after(at));
             }
         }
     }
@@ -83,6 +81,7 @@ pub fn parse_item(trees: &[TokenTree]) -> Result<AnyItem<'_>, Fault>
         × MatchOption item.name (name ≡ None) (λ ident. name ≡ Some ident.now)) }
     ensures fault { IfErr result (λ fault. FaultAt (IsWhole IsAnyItem) trees.now fault.at) }
     ensures span { IfErr result (λ fault. fault.span ≡ extent_at trees.now fault.at) }
+    ensures expected { IfErr result (λ fault. Expects IsAnyItem trees.now fault.at fault.expected) }
 {
     let start = WalkState {
         item: Item::Alone,

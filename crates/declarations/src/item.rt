@@ -4,6 +4,7 @@ ghost use Rattle.pm_stream.specs.declared.stream.Group.{Group as Grouped};
 ghost use Rattle.pm_stream.specs.declared.stream.TokenTree.{TokenTree as Tree};
 ghost use Rattle.pm_stream.specs.declared.stream.TokenTree.TheVariants as trees_are;
 ghost use Rattle.pm_token.specs.Leaf.{Name};
+ghost use Rattle.declarations.specs.Expected.{Expects};
 ghost use Rattle.declarations.specs.Fault.{extent_at};
 ghost use Rattle.declarations.specs.Forms.{IsFrom, IsItem};
 ghost use Rattle.declarations.specs.Item.{AreBracesLeft, HasBraces, HasEnding, IsLeft, IsTypeItem};
@@ -83,6 +84,7 @@ pub fn parse_type_item(trees: &[TokenTree]) -> Result<TypeItem<'_>, Fault>
     ensures ok { IfOk result (λ item. IsTypeItem trees.now item) }
     ensures fault { IfErr result (λ fault. FaultAt (IsWhole IsItem) trees.now fault.at) }
     ensures span { IfErr result (λ fault. fault.span ≡ extent_at trees.now fault.at) }
+    ensures expected { IfErr result (λ fault. Expects IsItem trees.now fault.at fault.expected) }
 {
     let start = WalkState {
         item: Item::Alone,

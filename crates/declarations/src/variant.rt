@@ -1,6 +1,7 @@
 //! The variants of an enum.
 ghost use Rattle.std.specs.Prelude.{◌≡◌, IfErr, IfOk, MatchResult};
 ghost use Rattle.pm_stream.specs.declared.stream.TokenTree.{TokenTree as Tree};
+ghost use Rattle.declarations.specs.Expected.{Expects};
 ghost use Rattle.declarations.specs.Fault.{extent_at};
 ghost use Rattle.declarations.specs.Forms.{IsVariant};
 ghost use Rattle.declarations.specs.Reading.{FaultAt};
@@ -36,6 +37,7 @@ pub fn parse_variant(trees: &[TokenTree]) -> Result<(Variant<'_>, &[TokenTree]),
     ensures ok { IfOk result (λ found. IsVariantAt trees.now found.0 found.1.now) }
     ensures fault { IfErr result (λ fault. FaultAt IsVariant trees.now fault.at) }
     ensures span { IfErr result (λ fault. fault.span ≡ extent_at trees.now fault.at) }
+    ensures expected { IfErr result (λ fault. Expects IsVariant trees.now fault.at fault.expected) }
 {
     let (part, rest) = split_variant(trees)?;
     match variant_of(part) {

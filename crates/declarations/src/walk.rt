@@ -12,7 +12,7 @@ ghost use Rattle.declarations.specs.Whole.{IsWhole, ReadsAll};
 ghost use Rattle.declarations.specs.declared.class.SignClass.{SignClass as ClassValue};
 ghost use Rattle.declarations.specs.declared.walk_state.WalkState.{WalkState as PlaceValue};
 
-use crate::expected::{Expected, steps_from};
+use crate::expected::steps_from;
 use crate::fault::Fault;
 use crate::signs::first_sign;
 use crate::walk_state::{Item, WalkState};
@@ -38,6 +38,7 @@ pub(crate) fn split_from<'a>(trees: &'a [TokenTree], start: WalkState) -> Result
         × Walked start trees.now found.rest.now last (first_name found.named.now) × (found.last ≡ last.item)) }
     ensures fault { IfErr result (λ fault. FaultAt (IsFrom start) trees.now fault.at) }
     ensures span { IfErr result (λ fault. fault.span ≡ extent_at trees.now fault.at) }
+    ensures expected { IfErr result (λ fault. Expects (IsFrom start) trees.now fault.at fault.expected) }
 {
     let stop = walk_from(trees, start);
     let at = trees.len() - stop.left.len();
@@ -50,7 +51,8 @@ pub(crate) fn split_from<'a>(trees: &'a [TokenTree], start: WalkState) -> Result
             named: stop.named,
         })
     } else {
-        Err(Fault::ahead_of(at, stop.left))
+        let fault = Fault::ahead_of(at, stop.left);
+        Err(fault.expecting(steps_from(stop.place)))
     }
 }
 
@@ -60,12 +62,14 @@ pub(crate) fn read_whole(trees: &[TokenTree], start: WalkState) -> Result<(), Fa
     ensures ok { OnOk result (ReadsAll (IsFrom start) trees.now) }
     ensures fault { IfErr result (λ fault. FaultAt (IsWhole (IsFrom start)) trees.now fault.at) }
     ensures span { IfErr result (λ fault. fault.span ≡ extent_at trees.now fault.at) }
+    ensures expected { IfErr result (λ fault. Expects (IsFrom start) trees.now fault.at fault.expected) }
 {
     let stop = walk_from(trees, start);
     if stop.left.is_empty() && stop.place.may_end() {
         Ok(())
     } else {
-        Err(Fault::ahead_of(trees.len() - stop.left.len(), stop.left))
+        let fault = Fault::ahead_of(trees.len() - stop.left.len(), stop.left);
+        Err(fault.expecting(steps_from(stop.place)))
     }
 }
 
@@ -94,16 +98,6 @@ struct Stop<'a> {
     left: &'a [TokenTree],
     // The trees from the item's name on, or no trees if it has no name.
     named: &'a [TokenTree],
-}
-
-/// The number of trees before the place where a walk stops, and the signs that can come next there.
-#[cold]
-pub(crate) fn expected_at(trees: &[TokenTree], start: WalkState) -> (usize, Expected)
-    requires { start.depth ≡ 0 }
-    ensures { Expects (IsFrom start) trees.now result.0 result.1 }
-{
-    let stop = walk_from(trees, start);
-    (trees.len() - stop.left.len(), steps_from(stop.place))
 }
 
 /// Walks from a state on, as far as the signs are steps.

@@ -23,7 +23,7 @@ pub returns-in-Err-clause-span : goal.returns-in-Err-clause-span
 returns-in-Err-clause-span c =
     let fits : length c.loop-left.left.now ≤ length c.args.trees.now =
     left_fits c.args.trees.now c.in_ok-inner.items.now c.loop-left.left.now c.loop-left.invariant in
-    c.in-Err.ensures.span
+    c.after.ensures.span ∙ c.in-Err.ensures.span
     ∙ fault_extent c.args.trees.now c.in_ok-inner.items.now c.loop-left.left.now c.in-Err.fault.at _
     c.loop-left.invariant (omega arith)
 

@@ -1,4 +1,7 @@
-use Rattle.std.proofs.Common.{◌≡◌, ◌∙◌, ap, ◌==◌, true, false, length, arith}
+use Rattle.std.proofs.Common.{◌≡◌, ◌∙◌, ap, ◌==◌, true, false, length, subst, sym, arith}
+use Rattle.declarations.specs.Expected.{Expects}
+use Rattle.declarations.specs.Forms.{IsFrom}
+use Rattle.declarations.proofs.ExpectsLemmas.{walk_expects}
 use Rattle.declarations.specs.Grammar.{ends}
 use Rattle.declarations.proofs.WholeLemmas.{span_at, whole_fault}
 use Rattle.declarations.proofs.walk.read_whole.Goals as goal
@@ -19,6 +22,14 @@ returns-else-is_empty-clause-fault c =
 
 pub returns-else-is_empty-clause-span : goal.returns-else-is_empty-clause-span
 returns-else-is_empty-clause-span c =
-    c.ahead_of.ensures.span
+    c.expecting.ensures.span ∙ c.ahead_of-fault.ensures.span
     ∙ span_at c.args.start c.args.trees.now c.walk_from-stop.result.left.now c.walk_from-stop.result.place _
     c.walk_from-stop.ensures.walked (omega arith)
+
+pub returns-else-is_empty-clause-expected : goal.returns-else-is_empty-clause-expected
+returns-else-is_empty-clause-expected c =
+    let stop = c.walk_from-stop.result in
+    subst (λ set. Expects (IsFrom c.args.start) c.args.trees.now c.expecting.result.at set)
+    (sym c.expecting.ensures.expected)
+    (walk_expects c.args.start stop.place c.args.trees.now stop.left.now _ c.steps_from.result
+    c.walk_from-stop.ensures.walked c.steps_from.ensures (omega arith))

@@ -1,6 +1,8 @@
-use Rattle.std.proofs.Common.{◌∙◌, refl, arith}
+use Rattle.std.proofs.Common.{◌∙◌, refl, subst, sym, arith}
+use Rattle.declarations.proofs.ExpectsLemmas.{walk_expects}
 use Rattle.declarations.proofs.ReadingLemmas.{split_read, split_only, split_kind_and_name, split_fault}
 use Rattle.declarations.proofs.WholeLemmas.{span_at}
+use Rattle.declarations.specs.Expected.{Expects}
 use Rattle.declarations.specs.Forms.{IsFrom}
 use Rattle.declarations.specs.Reading.{Reads, first_name}
 use Rattle.declarations.proofs.walk.split_from.Goals as goal
@@ -38,5 +40,13 @@ returns-else-may_end-clause-fault c =
 pub returns-else-may_end-clause-span : goal.returns-else-may_end-clause-span
 returns-else-may_end-clause-span c =
     let stop = c.walk_from-stop.result in
-    c.ahead_of.ensures.span
+    c.expecting.ensures.span ∙ c.ahead_of-fault.ensures.span
     ∙ span_at c.args.start c.args.trees.now stop.left.now stop.place _ c.walk_from-stop.ensures.walked (omega arith)
+
+pub returns-else-may_end-clause-expected : goal.returns-else-may_end-clause-expected
+returns-else-may_end-clause-expected c =
+    let stop = c.walk_from-stop.result in
+    subst (λ set. Expects (IsFrom c.args.start) c.args.trees.now c.expecting.result.at set)
+    (sym c.expecting.ensures.expected)
+    (walk_expects c.args.start stop.place c.args.trees.now stop.left.now _ c.steps_from.result
+    c.walk_from-stop.ensures.walked c.steps_from.ensures (omega arith))
