@@ -108,6 +108,9 @@
 //! - <a id="declarations.rules.Pieces.ByRule"></a>**ByRule**: the form whose pieces are those of the rule
 //! - <a id="declarations.Ending.EndsAt"></a>**EndsAt**: the error is one of these, with this span if trees are
 //!   missing at the end
+//! - <a id="declarations.Expected.Expects"></a>**Expects**: the set has exactly the classes that can come after
+//!   the first `at` trees so that the form can be completed. It has the end if these trees are the whole of a
+//!   part
 //! - <a id="declarations.Reading.FaultAt"></a>**FaultAt**: nothing of this form can be read. The error is after
 //!   `at` trees: the longest prefix that other trees could complete
 //! - <a id="declarations.File.FileFaultAt"></a>**FileFaultAt**: the trees are no file. The error is in the
@@ -234,6 +237,8 @@
 //!   lifetime, a constant, a type, a name with `=` and a type, or a name with `:` and bounds
 //! - <a id="declarations.rules.Parts.generics"></a>**generics**: generic parameters in angle brackets, or
 //!   nothing
+//! - <a id="declarations.Expected.holds"></a>**holds**: whether the class is in the set
+//! - <a id="declarations.Expected.holds_end"></a>**holds_end**: whether the end is in the set
 //! - <a id="declarations.rules.ImplItems.impl_item"></a>**impl_item**: an `impl`: attributes, a visibility,
 //!   qualifiers, `impl` and the rest
 //! - <a id="declarations.rules.Parts.inner_attributes"></a>**inner_attributes**: any number of inner attributes

@@ -58,9 +58,9 @@ pub use crate::declarations::{
     split_attributes, split_bounds, split_expression, split_field, split_fields, split_generics, split_inner_attributes,
     split_item, split_pattern, split_tuple_field, split_tuple_fields, split_type, split_variant, split_variants,
     split_visibility, split_where, within_generics, AnyItem, ArgumentKind, Attribute, AttributeArgs, Attributes, Body,
-    SignClass, Entries, Entry, EntryKind, EntryProblem, Field, FieldList, Fields, File, Function, GenericArgument,
+    Entries, Entry, EntryKind, EntryProblem, Expected, Field, FieldList, Fields, File, Function, GenericArgument,
     GenericArguments, Impl, ItemKind, Items, Keyword, Param, ParamKind, Parameter, ParameterKind, Parameters,
-    PathArguments, Predicate, TypeItem, TypePath, Variant, VariantList, Word,
+    PathArguments, Predicate, SignClass, TypeItem, TypePath, Variant, VariantList, Word,
 };
 #[cfg(feature = "item_headers")]
 #[doc(inline)]

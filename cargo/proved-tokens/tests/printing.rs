@@ -1,6 +1,6 @@
 //! Rust's `Display` of each type that has one writes the text that Rattle's writes, also into a writer that fails.
 
-use proved_tokens::declarations::Fault;
+use proved_tokens::declarations::split_type;
 use proved_tokens::item_headers::HeaderError;
 use proved_tokens::proc_macro2::TokenTree;
 use proved_tokens::proc_macro2::{
@@ -141,7 +141,7 @@ fn errors_are_printed() {
     print_to_all(&fault, "cannot parse string into token stream");
     print_to_all(&ParseError::MapFull, &ParseError::MapFull.to_string());
     print_to_all(&IdentError::Number, &IdentError::Number.to_string());
-    let fault = Fault { at: 1, span: None };
+    let fault = split_type(parsed("&").trees()).expect_err("a type is missing");
     print_to_all(&fault, "the declaration ends too early");
     print_to_all(&HeaderError::Fault(fault), "the declaration ends too early");
     print_to_all(&BufferError::TooLong, "text too long");

@@ -12,6 +12,8 @@ mod endings;
 #[cfg(test)]
 mod entries;
 #[cfg(test)]
+mod expected;
+#[cfg(test)]
 mod files;
 #[cfg(test)]
 mod function;

@@ -78,6 +78,8 @@ pub struct AnyItem<'a> {
 ///   ident.now))</code>
 /// - `ensures fault`: <code>[IfErr] result (λ fault. [FaultAt] [IsAnyItem] trees.now fault.at)</code>
 /// - `ensures span`: <code>[IfErr] result (λ fault. fault.span ≡ [extent_at] trees.now fault.at)</code>
+/// - `ensures expected`: <code>[IfErr] result (λ fault. [Expects] [IsAnyItem] trees.now fault.at
+///   fault.expected)</code>
 ///
 /// [IfOk]: crate::contracts#std.IfOk
 /// [Reads]: crate::contracts#declarations.Reading.Reads
@@ -93,6 +95,7 @@ pub struct AnyItem<'a> {
 /// [IfErr]: crate::contracts#std.IfErr
 /// [FaultAt]: crate::contracts#declarations.Reading.FaultAt
 /// [extent_at]: crate::contracts#declarations.Fault.extent_at
+/// [Expects]: crate::contracts#declarations.Expected.Expects
 pub fn split_any_item<'a>(trees: &'a [TokenTree]) -> Result<(AnyItem<'a>, &'a [TokenTree]), Fault>
     // The kind and the name are those that the walk over the item's signs finds.
 {

@@ -125,10 +125,7 @@ fn near_held<'a>(
 /// The error in the trees before which the group is, for this error in the trees inside of the group.
 fn fault_within(group: &Group, inner: Fault) -> Fault
 {
-    Fault {
-        at: 0,
-        span: Some(span_or(inner.span, group.span())),
-    }
+    Fault::at_span(0, Some(span_or(inner.span, group.span())))
 }
 
 /// The span, or else the other one.

@@ -3,7 +3,7 @@
 
 use crate::declarations::entry::{Entry, spot_of};
 use crate::declarations::entry_list::first_entry;
-use crate::declarations::fault::{Fault, are_same, or_span};
+use crate::declarations::fault::{are_same, or_span};
 use crate::pm_span::Span;
 use crate::pm_stream::{Group, TokenTree};
 use crate::pm_token::Ident;
@@ -108,26 +108,19 @@ pub fn check_entries<'a>(list: &'a [TokenTree], known: &'a [&'a str]) -> Result<
             Ok((entry, next)) => {
                 let place = place_of(&entry, known);
                 if place == known.len() {
-                    let fault = Fault {
-                        at: before,
-                        span: spot_of(left, &entry),
-                    };
-                    return Err(wrong(EntryProblem::Unknown, fault, entry.name(), known));
+                    let span = spot_of(left, &entry);
+                    return Err(wrong(EntryProblem::Unknown, before, span, entry.name(), known));
                 }
                 if seen[place] {
-                    let fault = Fault {
-                        at: before,
-                        span: spot_of(left, &entry),
-                    };
-                    return Err(wrong(EntryProblem::Repeated, fault, entry.name(), known));
+                    let span = spot_of(left, &entry);
+                    return Err(wrong(EntryProblem::Repeated, before, span, entry.name(), known));
                 }
                 seen[place] = true;
                 left = next;
             }
             Err(fault) => {
                 let at = before + fault.at;
-                let span = fault.span;
-                return Err(wrong(EntryProblem::NoEntry, Fault { at, span }, None, known));
+                return Err(wrong(EntryProblem::NoEntry, at, fault.span, None, known));
             }
         }
     }
@@ -136,15 +129,16 @@ pub fn check_entries<'a>(list: &'a [TokenTree], known: &'a [&'a str]) -> Result<
 
 fn wrong<'a>(
     problem: EntryProblem,
-    fault: Fault,
+    at: usize,
+    span: Option<Span>,
     name: Option<&'a Ident>,
     known: &'a [&'a str],
 ) -> EntryError<'a>
 {
     EntryError {
         problem,
-        at: fault.at,
-        span: fault.span,
+        at,
+        span,
         name,
         known,
     }

@@ -1,6 +1,7 @@
 // Made from crates/declarations/src/fault.rt by dev/erase: change that file, not this one.
 //! Errors in trees that the grammar does not accept.
 
+use crate::declarations::expected::Expected;
 use crate::pm_span::Span;
 use crate::pm_stream::{Group, TokenTree};
 use crate::shim::fmt;
@@ -23,17 +24,49 @@ pub struct Fault {
     /// The span of the first tree of that sign, or `None` if more trees are missing, to which [`within`](Fault::within)
     /// adds the span of the closing delimiter.
     pub span: Option<Span>,
+    /// The signs that can come next.
+    expected: Expected,
 }
 
 impl Fault {
-    /// The error after `at` trees, where `left` are the trees that remain.
+    /// The error after `at` trees with this span, which does not say what was expected.
+    pub(crate) fn at_span(at: usize, span: Option<Span>) -> Fault
+    {
+        Fault {
+            at,
+            span,
+            expected: Expected::nothing(),
+        }
+    }
+
+    /// The error after `at` trees, where `left` are the trees that remain. It does not say what was expected.
     pub(crate) fn ahead_of(at: usize, left: &[TokenTree]) -> Fault
     {
         let span = match left.split_first() {
             Some((tree, _)) => Some(tree.span()),
             None => None,
         };
-        Fault { at, span }
+        Fault::at_span(at, span)
+    }
+
+    /// The error with these signs as those that can come next.
+    pub(crate) fn expecting(self, expected: Expected) -> Fault
+    {
+        Fault {
+            at: self.at,
+            span: self.span,
+            expected,
+        }
+    }
+
+    /// The error with this many trees before it.
+    pub(crate) fn after(self, at: usize) -> Fault
+    {
+        Fault {
+            at,
+            span: self.span,
+            expected: self.expected,
+        }
     }
 
     /// Returns the field [`span`](Fault::span): the span of the first tree that does not fit.
@@ -69,12 +102,29 @@ impl Fault {
         Fault {
             at: self.at,
             span: or_span(self.span, end),
+            expected: self.expected,
         }
+    }
+
+    /// Returns the signs that could come after the first `at` trees, in place of what is there.
+    ///
+    /// A sign is in the set exactly if the first `at` trees, this sign and perhaps more can be a whole part of the kind
+    /// that was read. The end is in the set if the first `at` trees are a whole part themselves. For `struct 5` the set
+    /// of [`parse_type_item`](crate::declarations::parse_type_item) has the words, which can be names, and for `struct S; 5` it has
+    /// only the end. The set is empty if the call does not say what it expected.
+    ///
+    /// # Contract
+    ///
+    /// - `ensures`: <code>result ≡ self.now.expected</code>
+    pub fn expected(&self) -> Expected
+    {
+        self.expected
     }
 }
 
 impl PartialEq for Fault {
-    /// Whether both errors have the same number of trees before them, and the same span or none.
+    /// Whether both errors have the same number of trees before them, and the same span or none. The expected signs do
+    /// not matter.
     fn eq(&self, other: &Fault) -> bool {
         self.at == other.at && are_same(self.span, other.span)
     }

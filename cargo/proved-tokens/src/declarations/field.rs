@@ -31,6 +31,8 @@ pub struct Field<'a> {
 ///   found.1.now)</code>
 /// - `ensures fault`: <code>[IfErr] result (λ fault. [FaultAt] [IsField] trees.now fault.at)</code>
 /// - `ensures span`: <code>[IfErr] result (λ fault. fault.span ≡ [extent_at] trees.now fault.at)</code>
+/// - `ensures expected`: <code>[IfErr] result (λ fault. [Expects] [IsField] trees.now fault.at
+///   fault.expected)</code>
 ///
 /// [IfOk]: crate::contracts#std.IfOk
 /// [IsFieldAt]: crate::contracts#declarations.Field.IsFieldAt
@@ -39,6 +41,7 @@ pub struct Field<'a> {
 /// [IfErr]: crate::contracts#std.IfErr
 /// [FaultAt]: crate::contracts#declarations.Reading.FaultAt
 /// [extent_at]: crate::contracts#declarations.Fault.extent_at
+/// [Expects]: crate::contracts#declarations.Expected.Expects
 pub fn parse_field(trees: &[TokenTree]) -> Result<(Field<'_>, &[TokenTree]), Fault>
 {
     let (part, rest) = split_field(trees)?;
@@ -59,6 +62,8 @@ pub fn parse_field(trees: &[TokenTree]) -> Result<(Field<'_>, &[TokenTree]), Fau
 ///   found.1.now)</code>
 /// - `ensures fault`: <code>[IfErr] result (λ fault. [FaultAt] [IsTupleField] trees.now fault.at)</code>
 /// - `ensures span`: <code>[IfErr] result (λ fault. fault.span ≡ [extent_at] trees.now fault.at)</code>
+/// - `ensures expected`: <code>[IfErr] result (λ fault. [Expects] [IsTupleField] trees.now fault.at
+///   fault.expected)</code>
 ///
 /// [IfOk]: crate::contracts#std.IfOk
 /// [IsFieldAt]: crate::contracts#declarations.Field.IsFieldAt
@@ -67,6 +72,7 @@ pub fn parse_field(trees: &[TokenTree]) -> Result<(Field<'_>, &[TokenTree]), Fau
 /// [IfErr]: crate::contracts#std.IfErr
 /// [FaultAt]: crate::contracts#declarations.Reading.FaultAt
 /// [extent_at]: crate::contracts#declarations.Fault.extent_at
+/// [Expects]: crate::contracts#declarations.Expected.Expects
 pub fn parse_tuple_field(trees: &[TokenTree]) -> Result<(Field<'_>, &[TokenTree]), Fault>
 {
     let (part, rest) = split_tuple_field(trees)?;

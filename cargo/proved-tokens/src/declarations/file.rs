@@ -60,10 +60,7 @@ pub fn parse_file(trees: &[TokenTree]) -> Result<File<'_>, Fault>
             Ok((_, rest)) => left = rest,
             Err(fault) => {
                 let at = trees.len() - left.len() + fault.at;
-                return Err(Fault {
-                    at,
-                    span: fault.span,
-                });
+                return Err(fault.after(at));
             }
         }
     }
@@ -88,6 +85,8 @@ pub fn parse_file(trees: &[TokenTree]) -> Result<File<'_>, Fault>
 /// - `ensures fault`: <code>[IfErr] result (λ fault. [FaultAt] ([IsWhole] [IsAnyItem]) trees.now
 ///   fault.at)</code>
 /// - `ensures span`: <code>[IfErr] result (λ fault. fault.span ≡ [extent_at] trees.now fault.at)</code>
+/// - `ensures expected`: <code>[IfErr] result (λ fault. [Expects] [IsAnyItem] trees.now fault.at
+///   fault.expected)</code>
 ///
 /// [IfOk]: crate::contracts#std.IfOk
 /// [ReadsAll]: crate::contracts#declarations.Whole.ReadsAll
@@ -102,6 +101,7 @@ pub fn parse_file(trees: &[TokenTree]) -> Result<File<'_>, Fault>
 /// [FaultAt]: crate::contracts#declarations.Reading.FaultAt
 /// [IsWhole]: crate::contracts#declarations.Whole.IsWhole
 /// [extent_at]: crate::contracts#declarations.Fault.extent_at
+/// [Expects]: crate::contracts#declarations.Expected.Expects
 pub fn parse_item(trees: &[TokenTree]) -> Result<AnyItem<'_>, Fault>
     // The kind and the name are those that the walk over the item's signs finds.
 {

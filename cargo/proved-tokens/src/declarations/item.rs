@@ -72,6 +72,8 @@ pub enum Fields<'a> {
 /// - `ensures ok`: <code>[IfOk] result (λ item. [IsTypeItem] trees.now item)</code>
 /// - `ensures fault`: <code>[IfErr] result (λ fault. [FaultAt] ([IsWhole] [IsItem]) trees.now fault.at)</code>
 /// - `ensures span`: <code>[IfErr] result (λ fault. fault.span ≡ [extent_at] trees.now fault.at)</code>
+/// - `ensures expected`: <code>[IfErr] result (λ fault. [Expects] [IsItem] trees.now fault.at
+///   fault.expected)</code>
 ///
 /// [IfOk]: crate::contracts#std.IfOk
 /// [IsTypeItem]: crate::contracts#declarations.Item.IsTypeItem
@@ -80,6 +82,7 @@ pub enum Fields<'a> {
 /// [IsWhole]: crate::contracts#declarations.Whole.IsWhole
 /// [IsItem]: crate::contracts#declarations.Forms.IsItem
 /// [extent_at]: crate::contracts#declarations.Fault.extent_at
+/// [Expects]: crate::contracts#declarations.Expected.Expects
 pub fn parse_type_item(trees: &[TokenTree]) -> Result<TypeItem<'_>, Fault>
 {
     let start = WalkState {

@@ -46,6 +46,8 @@ fn split_pair<'a>(
 /// - `ensures only`: <code>[IfOk] result (λ found. [IsOnly] [IsType] trees.now found.0.now found.1.now)</code>
 /// - `ensures fault`: <code>[IfErr] result (λ fault. [FaultAt] [IsType] trees.now fault.at)</code>
 /// - `ensures span`: <code>[IfErr] result (λ fault. fault.span ≡ [extent_at] trees.now fault.at)</code>
+/// - `ensures expected`: <code>[IfErr] result (λ fault. [Expects] [IsType] trees.now fault.at
+///   fault.expected)</code>
 ///
 /// [IfOk]: crate::contracts#std.IfOk
 /// [Reads]: crate::contracts#declarations.Reading.Reads
@@ -54,6 +56,7 @@ fn split_pair<'a>(
 /// [IfErr]: crate::contracts#std.IfErr
 /// [FaultAt]: crate::contracts#declarations.Reading.FaultAt
 /// [extent_at]: crate::contracts#declarations.Fault.extent_at
+/// [Expects]: crate::contracts#declarations.Expected.Expects
 pub fn split_type(trees: &[TokenTree]) -> Result<(&[TokenTree], &[TokenTree]), Fault>
 {
     split_alone(trees, Continuation::Alone, State::Range(TypeState::Wanted))
@@ -70,6 +73,8 @@ pub fn split_type(trees: &[TokenTree]) -> Result<(&[TokenTree], &[TokenTree]), F
 ///   found.1.now)</code>
 /// - `ensures fault`: <code>[IfErr] result (λ fault. [FaultAt] [AreBounds] trees.now fault.at)</code>
 /// - `ensures span`: <code>[IfErr] result (λ fault. fault.span ≡ [extent_at] trees.now fault.at)</code>
+/// - `ensures expected`: <code>[IfErr] result (λ fault. [Expects] [AreBounds] trees.now fault.at
+///   fault.expected)</code>
 ///
 /// [IfOk]: crate::contracts#std.IfOk
 /// [Reads]: crate::contracts#declarations.Reading.Reads
@@ -78,6 +83,7 @@ pub fn split_type(trees: &[TokenTree]) -> Result<(&[TokenTree], &[TokenTree]), F
 /// [IfErr]: crate::contracts#std.IfErr
 /// [FaultAt]: crate::contracts#declarations.Reading.FaultAt
 /// [extent_at]: crate::contracts#declarations.Fault.extent_at
+/// [Expects]: crate::contracts#declarations.Expected.Expects
 pub fn split_bounds(trees: &[TokenTree]) -> Result<(&[TokenTree], &[TokenTree]), Fault>
 {
     split_alone(trees, Continuation::Alone, State::Range(TypeState::Bound))
@@ -95,6 +101,8 @@ pub fn split_bounds(trees: &[TokenTree]) -> Result<(&[TokenTree], &[TokenTree]),
 ///   found.1.now)</code>
 /// - `ensures fault`: <code>[IfErr] result (λ fault. [FaultAt] [AreAttributes] trees.now fault.at)</code>
 /// - `ensures span`: <code>[IfErr] result (λ fault. fault.span ≡ [extent_at] trees.now fault.at)</code>
+/// - `ensures expected`: <code>[IfErr] result (λ fault. [Expects] [AreAttributes] trees.now fault.at
+///   fault.expected)</code>
 ///
 /// [IfOk]: crate::contracts#std.IfOk
 /// [Reads]: crate::contracts#declarations.Reading.Reads
@@ -103,11 +111,16 @@ pub fn split_bounds(trees: &[TokenTree]) -> Result<(&[TokenTree], &[TokenTree]),
 /// [IfErr]: crate::contracts#std.IfErr
 /// [FaultAt]: crate::contracts#declarations.Reading.FaultAt
 /// [extent_at]: crate::contracts#declarations.Fault.extent_at
+/// [Expects]: crate::contracts#declarations.Expected.Expects
 pub fn split_attributes(trees: &[TokenTree]) -> Result<(&[TokenTree], &[TokenTree]), Fault>
 {
     match past_attributes(trees) {
         Ok(rest) => Ok((part(trees, rest), rest)),
-        Err(left) => Err(Fault::ahead_of(trees.len() - left.len(), left)),
+        Err(_) => split_alone(
+            trees,
+            Continuation::Alone,
+            State::At(Spot::Before(Part::Attributes)),
+        ),
     }
 }
 
@@ -124,6 +137,8 @@ pub fn split_attributes(trees: &[TokenTree]) -> Result<(&[TokenTree], &[TokenTre
 ///   found.1.now)</code>
 /// - `ensures fault`: <code>[IfErr] result (λ fault. [FaultAt] [IsVisibility] trees.now fault.at)</code>
 /// - `ensures span`: <code>[IfErr] result (λ fault. fault.span ≡ [extent_at] trees.now fault.at)</code>
+/// - `ensures expected`: <code>[IfErr] result (λ fault. [Expects] [IsVisibility] trees.now fault.at
+///   fault.expected)</code>
 ///
 /// [IfOk]: crate::contracts#std.IfOk
 /// [Reads]: crate::contracts#declarations.Reading.Reads
@@ -132,11 +147,16 @@ pub fn split_attributes(trees: &[TokenTree]) -> Result<(&[TokenTree], &[TokenTre
 /// [IfErr]: crate::contracts#std.IfErr
 /// [FaultAt]: crate::contracts#declarations.Reading.FaultAt
 /// [extent_at]: crate::contracts#declarations.Fault.extent_at
+/// [Expects]: crate::contracts#declarations.Expected.Expects
 pub fn split_visibility(trees: &[TokenTree]) -> Result<(&[TokenTree], &[TokenTree]), Fault>
 {
     match past_visibility(trees) {
         Ok(rest) => Ok((part(trees, rest), rest)),
-        Err(left) => Err(Fault::ahead_of(trees.len() - left.len(), left)),
+        Err(_) => split_alone(
+            trees,
+            Continuation::Alone,
+            State::At(Spot::Before(Part::Visibility)),
+        ),
     }
 }
 
@@ -150,6 +170,8 @@ pub fn split_visibility(trees: &[TokenTree]) -> Result<(&[TokenTree], &[TokenTre
 /// - `ensures only`: <code>[IfOk] result (λ found. [IsOnly] [IsField] trees.now found.0.now found.1.now)</code>
 /// - `ensures fault`: <code>[IfErr] result (λ fault. [FaultAt] [IsField] trees.now fault.at)</code>
 /// - `ensures span`: <code>[IfErr] result (λ fault. fault.span ≡ [extent_at] trees.now fault.at)</code>
+/// - `ensures expected`: <code>[IfErr] result (λ fault. [Expects] [IsField] trees.now fault.at
+///   fault.expected)</code>
 ///
 /// [IfOk]: crate::contracts#std.IfOk
 /// [Reads]: crate::contracts#declarations.Reading.Reads
@@ -158,6 +180,7 @@ pub fn split_visibility(trees: &[TokenTree]) -> Result<(&[TokenTree], &[TokenTre
 /// [IfErr]: crate::contracts#std.IfErr
 /// [FaultAt]: crate::contracts#declarations.Reading.FaultAt
 /// [extent_at]: crate::contracts#declarations.Fault.extent_at
+/// [Expects]: crate::contracts#declarations.Expected.Expects
 pub fn split_field(trees: &[TokenTree]) -> Result<(&[TokenTree], &[TokenTree]), Fault>
 {
     split_alone(
@@ -179,6 +202,8 @@ pub fn split_field(trees: &[TokenTree]) -> Result<(&[TokenTree], &[TokenTree]), 
 ///   found.1.now)</code>
 /// - `ensures fault`: <code>[IfErr] result (λ fault. [FaultAt] [IsTupleField] trees.now fault.at)</code>
 /// - `ensures span`: <code>[IfErr] result (λ fault. fault.span ≡ [extent_at] trees.now fault.at)</code>
+/// - `ensures expected`: <code>[IfErr] result (λ fault. [Expects] [IsTupleField] trees.now fault.at
+///   fault.expected)</code>
 ///
 /// [IfOk]: crate::contracts#std.IfOk
 /// [Reads]: crate::contracts#declarations.Reading.Reads
@@ -187,6 +212,7 @@ pub fn split_field(trees: &[TokenTree]) -> Result<(&[TokenTree], &[TokenTree]), 
 /// [IfErr]: crate::contracts#std.IfErr
 /// [FaultAt]: crate::contracts#declarations.Reading.FaultAt
 /// [extent_at]: crate::contracts#declarations.Fault.extent_at
+/// [Expects]: crate::contracts#declarations.Expected.Expects
 pub fn split_tuple_field(trees: &[TokenTree]) -> Result<(&[TokenTree], &[TokenTree]), Fault>
 {
     split_alone(
@@ -208,6 +234,8 @@ pub fn split_tuple_field(trees: &[TokenTree]) -> Result<(&[TokenTree], &[TokenTr
 ///   found.1.now)</code>
 /// - `ensures fault`: <code>[IfErr] result (λ fault. [FaultAt] [AreFields] trees.now fault.at)</code>
 /// - `ensures span`: <code>[IfErr] result (λ fault. fault.span ≡ [extent_at] trees.now fault.at)</code>
+/// - `ensures expected`: <code>[IfErr] result (λ fault. [Expects] [AreFields] trees.now fault.at
+///   fault.expected)</code>
 ///
 /// [IfOk]: crate::contracts#std.IfOk
 /// [Reads]: crate::contracts#declarations.Reading.Reads
@@ -216,6 +244,7 @@ pub fn split_tuple_field(trees: &[TokenTree]) -> Result<(&[TokenTree], &[TokenTr
 /// [IfErr]: crate::contracts#std.IfErr
 /// [FaultAt]: crate::contracts#declarations.Reading.FaultAt
 /// [extent_at]: crate::contracts#declarations.Fault.extent_at
+/// [Expects]: crate::contracts#declarations.Expected.Expects
 pub fn split_fields(trees: &[TokenTree]) -> Result<(&[TokenTree], &[TokenTree]), Fault>
 {
     split_alone(
@@ -237,6 +266,8 @@ pub fn split_fields(trees: &[TokenTree]) -> Result<(&[TokenTree], &[TokenTree]),
 ///   found.1.now)</code>
 /// - `ensures fault`: <code>[IfErr] result (λ fault. [FaultAt] [AreTupleFields] trees.now fault.at)</code>
 /// - `ensures span`: <code>[IfErr] result (λ fault. fault.span ≡ [extent_at] trees.now fault.at)</code>
+/// - `ensures expected`: <code>[IfErr] result (λ fault. [Expects] [AreTupleFields] trees.now fault.at
+///   fault.expected)</code>
 ///
 /// [IfOk]: crate::contracts#std.IfOk
 /// [Reads]: crate::contracts#declarations.Reading.Reads
@@ -245,6 +276,7 @@ pub fn split_fields(trees: &[TokenTree]) -> Result<(&[TokenTree], &[TokenTree]),
 /// [IfErr]: crate::contracts#std.IfErr
 /// [FaultAt]: crate::contracts#declarations.Reading.FaultAt
 /// [extent_at]: crate::contracts#declarations.Fault.extent_at
+/// [Expects]: crate::contracts#declarations.Expected.Expects
 pub fn split_tuple_fields(trees: &[TokenTree]) -> Result<(&[TokenTree], &[TokenTree]), Fault>
 {
     split_alone(
@@ -266,6 +298,8 @@ pub fn split_tuple_fields(trees: &[TokenTree]) -> Result<(&[TokenTree], &[TokenT
 ///   found.1.now)</code>
 /// - `ensures fault`: <code>[IfErr] result (λ fault. [FaultAt] [IsVariant] trees.now fault.at)</code>
 /// - `ensures span`: <code>[IfErr] result (λ fault. fault.span ≡ [extent_at] trees.now fault.at)</code>
+/// - `ensures expected`: <code>[IfErr] result (λ fault. [Expects] [IsVariant] trees.now fault.at
+///   fault.expected)</code>
 ///
 /// [IfOk]: crate::contracts#std.IfOk
 /// [Reads]: crate::contracts#declarations.Reading.Reads
@@ -274,6 +308,7 @@ pub fn split_tuple_fields(trees: &[TokenTree]) -> Result<(&[TokenTree], &[TokenT
 /// [IfErr]: crate::contracts#std.IfErr
 /// [FaultAt]: crate::contracts#declarations.Reading.FaultAt
 /// [extent_at]: crate::contracts#declarations.Fault.extent_at
+/// [Expects]: crate::contracts#declarations.Expected.Expects
 pub fn split_variant(trees: &[TokenTree]) -> Result<(&[TokenTree], &[TokenTree]), Fault>
 {
     split_alone(
@@ -296,6 +331,8 @@ pub fn split_variant(trees: &[TokenTree]) -> Result<(&[TokenTree], &[TokenTree])
 ///   found.1.now)</code>
 /// - `ensures fault`: <code>[IfErr] result (λ fault. [FaultAt] [AreVariants] trees.now fault.at)</code>
 /// - `ensures span`: <code>[IfErr] result (λ fault. fault.span ≡ [extent_at] trees.now fault.at)</code>
+/// - `ensures expected`: <code>[IfErr] result (λ fault. [Expects] [AreVariants] trees.now fault.at
+///   fault.expected)</code>
 ///
 /// [IfOk]: crate::contracts#std.IfOk
 /// [Reads]: crate::contracts#declarations.Reading.Reads
@@ -304,6 +341,7 @@ pub fn split_variant(trees: &[TokenTree]) -> Result<(&[TokenTree], &[TokenTree])
 /// [IfErr]: crate::contracts#std.IfErr
 /// [FaultAt]: crate::contracts#declarations.Reading.FaultAt
 /// [extent_at]: crate::contracts#declarations.Fault.extent_at
+/// [Expects]: crate::contracts#declarations.Expected.Expects
 pub fn split_variants(trees: &[TokenTree]) -> Result<(&[TokenTree], &[TokenTree]), Fault>
 {
     let start = WalkState {
@@ -329,6 +367,8 @@ pub fn split_variants(trees: &[TokenTree]) -> Result<(&[TokenTree], &[TokenTree]
 ///   found.1.now)</code>
 /// - `ensures fault`: <code>[IfErr] result (λ fault. [FaultAt] [IsExpression] trees.now fault.at)</code>
 /// - `ensures span`: <code>[IfErr] result (λ fault. fault.span ≡ [extent_at] trees.now fault.at)</code>
+/// - `ensures expected`: <code>[IfErr] result (λ fault. [Expects] [IsExpression] trees.now fault.at
+///   fault.expected)</code>
 ///
 /// [IfOk]: crate::contracts#std.IfOk
 /// [Reads]: crate::contracts#declarations.Reading.Reads
@@ -337,6 +377,7 @@ pub fn split_variants(trees: &[TokenTree]) -> Result<(&[TokenTree], &[TokenTree]
 /// [IfErr]: crate::contracts#std.IfErr
 /// [FaultAt]: crate::contracts#declarations.Reading.FaultAt
 /// [extent_at]: crate::contracts#declarations.Fault.extent_at
+/// [Expects]: crate::contracts#declarations.Expected.Expects
 pub fn split_expression(trees: &[TokenTree]) -> Result<(&[TokenTree], &[TokenTree]), Fault>
 {
     split_alone(trees, Continuation::Alone, State::At(Spot::Expression))
@@ -355,6 +396,8 @@ pub fn split_expression(trees: &[TokenTree]) -> Result<(&[TokenTree], &[TokenTre
 ///   found.1.now)</code>
 /// - `ensures fault`: <code>[IfErr] result (λ fault. [FaultAt] [AreGenerics] trees.now fault.at)</code>
 /// - `ensures span`: <code>[IfErr] result (λ fault. fault.span ≡ [extent_at] trees.now fault.at)</code>
+/// - `ensures expected`: <code>[IfErr] result (λ fault. [Expects] [AreGenerics] trees.now fault.at
+///   fault.expected)</code>
 ///
 /// [IfOk]: crate::contracts#std.IfOk
 /// [Reads]: crate::contracts#declarations.Reading.Reads
@@ -363,11 +406,12 @@ pub fn split_expression(trees: &[TokenTree]) -> Result<(&[TokenTree], &[TokenTre
 /// [IfErr]: crate::contracts#std.IfErr
 /// [FaultAt]: crate::contracts#declarations.Reading.FaultAt
 /// [extent_at]: crate::contracts#declarations.Fault.extent_at
+/// [Expects]: crate::contracts#declarations.Expected.Expects
 pub fn split_generics(trees: &[TokenTree]) -> Result<(&[TokenTree], &[TokenTree]), Fault>
 {
     match past_generics(trees) {
         Ok(rest) => Ok((part(trees, rest), rest)),
-        Err(left) => Err(Fault::ahead_of(trees.len() - left.len(), left)),
+        Err(_) => split_alone(trees, Continuation::Alone, State::At(Spot::Generics)),
     }
 }
 
@@ -381,6 +425,8 @@ pub fn split_generics(trees: &[TokenTree]) -> Result<(&[TokenTree], &[TokenTree]
 /// - `ensures only`: <code>[IfOk] result (λ found. [IsOnly] [IsWhere] trees.now found.0.now found.1.now)</code>
 /// - `ensures fault`: <code>[IfErr] result (λ fault. [FaultAt] [IsWhere] trees.now fault.at)</code>
 /// - `ensures span`: <code>[IfErr] result (λ fault. fault.span ≡ [extent_at] trees.now fault.at)</code>
+/// - `ensures expected`: <code>[IfErr] result (λ fault. [Expects] [IsWhere] trees.now fault.at
+///   fault.expected)</code>
 ///
 /// [IfOk]: crate::contracts#std.IfOk
 /// [Reads]: crate::contracts#declarations.Reading.Reads
@@ -389,11 +435,12 @@ pub fn split_generics(trees: &[TokenTree]) -> Result<(&[TokenTree], &[TokenTree]
 /// [IfErr]: crate::contracts#std.IfErr
 /// [FaultAt]: crate::contracts#declarations.Reading.FaultAt
 /// [extent_at]: crate::contracts#declarations.Fault.extent_at
+/// [Expects]: crate::contracts#declarations.Expected.Expects
 pub fn split_where(trees: &[TokenTree]) -> Result<(&[TokenTree], &[TokenTree]), Fault>
 {
     match past_where(trees) {
         Ok(rest) => Ok((part(trees, rest), rest)),
-        Err(left) => Err(Fault::ahead_of(trees.len() - left.len(), left)),
+        Err(_) => split_alone(trees, Continuation::Alone, State::At(Spot::Where)),
     }
 }
 
@@ -408,6 +455,8 @@ pub fn split_where(trees: &[TokenTree]) -> Result<(&[TokenTree], &[TokenTree]), 
 /// - `ensures only`: <code>[IfOk] result (λ found. [IsOnly] [IsItem] trees.now found.0.now found.1.now)</code>
 /// - `ensures fault`: <code>[IfErr] result (λ fault. [FaultAt] [IsItem] trees.now fault.at)</code>
 /// - `ensures span`: <code>[IfErr] result (λ fault. fault.span ≡ [extent_at] trees.now fault.at)</code>
+/// - `ensures expected`: <code>[IfErr] result (λ fault. [Expects] [IsItem] trees.now fault.at
+///   fault.expected)</code>
 ///
 /// [IfOk]: crate::contracts#std.IfOk
 /// [Reads]: crate::contracts#declarations.Reading.Reads
@@ -416,6 +465,7 @@ pub fn split_where(trees: &[TokenTree]) -> Result<(&[TokenTree], &[TokenTree]), 
 /// [IfErr]: crate::contracts#std.IfErr
 /// [FaultAt]: crate::contracts#declarations.Reading.FaultAt
 /// [extent_at]: crate::contracts#declarations.Fault.extent_at
+/// [Expects]: crate::contracts#declarations.Expected.Expects
 pub fn split_item(trees: &[TokenTree]) -> Result<(&[TokenTree], &[TokenTree]), Fault>
 {
     split_alone(
@@ -437,6 +487,8 @@ pub fn split_item(trees: &[TokenTree]) -> Result<(&[TokenTree], &[TokenTree]), F
 ///   found.1.now)</code>
 /// - `ensures fault`: <code>[IfErr] result (λ fault. [FaultAt] [AreInnerAttributes] trees.now fault.at)</code>
 /// - `ensures span`: <code>[IfErr] result (λ fault. fault.span ≡ [extent_at] trees.now fault.at)</code>
+/// - `ensures expected`: <code>[IfErr] result (λ fault. [Expects] [AreInnerAttributes] trees.now fault.at
+///   fault.expected)</code>
 ///
 /// [IfOk]: crate::contracts#std.IfOk
 /// [Reads]: crate::contracts#declarations.Reading.Reads
@@ -445,6 +497,7 @@ pub fn split_item(trees: &[TokenTree]) -> Result<(&[TokenTree], &[TokenTree]), F
 /// [IfErr]: crate::contracts#std.IfErr
 /// [FaultAt]: crate::contracts#declarations.Reading.FaultAt
 /// [extent_at]: crate::contracts#declarations.Fault.extent_at
+/// [Expects]: crate::contracts#declarations.Expected.Expects
 pub fn split_inner_attributes(trees: &[TokenTree]) -> Result<(&[TokenTree], &[TokenTree]), Fault>
 {
     split_alone(trees, Continuation::Alone, State::At(Spot::Inner))

@@ -32,6 +32,8 @@ pub struct Variant<'a> {
 /// - `ensures ok`: <code>[IfOk] result (λ found. [IsVariantAt] trees.now found.0 found.1.now)</code>
 /// - `ensures fault`: <code>[IfErr] result (λ fault. [FaultAt] [IsVariant] trees.now fault.at)</code>
 /// - `ensures span`: <code>[IfErr] result (λ fault. fault.span ≡ [extent_at] trees.now fault.at)</code>
+/// - `ensures expected`: <code>[IfErr] result (λ fault. [Expects] [IsVariant] trees.now fault.at
+///   fault.expected)</code>
 ///
 /// [IfOk]: crate::contracts#std.IfOk
 /// [IsVariantAt]: crate::contracts#declarations.Variant.IsVariantAt
@@ -39,6 +41,7 @@ pub struct Variant<'a> {
 /// [FaultAt]: crate::contracts#declarations.Reading.FaultAt
 /// [IsVariant]: crate::contracts#declarations.Forms.IsVariant
 /// [extent_at]: crate::contracts#declarations.Fault.extent_at
+/// [Expects]: crate::contracts#declarations.Expected.Expects
 pub fn parse_variant(trees: &[TokenTree]) -> Result<(Variant<'_>, &[TokenTree]), Fault>
 {
     let (part, rest) = split_variant(trees)?;

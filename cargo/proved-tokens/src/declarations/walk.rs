@@ -1,6 +1,7 @@
 // Made from crates/declarations/src/walk.rt by dev/erase: change that file, not this one.
 //! The walk over the signs of trees by the tables of the grammar.
 
+use crate::declarations::expected::steps_from;
 use crate::declarations::fault::Fault;
 use crate::declarations::signs::first_sign;
 use crate::declarations::walk_state::{Item, WalkState};
@@ -31,7 +32,8 @@ pub(crate) fn split_from<'a>(trees: &'a [TokenTree], start: WalkState) -> Result
             named: stop.named,
         })
     } else {
-        Err(Fault::ahead_of(at, stop.left))
+        let fault = Fault::ahead_of(at, stop.left);
+        Err(fault.expecting(steps_from(stop.place)))
     }
 }
 
@@ -42,7 +44,8 @@ pub(crate) fn read_whole(trees: &[TokenTree], start: WalkState) -> Result<(), Fa
     if stop.left.is_empty() && stop.place.may_end() {
         Ok(())
     } else {
-        Err(Fault::ahead_of(trees.len() - stop.left.len(), stop.left))
+        let fault = Fault::ahead_of(trees.len() - stop.left.len(), stop.left);
+        Err(fault.expecting(steps_from(stop.place)))
     }
 }
 

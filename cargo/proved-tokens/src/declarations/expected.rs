@@ -1,0 +1,166 @@
+// Made from crates/declarations/src/expected.rt by dev/erase: change that file, not this one.
+//! The signs that can come next where trees do not fit the grammar.
+
+use crate::declarations::class::{Keyword, SignClass, Word, code};
+use crate::declarations::walk_state::WalkState;
+
+/// A set of classes of signs, which may also have the end in it.
+///
+/// A [`Fault`](crate::declarations::Fault) has the signs that could come next where it is.
+#[derive(Clone, Copy, Debug)]
+pub struct Expected {
+    /// Bit `n` says whether the class with the number `n` is in the set, and bit 127 whether the end is.
+    bits: u128,
+}
+
+/// All classes, in the order of their numbers.
+pub(crate) const CLASSES: [SignClass; 68] = [
+    SignClass::Word(Word::Auto),
+    SignClass::Word(Word::Default),
+    SignClass::Word(Word::Safe),
+    SignClass::Word(Word::Union),
+    SignClass::Word(Word::Plain),
+    SignClass::Keyword(Keyword::Async),
+    SignClass::Keyword(Keyword::Const),
+    SignClass::Keyword(Keyword::Dyn),
+    SignClass::Keyword(Keyword::Enum),
+    SignClass::Keyword(Keyword::Extern),
+    SignClass::Keyword(Keyword::Fn),
+    SignClass::Keyword(Keyword::For),
+    SignClass::Keyword(Keyword::Impl),
+    SignClass::Keyword(Keyword::Macro),
+    SignClass::Keyword(Keyword::Mod),
+    SignClass::Keyword(Keyword::Mut),
+    SignClass::Keyword(Keyword::Pub),
+    SignClass::Keyword(Keyword::Static),
+    SignClass::Keyword(Keyword::Struct),
+    SignClass::Keyword(Keyword::Trait),
+    SignClass::Keyword(Keyword::Type),
+    SignClass::Keyword(Keyword::Unsafe),
+    SignClass::Keyword(Keyword::Use),
+    SignClass::Keyword(Keyword::Where),
+    SignClass::Keyword(Keyword::Other),
+    SignClass::SelfValue,
+    SignClass::SelfType,
+    SignClass::Super,
+    SignClass::Crate,
+    SignClass::Underscore,
+    SignClass::As,
+    SignClass::Truth,
+    SignClass::Await,
+    SignClass::Jump,
+    SignClass::Literal,
+    SignClass::Lifetime,
+    SignClass::PathSeparator,
+    SignClass::Arrow,
+    SignClass::HashBang,
+    SignClass::LessEquals,
+    SignClass::Bars,
+    SignClass::Restriction,
+    SignClass::Parentheses,
+    SignClass::Brackets,
+    SignClass::Braces,
+    SignClass::Visibility,
+    SignClass::Invisible,
+    SignClass::Less,
+    SignClass::LessJoint,
+    SignClass::Greater,
+    SignClass::Comma,
+    SignClass::Colon,
+    SignClass::Semicolon,
+    SignClass::Equals,
+    SignClass::Plus,
+    SignClass::Minus,
+    SignClass::Star,
+    SignClass::And,
+    SignClass::Question,
+    SignClass::Exclamation,
+    SignClass::Hash,
+    SignClass::Tilde,
+    SignClass::Bar,
+    SignClass::Dot,
+    SignClass::Infix,
+    SignClass::Mark,
+    SignClass::Block,
+    SignClass::Word(Word::Gen),
+];
+
+impl Expected {
+    /// The set without classes and without the end.
+    pub(crate) fn nothing() -> Expected
+    {
+        Expected { bits: 0 }
+    }
+
+    /// Returns whether a sign of this class is in the set.
+    ///
+    /// # Contract
+    ///
+    /// - `ensures`: <code>result ≡ [holds] self.now class</code>
+    ///
+    /// [holds]: crate::contracts#declarations.Expected.holds
+    pub fn contains(&self, class: SignClass) -> bool
+    {
+        self.bits >> code(class) & 1 == 1
+    }
+
+    /// Returns whether the end is in the set: nothing more need come.
+    ///
+    /// # Contract
+    ///
+    /// - `ensures`: <code>result ≡ [holds_end] self.now</code>
+    ///
+    /// [holds_end]: crate::contracts#declarations.Expected.holds_end
+    pub fn has_end(&self) -> bool
+    {
+        self.bits >> 127 & 1 == 1
+    }
+
+    /// The set with this class.
+    pub(crate) fn with(self, class: SignClass) -> Expected
+    {
+        Expected {
+            bits: self.bits | 1 << code(class),
+        }
+    }
+
+    /// The set with the end.
+    pub(crate) fn with_end(self) -> Expected
+    {
+        Expected {
+            bits: self.bits | 1 << 127,
+        }
+    }
+
+    /// Everything that is in one of the sets.
+    pub(crate) fn both(self, other: Expected) -> Expected
+    {
+        Expected {
+            bits: self.bits | other.bits,
+        }
+    }
+}
+
+/// Those of the classes for which there is a step from this place.
+fn steps_among(place: WalkState, classes: &[SignClass]) -> Expected
+{
+    let mut found = Expected::nothing();
+    for class in classes {
+        if place.step(*class).is_some() {
+            found = found.with(*class);
+        }
+    }
+    found
+}
+
+/// The signs for which there is a step from this place, and the end if the part may end there.
+#[cold]
+pub(crate) fn steps_from(place: WalkState) -> Expected
+{
+    let found = steps_among(place, &CLASSES);
+    if place.may_end() {
+        found.with_end()
+    } else {
+        found
+    }
+}
