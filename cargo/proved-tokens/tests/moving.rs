@@ -13,7 +13,7 @@ use proved_tokens::items::{
     parse_function, parse_generic_argument, parse_impl, parse_param, parse_parameter, parse_type_item, parse_type_path,
     split_any_item, split_attribute, split_attributes, split_type, split_visibility, type_generics, where_clause,
     where_clause_with_bound, within_generics, ArgumentKind, Attributes, Body, Entries, EntryKind, GenericArguments,
-    ItemKind, ParamKind, ParameterKind, Parameters, PathArguments,
+    ItemKind, Keyword, ParamKind, ParameterKind, Parameters, PathArguments, SignClass,
 };
 use proved_tokens::print::to_pretty_string;
 use proved_tokens::quote::{Hole, Holes, Quote, Template};
@@ -156,6 +156,7 @@ fn calls_in_place_of_syns() -> Outcome {
     let (text, span) = ("a", item.name.span());
     assert_eq!(compile_error(text, span)?.to_string(), ":: core :: compile_error ! { \"a\" }");
     let error = parse_type_item(path.trees()).err().ok_or("it is no item")?;
+    assert!(error.expected().contains(SignClass::Keyword(Keyword::Struct)) && !error.expected().has_end());
     assert_eq!(error.to_compile_error()?.to_string(), ":: core :: compile_error ! { \"not expected here\" }");
     Ok(())
 }

@@ -1,22 +1,19 @@
 -- Calls that split off what a function read by a rule.
-use Rattle.std.proofs.Common.{◌≡◌, refl, ℕ, ◌-◌, List, [], ◌∷◌, ◌++◌, Option, length, arith}
+use Rattle.std.proofs.Common.{◌≡◌, refl, List, [], ◌∷◌, ◌++◌}
 use Rattle.grammars.specs.Deterministic.{IsStart}
-use Rattle.pm_span.specs.Extent.{Extent}
 use Rattle.pm_stream.specs.declared.stream.TokenTree.{TokenTree}
-use Rattle.declarations.specs.Fault.{extent_at, first_extent}
 use Rattle.declarations.specs.Forms.{AreAttributes, AreGenerics, IsVisibility, IsWhere}
-use Rattle.declarations.specs.Reader.{Finds, Sticks}
-use Rattle.declarations.specs.Reading.{FaultAt, IsOnly, Reads}
+use Rattle.declarations.specs.Reader.{Finds}
+use Rattle.declarations.specs.Reading.{IsOnly, Reads}
 use Rattle.declarations.specs.declared.class.SignClass.{SignClass}
 use Rattle.declarations.specs.rules.Names.{G}
 use Rattle.declarations.specs.rules.Parts.{attributes, generics, visibility, where_clause}
 use Rattle.declarations.specs.rules.Pieces.{ByRule, ReadsBy}
 use Rattle.declarations.specs.rules.Rules.{follows, rules}
 use Rattle.declarations.proofs.FormLemmas.{attribute_lists, generic_parameters, visibilities, where_clauses}
-use Rattle.declarations.proofs.ReaderLemmas.{remains_span, remains_within}
-use Rattle.declarations.proofs.RuleFormLemmas.{found_reads, only_reading, stuck_fault}
+use Rattle.declarations.proofs.RuleFormLemmas.{found_reads, only_reading}
 use Rattle.declarations.proofs.RuleLemmas.{starts}
-use Rattle.declarations.proofs.TransferLemmas.{fault_to, only_to, reads_to}
+use Rattle.declarations.proofs.TransferLemmas.{only_to, reads_to}
 
 module _ (g : G) (form : List SignClass → List SignClass → Type 0) (by : ReadsBy g form)
     (start : IsStart rules follows (g ∷ [])) where

@@ -117,8 +117,8 @@ impl Fault {
     ///
     /// A sign is in the set exactly if the first `at` trees, this sign and perhaps more can be a whole part of the kind
     /// that was read. The end is in the set if the first `at` trees are a whole part themselves. For `struct 5` the set
-    /// of [`parse_type_item`](crate::parse_type_item) has the words, which can be names, and for `struct S; 5` it has
-    /// only the end. The set is empty if the call does not say what it expected.
+    /// of `parse_type_item` has the words, which can be names, and for `struct S; 5` it has only the end. The set is
+    /// empty if the call does not say what it expected.
     pub fn expected(&self) -> Expected
         ensures { result ≡ self.now.expected }
     {

@@ -22,7 +22,7 @@ bounds-seen-place-in-Ok c =
 pub returns-then-seen-place-clause-err : goal.returns-then-seen-place-clause-err
 returns-then-seen-place-clause-err c =
     let made = c.wrong-then-seen-place.ensures in
-    let spot = c.spot_of-then-seen-place.ensures in
+    let spot = c.spot_of-span-then-seen-place.ensures in
     repeated_error c.args.known.now c.args.list.now c.loop-left.left.now c.in-Ok.next.now c.loop-left.seen
     c.in-Ok.entry c.place_of-place.result c.wrong-then-seen-place.result c.loop-left.invariant c.in-Ok.ensures.given
     c.place_of-place.ensures c.if-place-known.false c.requires c.if-seen-place.true made.problem
