@@ -1,10 +1,11 @@
 -- Sets of signs.
 use Rattle.std.proofs.Common.{◌≡◌, refl, sym, ◌∙◌, ap, subst, eqb-true, nat_lt, ℕ, zero, suc, ◌<◌, ◌^◌, ◌*◌, ◌%◌}
 use Rattle.std.proofs.Common.{◌==◌, ◌&&◌, ◌||◌, Bool, true, false, List, [], ◌∷◌, ◌++◌, arith}
-use Rattle.std.proofs.Common.{bit_or, max}
+use Rattle.std.proofs.Common.{bit_and, bit_or, max}
 use Rattle.std.proofs.lemmas.Bool.{eqb-false}
 use Rattle.std.proofs.lemmas.Bool.Decides.{nat_tests}
-use Rattle.std.proofs.lemmas.Nat.Bits.{bit_at-lt, bit_at_or, bit_at_set_other, bit_at_set_same}
+use Rattle.std.proofs.lemmas.Nat.Bits.{bit_at-lt, bit_at_or, bit_at_clear_other, bit_at_clear_same, bit_at_set_other}
+use Rattle.std.proofs.lemmas.Nat.Bits.{bit_at_set_same}
 use Rattle.std.specs.Int.{w128, bit_at}
 use Rattle.declarations.specs.declared.class.SignClass.{SignClass}
 use Rattle.declarations.specs.declared.expected.Expected.{Expected}
@@ -78,6 +79,16 @@ with_the_end set = record {
         go : (b : Bool) → (127 == k) ≡ b → (b || (bit_at set.bits k == 1)) ≡ (bit_at set.bits k == 1)
         go true e = let same : 127 ≡ k = eqb-true 127 k e in absurd (omega arith)
         go false e = refl
+
+pub without_the_end : (set : Expected)
+    → HasSigns (record { bits = bit_and set.bits 170141183460469231731687303715884105727 }) (holds set) false
+without_the_end set = record {
+  classes = λ class.
+      ap (λ m. m == 1)
+      (bit_at_clear_other w128 set.bits 127 (omega arith) (code class) (omega (arith, code_small class))
+      (λ same. let small = code_small class in omega arith));
+  end = ap (λ m. m == 1) (bit_at_clear_same w128 set.bits 127 (omega arith));
+}
 
 -- ---- all classes that pass a test
 

@@ -40,7 +40,7 @@ use Rattle.declarations.proofs.FunctionPartLemmas.{name_finds, parentheses_find}
 
 -- ---- where a reading begins
 
-starts_function : IsStart rules follows (rule.function_item ∷ [])
+pub starts_function : IsStart rules follows (rule.function_item ∷ [])
 starts_function = starts rule.function_item refl refl
 
 starts_attributes : IsStart rules follows (attributes ∷ [])

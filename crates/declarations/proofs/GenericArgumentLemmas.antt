@@ -45,7 +45,7 @@ use Rattle.declarations.proofs.TableReaderLemmas.{table_reads}
 
 -- ---- where a reading begins
 
-starts_argument : IsStart rules follows (rule.generic_argument ∷ [])
+pub starts_argument : IsStart rules follows (rule.generic_argument ∷ [])
 starts_argument = starts rule.generic_argument refl refl
 
 starts_lifetime : IsStart rules follows (one signs.Lifetime ∷ [])

@@ -16,6 +16,7 @@ use Rattle.declarations.specs.Entry.{Begins, BeginsWithHeld, BeginsWithNone, Con
 use Rattle.declarations.specs.Entry.{IsAfterEntry, IsArgsFault, IsEntryListFault, IsFaultAfter, IsFaultWithin}
 use Rattle.declarations.specs.Entry.{IsHeldEntryAt, IsNearEntryAt, IsNearFault, IsNoEntry, IsOnlyPlainRest, IsOnlyRest}
 use Rattle.declarations.specs.Entry.{IsPlainEntryAt, IsPlainFault, LeavesSome, span_or}
+use Rattle.declarations.specs.Expected.{Expects}
 use Rattle.declarations.specs.Fault.{extent_at, first_extent}
 use Rattle.declarations.specs.Reader.{Finds, Sticks}
 use Rattle.declarations.specs.Signs.{trees_of}
@@ -169,6 +170,24 @@ pub plain_only : (trees : List TokenTree) (result : Found)
     → IfOk result (λ found. IsOnlyPlainRest trees found.1.now)
 plain_only trees (Ok found) only = λ none. only
 plain_only trees (Err fault) only = tt
+
+pub held_expected : (trees after : List TokenTree) (g : Grouped) (result : Found)
+    → bare_first trees ≡ Some (g, after)
+    → IfErr result
+    (λ fault. bare_first trees ≡ None → Expects (ByRule rule.entry) trees fault.at fault.expected)
+held_expected trees after g (Ok found) is = tt
+held_expected trees after g (Err fault) is = λ none. not_both (g, after) (sym is ∙ none)
+  where
+    not_both : (first : Grouped × List TokenTree) → Some first ≡ None
+        → Expects (ByRule rule.entry) trees fault.at fault.expected
+    not_both first both = cc
+
+pub plain_expected : (trees : List TokenTree) (result : Found)
+    → IfErr result (λ fault. Expects (ByRule rule.entry) trees fault.at fault.expected)
+    → IfErr result
+    (λ fault. bare_first trees ≡ None → Expects (ByRule rule.entry) trees fault.at fault.expected)
+plain_expected trees (Ok found) e = tt
+plain_expected trees (Err fault) e = λ none. e
 
 -- ---- what comes after an entry
 

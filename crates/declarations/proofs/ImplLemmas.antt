@@ -51,7 +51,7 @@ use Rattle.declarations.proofs.RuleWholeLemmas.{left_whole, stuck_whole, whole_r
 
 -- ---- where a reading begins
 
-starts_item : IsStart rules follows (rule.impl_item ∷ [])
+pub starts_item : IsStart rules follows (rule.impl_item ∷ [])
 starts_item = starts rule.impl_item refl refl
 
 starts_attributes : IsStart rules follows (attributes ∷ [])

@@ -20,6 +20,9 @@ pub mod CompileErrorLemmas
 pub mod ClassLemmas
 pub mod ExpectedLemmas
 pub mod ExpectsLemmas
+pub mod ExploreLemmas
+pub mod SyntaxLemmas
+pub mod RuleExpectsLemmas
 pub mod RuleLemmas
 pub mod StackLemmas
 pub mod AgreeLemmas

@@ -57,7 +57,7 @@ use Rattle.declarations.proofs.TableReaderLemmas.{table_reads}
 
 -- ---- where a reading begins
 
-starts_parameter : IsStart rules follows (rule.function_parameter ∷ [])
+pub starts_parameter : IsStart rules follows (rule.function_parameter ∷ [])
 starts_parameter = starts rule.function_parameter refl refl
 
 starts_attributes : IsStart rules follows (attributes ∷ [])
@@ -66,7 +66,7 @@ starts_attributes = starts attributes refl refl
 starts_receiver : IsStart rules follows (rule.receiver ∷ [])
 starts_receiver = starts rule.receiver refl refl
 
-starts_pattern : IsStart rules follows (rule.pattern ∷ [])
+pub starts_pattern : IsStart rules follows (rule.pattern ∷ [])
 starts_pattern = starts rule.pattern refl refl
 
 starts_dots : IsStart rules follows (rule.dots ∷ [])

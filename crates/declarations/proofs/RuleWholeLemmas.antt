@@ -38,7 +38,7 @@ module _ (g : G) (start : IsStart rules follows (g ∷ [])) where
   -- ---- faults
 
   -- signs that can go on can go on to a whole piece
-  goes_whole : (front : List SignClass) → GoesOn rules (g ∷ []) front → IsFront (IsWhole (ByRule g)) front
+  pub goes_whole : (front : List SignClass) → GoesOn rules (g ∷ []) front → IsFront (IsWhole (ByRule g)) front
   goes_whole front goes = record {
     more = goes.1;
     piece = front ++ goes.1;
@@ -58,7 +58,7 @@ module _ (g : G) (start : IsStart rules follows (g ∷ [])) where
   }
 
   -- and what is the front of a whole piece can go on
-  whole_goes : (front : List SignClass) → IsFront (IsWhole (ByRule g)) front → GoesOn rules (g ∷ []) front
+  pub whole_goes : (front : List SignClass) → IsFront (IsWhole (ByRule g)) front → GoesOn rules (g ∷ []) front
   whole_goes front goes =
       let p = goes.stands.0 in (
         p.events,

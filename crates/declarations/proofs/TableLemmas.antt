@@ -66,7 +66,7 @@ place_agrees place c = state_agrees place.state place.depth place.item place.rul
 
 -- ---- walks
 
-step_lifted : (place : WalkState) (k : List G) → left_at place ≡ Some k → (c : SignClass)
+pub step_lifted : (place : WalkState) (k : List G) → left_at place ≡ Some k → (c : SignClass)
     → left_after (step place c) ≡ stack_after (move rules k c)
 step_lifted place k e c = subst (λ o. Agrees o (step place c) c) e (place_agrees place c)
 

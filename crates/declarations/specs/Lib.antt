@@ -14,6 +14,8 @@ pub mod Reading
 pub mod Reader
 pub mod Whole
 pub mod Expected
+pub mod Syntax
+pub mod Explore
 pub mod Item
 pub mod Ending
 pub mod Field

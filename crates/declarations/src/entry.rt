@@ -12,6 +12,7 @@ ghost use Rattle.declarations.specs.Entry.{IsFaultAfter, IsFaultWithin, IsHeldEn
 ghost use Rattle.declarations.specs.Entry.{IsNearFault, IsNoEntry, IsOnlyPlainRest, IsOnlyRest, IsPlainEntryAt};
 ghost use Rattle.declarations.specs.Entry.{IsPlainEntryFault, IsPlainFault, ReadsEntry};
 ghost use Rattle.declarations.specs.Entry.{entry_extent, entry_spot, only_name, sole_name, span_or};
+ghost use Rattle.declarations.specs.Expected.{Expects};
 ghost use Rattle.declarations.specs.Fault.{extent_at, first_extent};
 ghost use Rattle.declarations.specs.Reader.{Finds, ReadsRule, Sticks, classes_in};
 ghost use Rattle.declarations.specs.rules.Entries.{continues, entry, entry_list, entry_literal, entry_path};
@@ -25,10 +26,12 @@ ghost use Rattle.declarations.specs.declared.class.SignClass.TheVariants as sign
 use crate::attribute::is_named;
 use crate::bare::{bare_trees, has_no_delimiters, inside_of};
 use crate::class::SignClass;
+use crate::explore::fault_by;
 use crate::fault::Fault;
 use crate::item::split_group;
 use crate::reader::{begins, is, part, past};
 use crate::signs::first_sign;
+use crate::syntax::ENTRY;
 use crate::walk::walk_past;
 use crate::walk_state::{Continuation, Item, Spot, State, WalkState};
 use pm_span::Span;
@@ -78,6 +81,8 @@ pub fn parse_entry(trees: &[TokenTree]) -> Result<(Entry<'_>, &[TokenTree]), Fau
     ensures only { IfOk result (λ found. IsOnlyPlainRest trees.now found.1.now) }
     ensures fewer { IfOk result (λ found. length found.1.now < length trees.now) }
     ensures fault { IfErr result (λ fault. IsNoEntry trees.now fault) }
+    ensures expected { IfErr result (λ fault.
+        bare_first trees.now ≡ None → Expects (ByRule entry) trees.now fault.at fault.expected) }
 {
     match split_bare(trees) {
         Some((group, after)) => held_entry(group, after),
@@ -91,10 +96,11 @@ fn plain_entry(trees: &[TokenTree]) -> Result<(Entry<'_>, &[TokenTree]), Fault>
     ensures only { IfOk result (λ found. IsOnlyRest entry trees.now found.1.now) }
     ensures fewer { IfOk result (λ found. length found.1.now < length trees.now) }
     ensures fault { IfErr result (λ fault. IsPlainFault trees.now fault) }
+    ensures expected { IfErr result (λ fault. Expects (ByRule entry) trees.now fault.at fault.expected) }
 {
     match entry_of(trees) {
         Ok((entry, rest)) => Ok((entry, rest)),
-        Err(left) => Err(Fault::ahead_of(trees.len() - left.len(), left)),
+        Err(left) => Err(fault_by(&ENTRY, trees, left)),
     }
 }
 
@@ -304,7 +310,7 @@ fn whole_plain_entry(trees: &[TokenTree]) -> Result<Entry<'_>, Fault>
     }
 }
 
-fn is_segment(class: SignClass) -> bool
+pub(crate) fn is_segment(class: SignClass) -> bool
     ensures { result ≡ is_entry_segment class }
 {
     match class {
@@ -382,7 +388,7 @@ fn entry_path(trees: &[TokenTree]) -> Result<&[TokenTree], &[TokenTree]>
     segments(separator(trees)?)
 }
 
-fn is_literal(class: SignClass) -> bool
+pub(crate) fn is_literal(class: SignClass) -> bool
     ensures { result ≡ is_literal class }
 {
     match class {
@@ -435,7 +441,7 @@ fn past_expression(trees: &[TokenTree]) -> Result<&[TokenTree], &[TokenTree]>
 }
 
 /// Whether the sign can go on after an operand but can begin no value: `=`, `>` or `->`.
-fn continues(class: SignClass) -> bool
+pub(crate) fn continues(class: SignClass) -> bool
     ensures { result ≡ continues class }
 {
     match class {

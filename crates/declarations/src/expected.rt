@@ -128,6 +128,15 @@ impl Expected {
         }
     }
 
+    /// The set without the end.
+    pub(crate) fn without_end(self) -> Expected
+        ensures { HasSigns result (holds self) false }
+    {
+        Expected {
+            bits: self.bits & !(1 << 127),
+        }
+    }
+
     /// Everything that is in one of the sets.
     pub(crate) fn both(self, other: Expected) -> Expected
         ensures { HasSigns result (λ class. holds self class || holds other class)

@@ -4,6 +4,7 @@ ghost use Rattle.grammars.specs.Grammar.{Sign, perhaps};
 ghost use Rattle.pm_stream.specs.declared.stream.Group.{Group as Grouped};
 ghost use Rattle.pm_stream.specs.declared.stream.TokenTree.{TokenTree as Tree};
 ghost use Rattle.pm_stream.specs.declared.stream.TokenTree.TheVariants as trees_are;
+ghost use Rattle.declarations.specs.Expected.{Expects};
 ghost use Rattle.declarations.specs.Fault.{extent_at};
 ghost use Rattle.declarations.specs.Function.{AreParentheses, HasBody, HasEnd, HasFunctionParts, HasReturn};
 ghost use Rattle.declarations.specs.Function.{IsBlock, IsFunction, IsNameAt};
@@ -19,11 +20,13 @@ ghost use Rattle.declarations.specs.rules.Parts.{generics, visibility, where_cla
 ghost use Rattle.declarations.specs.rules.Pieces.{ByRule};
 
 use crate::class::{Keyword, SignClass, Word};
+use crate::explore::fault_by;
 use crate::fault::Fault;
 use crate::item::{split_group, split_name, split_parentheses};
 use crate::parameter::{past_attributes, past_type};
 use crate::reader::{begins_identifier, begins_mark, is, part, past};
 use crate::signs::{first_sign, group_class, name_class};
+use crate::syntax::FUNCTION;
 use crate::walk::walk_past;
 use crate::walk_state::{Continuation, Item, Spot, State, WalkState};
 use pm_stream::{Group, TokenTree};
@@ -72,16 +75,17 @@ pub fn parse_function(trees: &[TokenTree]) -> Result<Function<'_>, Fault>
     ensures ok { IfOk result (λ function. IsFunction trees.now function) }
     ensures fault { IfErr result (λ fault. FaultAt (IsWhole (ByRule function_item)) trees.now fault.at) }
     ensures span { IfErr result (λ fault. fault.span ≡ extent_at trees.now fault.at) }
+    ensures expected { IfErr result (λ fault. Expects (ByRule function_item) trees.now fault.at fault.expected) }
 {
     match function_of(trees) {
         Ok((function, rest)) => {
             if rest.is_empty() {
                 Ok(function)
             } else {
-                Err(Fault::ahead_of(trees.len() - rest.len(), rest))
+                Err(fault_by(&FUNCTION, trees, rest))
             }
         }
-        Err(left) => Err(Fault::ahead_of(trees.len() - left.len(), left)),
+        Err(left) => Err(fault_by(&FUNCTION, trees, left)),
     }
 }
 
@@ -197,7 +201,7 @@ pub(crate) fn may(trees: &[TokenTree], class: SignClass) -> &[TokenTree]
 }
 
 /// Whether the sign is `unsafe` or `safe`.
-fn is_safe(class: SignClass) -> bool
+pub(crate) fn is_safe(class: SignClass) -> bool
     ensures { result ≡ is_safe class }
 {
     match class {
@@ -360,7 +364,7 @@ fn body_of(trees: &[TokenTree]) -> Result<(Option<&Group>, &[TokenTree]), &[Toke
 }
 
 /// Whether the sign is braces, or a group without delimiters that holds only braces.
-fn is_block(class: SignClass) -> bool
+pub(crate) fn is_block(class: SignClass) -> bool
     ensures { result ≡ is_block class }
 {
     match class {

@@ -3,6 +3,7 @@ ghost use Rattle.std.specs.Prelude.{◌≡◌, ◌<◌, IfErr, IfOk, MatchResult
 ghost use Rattle.grammars.specs.First.{heads, may_begin};
 ghost use Rattle.grammars.specs.Grammar.{Sign};
 ghost use Rattle.declarations.specs.Entry.{IsOnlyRest};
+ghost use Rattle.declarations.specs.Expected.{Expects};
 ghost use Rattle.declarations.specs.Fault.{extent_at};
 ghost use Rattle.declarations.specs.GenericArgument.{HasConstraint, IsArgumentAt, ReadsArgument};
 ghost use Rattle.declarations.specs.List.{IsFirst, IsListFault};
@@ -17,12 +18,14 @@ ghost use Rattle.declarations.specs.rules.Types.{bounds, type};
 ghost use Rattle.declarations.specs.declared.class.SignClass.TheVariants as signs;
 
 use crate::class::SignClass;
+use crate::explore::fault_by;
 use crate::fault::Fault;
 use crate::list::{fault_after, past_comma};
 use crate::parameter::past_type;
 use crate::range::past_range;
 use crate::reader::{begins, is, part, past};
 use crate::signs::first_sign;
+use crate::syntax::ARGUMENT;
 use crate::types::TypeState;
 use pm_stream::TokenTree;
 
@@ -69,10 +72,11 @@ pub fn parse_generic_argument(
     ensures fewer { IfOk result (λ found. length found.1.now < length trees.now) }
     ensures fault { IfErr result (λ fault. FaultAt (ByRule generic_argument) trees.now fault.at) }
     ensures span { IfErr result (λ fault. fault.span ≡ extent_at trees.now fault.at) }
+    ensures expected { IfErr result (λ fault. Expects (ByRule generic_argument) trees.now fault.at fault.expected) }
 {
     match argument_of(trees) {
         Ok((argument, rest)) => Ok((argument, rest)),
-        Err(left) => Err(Fault::ahead_of(trees.len() - left.len(), left)),
+        Err(left) => Err(fault_by(&ARGUMENT, trees, left)),
     }
 }
 
@@ -155,7 +159,7 @@ fn past_bounds(trees: &[TokenTree]) -> Result<&[TokenTree], &[TokenTree]>
 }
 
 /// Whether the sign is a constant by itself.
-fn is_constant(class: SignClass) -> bool
+pub(crate) fn is_constant(class: SignClass) -> bool
     ensures { result ≡ is_constant class }
 {
     match class {

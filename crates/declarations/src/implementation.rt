@@ -1,6 +1,7 @@
 //! The parts of an `impl`.
 ghost use Rattle.std.specs.Prelude.{◌≡◌, false, true, IfErr, IfOk, MatchOption, MatchResult};
 ghost use Rattle.grammars.specs.First.{heads, may_begin};
+ghost use Rattle.declarations.specs.Expected.{Expects};
 ghost use Rattle.declarations.specs.Fault.{extent_at};
 ghost use Rattle.declarations.specs.Found.{TurnsTo};
 ghost use Rattle.declarations.specs.Impl.{HasBraces, HasFront, HasGenerics, HasHeader, HasImplParts, HasTarget};
@@ -18,12 +19,14 @@ ghost use Rattle.declarations.specs.rules.Impls.{const_target, impl_front, targe
 ghost use Rattle.declarations.specs.rules.Pieces.{ByRule};
 
 use crate::class::{Keyword, SignClass, Word};
+use crate::explore::fault_by;
 use crate::fault::Fault;
 use crate::function::{is_name, may, past_generics, past_visibility, past_where};
 use crate::item::split_braces;
 use crate::parameter::{past_attributes, past_type};
 use crate::reader::{is, part};
 use crate::signs::first_sign;
+use crate::syntax::IMPL;
 use crate::type_path::opens;
 use pm_stream::{Group, TokenTree};
 
@@ -74,16 +77,17 @@ pub fn parse_impl(trees: &[TokenTree]) -> Result<Impl<'_>, Fault>
     ensures ok { IfOk result (λ item. IsImpl trees.now item) }
     ensures fault { IfErr result (λ fault. FaultAt (IsWhole (ByRule impl_item)) trees.now fault.at) }
     ensures span { IfErr result (λ fault. fault.span ≡ extent_at trees.now fault.at) }
+    ensures expected { IfErr result (λ fault. Expects (ByRule impl_item) trees.now fault.at fault.expected) }
 {
     match impl_of(trees) {
         Ok((item, rest)) => {
             if rest.is_empty() {
                 Ok(item)
             } else {
-                Err(Fault::ahead_of(trees.len() - rest.len(), rest))
+                Err(fault_by(&IMPL, trees, rest))
             }
         }
-        Err(left) => Err(Fault::ahead_of(trees.len() - left.len(), left)),
+        Err(left) => Err(fault_by(&IMPL, trees, left)),
     }
 }
 

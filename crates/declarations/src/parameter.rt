@@ -3,6 +3,7 @@ ghost use Rattle.std.specs.Prelude.{◌≡◌, ◌<◌, ◌||◌, IfErr, IfNone,
 ghost use Rattle.grammars.specs.First.{heads};
 ghost use Rattle.grammars.specs.Grammar.{perhaps};
 ghost use Rattle.declarations.specs.Entry.{IsOnlyRest};
+ghost use Rattle.declarations.specs.Expected.{Expects};
 ghost use Rattle.declarations.specs.Fault.{extent_at};
 ghost use Rattle.declarations.specs.List.{AreInside, IsFirst, IsListFault};
 ghost use Rattle.declarations.specs.Parameter.{IsParameterAt, ReadsEnd, ReadsFront, ReadsNamed, ReadsParameter};
@@ -23,11 +24,13 @@ ghost use Rattle.declarations.specs.declared.class.SignClass.TheVariants as sign
 ghost use Rattle.declarations.specs.declared.parameter.Shape.TheVariants as shapes;
 
 use crate::class::{Keyword, SignClass};
+use crate::explore::fault_by;
 use crate::fault::Fault;
 use crate::list::{fault_after, past_comma};
 use crate::range::past_range;
 use crate::reader::{begins, begins_mark, is, part, past};
 use crate::signs::first_sign;
+use crate::syntax::{PARAMETER, PATTERN};
 use crate::types::TypeState;
 use pm_stream::{Group, TokenTree};
 
@@ -67,7 +70,7 @@ pub enum Shape {
 }
 
 /// Whether a pattern can begin with the sign, apart from angle brackets.
-fn is_pattern(class: SignClass) -> bool
+pub(crate) fn is_pattern(class: SignClass) -> bool
     ensures { result ≡ is_pattern class }
 {
     match class {
@@ -84,7 +87,7 @@ fn is_pattern(class: SignClass) -> bool
 }
 
 /// Whether the sign can be in a pattern after its first sign.
-fn continues(class: SignClass) -> bool
+pub(crate) fn continues(class: SignClass) -> bool
     ensures { result ≡ continues class }
 {
     match class {
@@ -535,10 +538,11 @@ pub fn parse_parameter(trees: &[TokenTree]) -> Result<(Parameter<'_>, &[TokenTre
     ensures fewer { IfOk result (λ found. length found.1.now < length trees.now) }
     ensures fault { IfErr result (λ fault. FaultAt (ByRule function_parameter) trees.now fault.at) }
     ensures span { IfErr result (λ fault. fault.span ≡ extent_at trees.now fault.at) }
+    ensures expected { IfErr result (λ fault. Expects (ByRule function_parameter) trees.now fault.at fault.expected) }
 {
     match parameter_of(trees) {
         Ok((parameter, rest)) => Ok((parameter, rest)),
-        Err(left) => Err(Fault::ahead_of(trees.len() - left.len(), left)),
+        Err(left) => Err(fault_by(&PARAMETER, trees, left)),
     }
 }
 
@@ -554,10 +558,11 @@ pub fn split_pattern(trees: &[TokenTree]) -> Result<(&[TokenTree], &[TokenTree])
     ensures only { IfOk result (λ found. IsOnly (ByRule pattern) trees.now found.0.now found.1.now) }
     ensures fault { IfErr result (λ fault. FaultAt (ByRule pattern) trees.now fault.at) }
     ensures span { IfErr result (λ fault. fault.span ≡ extent_at trees.now fault.at) }
+    ensures expected { IfErr result (λ fault. Expects (ByRule pattern) trees.now fault.at fault.expected) }
 {
     match past_pattern(trees) {
         Ok(rest) => Ok((part(trees, rest), rest)),
-        Err(left) => Err(Fault::ahead_of(trees.len() - left.len(), left)),
+        Err(left) => Err(fault_by(&PATTERN, trees, left)),
     }
 }
 

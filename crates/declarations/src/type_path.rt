@@ -130,7 +130,7 @@ pub(crate) fn opens(class: SignClass) -> bool
     }
 }
 
-fn is_round(class: SignClass) -> bool
+pub(crate) fn is_round(class: SignClass) -> bool
     ensures { result ≡ is_round class }
 {
     match class {

@@ -1,4 +1,6 @@
-use Rattle.declarations.proofs.EntryLemmas.{entry_at, entry_fault, entry_fewer, entry_only, entry_span}
+use Rattle.declarations.specs.rules.Entries.{entry}
+use Rattle.declarations.proofs.EntryLemmas.{entry_at, entry_fault, entry_fewer, entry_only, entry_span, starts_entry}
+use Rattle.declarations.proofs.RuleExpectsLemmas.{stuck_expects}
 use Rattle.declarations.proofs.entry.plain_entry.Goals as goal
 
 pub returns-in-Ok-clause-ok : goal.returns-in-Ok-clause-ok
@@ -13,7 +15,12 @@ returns-in-Ok-clause-fewer c = entry_fewer c.args.trees.now c.in-Ok.rest.now c.i
 
 pub returns-in-Err-clause-fault : goal.returns-in-Err-clause-fault
 returns-in-Err-clause-fault c = record {
-  place = entry_fault c.args.trees.now c.in-Err.left.now c.ahead_of.result.at c.in-Err.ensures c.ahead_of.ensures.at;
-  span = entry_span c.args.trees.now c.in-Err.left.now c.ahead_of.result.at c.ahead_of.result.span c.in-Err.ensures
-      c.ahead_of.ensures.at c.ahead_of.ensures.span;
+  place = entry_fault c.args.trees.now c.in-Err.left.now c.fault_by.result.at c.in-Err.ensures c.fault_by.ensures.at;
+  span = entry_span c.args.trees.now c.in-Err.left.now c.fault_by.result.at c.fault_by.result.span c.in-Err.ensures
+      c.fault_by.ensures.at c.fault_by.ensures.span;
 }
+
+pub returns-in-Err-clause-expected : goal.returns-in-Err-clause-expected
+returns-in-Err-clause-expected c =
+    stuck_expects entry starts_entry c.args.trees.now c.in-Err.left.now c.fault_by.result.at c.fault_by.result.expected
+    c.in-Err.ensures c.fault_by.ensures.at c.fault_by.ensures.expected

@@ -1,4 +1,6 @@
-use Rattle.declarations.proofs.GenericArgumentLemmas.{argument_at, argument_fault, argument_fewer, argument_only}
+use Rattle.declarations.specs.rules.Paths.{generic_argument}
+use Rattle.declarations.proofs.GenericArgumentLemmas.{argument_at, argument_fault, argument_fewer, argument_only, starts_argument}
+use Rattle.declarations.proofs.RuleExpectsLemmas.{stuck_expects}
 use Rattle.declarations.proofs.generic_argument.parse_generic_argument.Goals as goal
 
 pub returns-in-Ok-clause-ok : goal.returns-in-Ok-clause-ok
@@ -13,4 +15,9 @@ returns-in-Ok-clause-fewer c = argument_fewer c.args.trees.now c.in-Ok.rest.now 
 
 pub returns-in-Err-clause-fault : goal.returns-in-Err-clause-fault
 returns-in-Err-clause-fault c =
-    argument_fault c.args.trees.now c.in-Err.left.now c.ahead_of.result.at c.in-Err.ensures c.ahead_of.ensures.at
+    argument_fault c.args.trees.now c.in-Err.left.now c.fault_by.result.at c.in-Err.ensures c.fault_by.ensures.at
+
+pub returns-in-Err-clause-expected : goal.returns-in-Err-clause-expected
+returns-in-Err-clause-expected c =
+    stuck_expects generic_argument starts_argument c.args.trees.now c.in-Err.left.now c.fault_by.result.at c.fault_by.result.expected
+    c.in-Err.ensures c.fault_by.ensures.at c.fault_by.ensures.expected

@@ -1,0 +1,99 @@
+use Rattle.std.proofs.Common.{◌∙◌, refl, sym, arith}
+use Rattle.declarations.specs.Syntax.{grammar_of}
+
+use Rattle.declarations.proofs.ExploreLemmas.{sees_within, lists_element, lists_end, lists_more, lists_none, lists_stuck}
+use Rattle.declarations.proofs.ExploreLemmas.{repeats_end, repeats_more, repeats_none, repeats_stuck}
+use Rattle.declarations.specs.declared.class.SignClass.TheVariants as classes
+use Rattle.declarations.proofs.ReaderLemmas.{remains_sign, remains_within}
+use Rattle.declarations.proofs.explore.+explore.Goals as goal
+
+-- ---- lists
+
+pub explore_list-loop-left-init : goal.explore_list-loop-left-init
+explore_list-loop-left-init t c = lists_none (grammar_of c.args.item.now) c.args.trees.now
+
+pub explore_list-returns-then-one-left : goal.explore_list-returns-then-one-left
+explore_list-returns-then-one-left t c =
+    let same = c.if-one-left.true in
+    lists_end (grammar_of c.args.item.now) c.args.trees.now c.loop-left.left.now c.explore-one.result
+    c.loop-left.invariant c.explore-one.ensures (record { left = c.loop-left.left; next = c.with_end.result })
+    (omega arith) refl
+    (record { classes = c.with_end.ensures.classes; end = c.with_end.ensures.end })
+
+pub explore_list-returns-else-has_end : goal.explore_list-returns-else-has_end
+explore_list-returns-else-has_end t c =
+    let within = sees_within (grammar_of c.args.item.now) c.loop-left.left.now c.explore-one.result
+    c.explore-one.ensures in
+    let not = c.if-one-left.false in
+    lists_stuck (grammar_of c.args.item.now) c.args.trees.now c.loop-left.left.now c.explore-one.result
+    c.loop-left.invariant c.explore-one.ensures (omega arith) (sym c.has_end.ensures ∙ c.if-has_end.false)
+
+pub explore_list-loop-left-preserved : goal.explore_list-loop-left-preserved
+explore_list-loop-left-preserved t c =
+    let within = sees_within (grammar_of c.args.item.now) c.loop-left.left.now c.explore-one.result
+    c.explore-one.ensures in
+    let not = c.if-one-left.false in
+    lists_more (grammar_of c.args.item.now) c.args.trees.now c.loop-left.left.now c.explore-one.result
+    c.loop-left.invariant c.explore-one.ensures (omega arith) (sym c.has_end.ensures ∙ c.if-has_end.true)
+    c.in-Some.rest.now c.in-Some.ensures.found
+
+pub explore_list-returns-in-None : goal.explore_list-returns-in-None
+explore_list-returns-in-None t c =
+    let within = sees_within (grammar_of c.args.item.now) c.loop-left.left.now c.explore-one.result
+    c.explore-one.ensures in
+    let not = c.if-one-left.false in
+    lists_element (grammar_of c.args.item.now) c.args.trees.now c.loop-left.left.now c.explore-one.result
+    c.loop-left.invariant c.explore-one.ensures (omega arith) (sym c.has_end.ensures ∙ c.if-has_end.true)
+    (record { left = c.explore-one.result.left; next = c.with.result }) c.in-None.ensures.none refl
+    (record {
+      classes = c.with.ensures.classes;
+      end = c.with.ensures.end ∙ (sym c.has_end.ensures ∙ c.if-has_end.true);
+    })
+
+pub explore_list-loop-left-smaller : goal.explore_list-loop-left-smaller
+explore_list-loop-left-smaller t c =
+    let within = sees_within (grammar_of c.args.item.now) c.loop-left.left.now c.explore-one.result
+    c.explore-one.ensures in
+    let not = c.if-one-left.false in
+    let after = remains_within c.explore-one.result.left.now c.in-Some.rest.now
+    (remains_sign c.explore-one.result.left.now c.in-Some.rest.now classes.Comma c.in-Some.ensures.found) in
+    omega arith
+
+-- ---- any number of times
+
+pub explore_many-loop-seen-init : goal.explore_many-loop-seen-init
+explore_many-loop-seen-init t c =
+    repeats_none (grammar_of c.args.item.now) c.args.trees.now c.seen_nothing-seen.result
+    c.seen_nothing-seen.ensures.left c.seen_nothing-seen.ensures.next
+
+pub explore_many-returns-then-one-seen : goal.explore_many-returns-then-one-seen
+explore_many-returns-then-one-seen t c =
+    let same = c.if-one-seen.true in
+    let seen = c.loop-seen.seen in
+    repeats_end (grammar_of c.args.item.now) c.args.trees.now seen.left.now seen.next c.explore-one.result
+    c.loop-seen.invariant c.explore-one.ensures (record { left = seen.left; next = c.with_end.result }) (omega arith)
+    refl
+    (record { classes = λ x. c.with_end.ensures.classes x ∙ c.both.ensures.classes x; end = c.with_end.ensures.end })
+
+pub explore_many-returns-else-has_end : goal.explore_many-returns-else-has_end
+explore_many-returns-else-has_end t c =
+    let seen = c.loop-seen.seen in
+    let within = sees_within (grammar_of c.args.item.now) seen.left.now c.explore-one.result c.explore-one.ensures in
+    let not = c.if-one-seen.false in
+    repeats_stuck (grammar_of c.args.item.now) c.args.trees.now seen.left.now seen.next c.explore-one.result
+    c.loop-seen.invariant c.explore-one.ensures (omega arith) (sym c.has_end.ensures ∙ c.if-has_end.false)
+
+pub explore_many-loop-seen-preserved : goal.explore_many-loop-seen-preserved
+explore_many-loop-seen-preserved t c =
+    let seen = c.loop-seen.seen in
+    let within = sees_within (grammar_of c.args.item.now) seen.left.now c.explore-one.result c.explore-one.ensures in
+    let not = c.if-one-seen.false in
+    repeats_more (grammar_of c.args.item.now) c.args.trees.now seen.left.now seen.next c.explore-one.result
+    c.loop-seen.invariant c.explore-one.ensures (omega arith) (sym c.has_end.ensures ∙ c.if-has_end.true)
+
+pub explore_many-loop-seen-smaller : goal.explore_many-loop-seen-smaller
+explore_many-loop-seen-smaller t c =
+    let seen = c.loop-seen.seen in
+    let within = sees_within (grammar_of c.args.item.now) seen.left.now c.explore-one.result c.explore-one.ensures in
+    let not = c.if-one-seen.false in
+    omega arith

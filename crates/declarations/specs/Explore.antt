@@ -1,0 +1,55 @@
+-- How far a rule reads, and with what signs it can go on.
+use Rattle.std.specs.Prelude.{◌≡◌, ◌<◌, true, false, List, [], ◌∷◌, ℕ, length}
+use Rattle.grammars.specs.Deterministic.{IsStart}
+use Rattle.grammars.specs.Grammar.{Then, Either}
+use Rattle.grammars.specs.Next as machine
+use Rattle.pm_stream.specs.declared.stream.TokenTree.{TokenTree}
+use Rattle.declarations.specs.Expected.{Expects, holds, holds_end}
+use Rattle.declarations.specs.Reader.{Remains, classes_in}
+use Rattle.declarations.specs.Reading.{FaultAt}
+use Rattle.declarations.specs.Whole.{IsWhole}
+use Rattle.declarations.specs.declared.expected.Expected.{Expected}
+use Rattle.declarations.specs.declared.explore.Seen.{Seen}
+use Rattle.declarations.specs.rules.Names.{G}
+use Rattle.declarations.specs.rules.Pieces.{ByRule}
+use Rattle.declarations.specs.rules.Rules.{follows, rules}
+
+-- the rule reads the signs before the left trees, and cannot go on with the next one. The set has exactly the classes
+-- with which it could go on, and the end if it may end there
+pub record Explores (g : G) (trees left : List TokenTree) (next : Expected) : Type 0 where
+  pub remains : Remains left trees
+  pub sees : machine.Sees rules (g ∷ []) (classes_in trees) (classes_in left) (holds next) (holds_end next)
+
+-- what is seen by a rule
+abbrev pub Sees : G → List TokenTree → Seen → Type 0
+Sees g trees seen = Explores g trees seen.left.now seen.next
+
+-- what is seen by two rules, one after the other, if the first may end
+abbrev pub Joins : Seen → Seen → Seen → Type 0
+Joins first second seen =
+    (a b : G) (trees : List TokenTree) → Sees a trees first → holds_end first.next ≡ true
+    → Sees b first.left.now second
+    → Sees (Then a b) trees seen
+
+-- what is seen by two rules, one after the other, if the first may not end
+abbrev pub StopsFirst : Seen → Seen → Type 0
+StopsFirst first seen =
+    (a b : G) (trees : List TokenTree) → Sees a trees first → holds_end first.next ≡ false → Sees (Then a b) trees seen
+
+-- what is seen by one of two rules, if the first reads a sign
+abbrev pub BeginsFirst : Seen → Seen → Type 0
+BeginsFirst first seen =
+    (a b : G) (trees : List TokenTree) → Sees a trees first → length first.left.now < length trees
+    → Sees (Either a b) trees seen
+
+-- what is seen by one of two rules, if the first reads no sign
+abbrev pub Chooses : Seen → Seen → Seen → Type 0
+Chooses first second seen =
+    (a b : G) (trees : List TokenTree) → Sees a trees first → (length first.left.now < length trees → ⊥)
+    → Sees b trees second
+    → Sees (Either a b) trees seen
+
+-- if the trees are not one part by the rule, the set has exactly the signs that could come at the error
+abbrev pub ExpectsWhole : G → List TokenTree → Expected → Type 0
+ExpectsWhole g trees set =
+    IsStart rules follows (g ∷ []) → (at : ℕ) → FaultAt (IsWhole (ByRule g)) trees at → Expects (ByRule g) trees at set

@@ -1,0 +1,311 @@
+//! How far a rule reads, and with what signs it can go on. This is for trees that do not fit the grammar.
+ghost use Rattle.std.specs.Prelude.{◌≡◌, ◌-◌, ◌≤◌, ◌&&◌, IfNone, IfSome, false, length, true};
+ghost use Rattle.grammars.specs.First.{heads, may_begin};
+ghost use Rattle.grammars.specs.Grammar.{Many, Mark, Nothing, Sign};
+ghost use Rattle.declarations.specs.Expected.{HasSigns, holds};
+ghost use Rattle.declarations.specs.Explore.{BeginsFirst, Chooses, ExpectsWhole, Joins, Sees, StopsFirst};
+ghost use Rattle.declarations.specs.Fault.{first_extent};
+ghost use Rattle.declarations.specs.Reader.{classes_in};
+ghost use Rattle.declarations.specs.Signs.{BeginsWith};
+ghost use Rattle.declarations.specs.Syntax.{admits, grammar_of, guarded_rule, label_of, rule_of, test_of};
+ghost use Rattle.declarations.specs.rules.Classes.{any_of, is};
+ghost use Rattle.declarations.specs.rules.Names.{comma_list, one};
+ghost use Rattle.declarations.specs.declared.class.SignClass.TheVariants as signs;
+
+use crate::class::SignClass;
+use crate::expected::{CLASSES, Expected, steps_from};
+use crate::fault::Fault;
+use crate::reader::is;
+use crate::signs::first_sign;
+use crate::syntax::{Guard, Label, Syntax, Table, Test, admits, passes, start_of, table_of};
+use crate::walk::walk_from;
+use pm_stream::TokenTree;
+
+/// The trees after what a rule reads, and the signs with which the rule could go on.
+#[derive(Clone, Copy)]
+pub struct Seen<'a> {
+    /// The trees that are left.
+    pub left: &'a [TokenTree],
+    /// The signs that could be next. The end is among them if the rule may end there.
+    pub next: Expected,
+}
+
+/// Nothing is read, and nothing more need come.
+fn seen_nothing(trees: &[TokenTree]) -> Seen<'_>
+    ensures left { result.left.now ≡ trees.now }
+    ensures next { HasSigns result.next (λ class. false) true }
+{
+    Seen {
+        left: trees,
+        next: Expected::nothing().with_end(),
+    }
+}
+
+/// Reads by the rule that reads nothing.
+fn see_nothing(trees: &[TokenTree]) -> Seen<'_>
+    ensures { Sees Nothing trees.now result }
+{
+    seen_nothing(trees)
+}
+
+/// Reads by a label.
+fn see_mark(label: Label, trees: &[TokenTree]) -> Seen<'_>
+    ensures { Sees (Mark (label_of label)) trees.now result }
+{
+    seen_nothing(trees)
+}
+
+/// Those of the classes that pass the test.
+fn passing(test: Test, classes: &[SignClass]) -> Expected
+    ensures { HasSigns result (λ class. any_of (λ x. is x class && test_of test x) classes.now) false }
+{
+    let mut found = Expected::nothing();
+    for class in classes {
+        if passes(test, *class) {
+            found = found.with(*class);
+        }
+    }
+    found
+}
+
+/// No sign is read, and one that passes the test could come.
+fn no_sign(test: Test, trees: &[TokenTree]) -> Seen<'_>
+    ensures left { result.left.now ≡ trees.now }
+    ensures next { HasSigns result.next (test_of test) false }
+{
+    Seen {
+        left: trees,
+        next: passing(test, &CLASSES),
+    }
+}
+
+/// Reads a sign that passes the test.
+fn see_sign(test: Test, trees: &[TokenTree]) -> Seen<'_>
+    ensures { Sees (Sign (test_of test)) trees.now result }
+{
+    match first_sign(trees) {
+        Some((class, rest)) => {
+            if passes(test, class) {
+                seen_nothing(rest)
+            } else {
+                no_sign(test, trees)
+            }
+        }
+        None => no_sign(test, trees),
+    }
+}
+
+/// Reads what the table reads.
+fn see_table(table: Table, trees: &[TokenTree]) -> Seen<'_>
+    ensures { Sees (rule_of table) trees.now result }
+{
+    let stop = walk_from(trees, start_of(table));
+    Seen {
+        left: stop.left,
+        next: steps_from(stop.place),
+    }
+}
+
+/// Those of the classes that are in the set and with which the guarded rule can begin.
+fn admitted(guard: Guard, set: Expected, classes: &[SignClass]) -> Expected
+    ensures { HasSigns result (λ class. any_of (λ x. is x class && (admits guard x && holds set x)) classes.now) false }
+{
+    let mut found = Expected::nothing();
+    for class in classes {
+        if admits(guard, *class) && set.contains(*class) {
+            found = found.with(*class);
+        }
+    }
+    found
+}
+
+/// The signs with which the guarded rule can begin.
+fn first_of(guard: Guard) -> Expected
+    ensures { HasSigns result (may_begin (guarded_rule guard)) false }
+{
+    let first = steps_from(start_of(table_of(guard)));
+    admitted(guard, first, &CLASSES)
+}
+
+/// Reads what the table reads, if the guarded rule can begin with the first sign.
+fn see_guarded(guard: Guard, trees: &[TokenTree]) -> Seen<'_>
+    ensures { Sees (guarded_rule guard) trees.now result }
+{
+    let first = first_of(guard);
+    let none = Seen {
+        left: trees,
+        next: first,
+    };
+    match first_sign(trees) {
+        Some((class, _)) => {
+            if first.contains(class) {
+                see_table(table_of(guard), trees)
+            } else {
+                none
+            }
+        }
+        None => none,
+    }
+}
+
+/// What two rules see, one after the other. The first may end where the second begins.
+fn joined<'a>(first: Seen<'a>, second: Seen<'a>) -> Seen<'a>
+    ensures { Joins first.entry second.entry result }
+{
+    if second.left.len() < first.left.len() {
+        second
+    } else {
+        Seen {
+            left: second.left,
+            next: first.next.without_end().both(second.next),
+        }
+    }
+}
+
+/// What two rules see, one after the other. The first may not end where it goes no further.
+fn stopped(first: Seen<'_>) -> Seen<'_>
+    ensures { StopsFirst first.entry result }
+{
+    first
+}
+
+/// What one of two rules sees. The first reads a sign.
+fn begun(first: Seen<'_>) -> Seen<'_>
+    ensures { BeginsFirst first.entry result }
+{
+    first
+}
+
+/// What one of two rules sees. The first reads no sign.
+fn chosen<'a>(first: Seen<'a>, second: Seen<'a>) -> Seen<'a>
+    ensures { Chooses first.entry second.entry result }
+{
+    if second.left.len() < first.left.len() {
+        second
+    } else {
+        Seen {
+            left: second.left,
+            next: first.next.both(second.next),
+        }
+    }
+}
+
+/// Reads by the rule as far as it goes.
+#[cycle(explore)]
+pub(crate) fn explore<'a>(syntax: &Syntax<'_>, trees: &'a [TokenTree]) -> Seen<'a>
+    ensures { Sees (grammar_of syntax.now) trees.now result }
+{
+    match syntax {
+        Syntax::Nothing => see_nothing(trees),
+        Syntax::Mark(label) => see_mark(*label, trees),
+        Syntax::Sign(test) => see_sign(*test, trees),
+        Syntax::Table(table) => see_table(*table, trees),
+        Syntax::Guarded(guard) => see_guarded(*guard, trees),
+        Syntax::Then(first, second) => {
+            let before = explore(first, trees);
+            if before.next.has_end() {
+                joined(before, explore(second, before.left))
+            } else {
+                stopped(before)
+            }
+        }
+        Syntax::Either(first, second) => {
+            let one = explore(first, trees);
+            if one.left.len() < trees.len() {
+                begun(one)
+            } else {
+                chosen(one, explore(second, trees))
+            }
+        }
+        Syntax::Many(item) => explore_many(item, trees),
+        Syntax::List(item) => explore_list(item, trees),
+    }
+}
+
+/// Reads by the rule any number of times.
+#[cycle(explore)]
+fn explore_many<'a>(item: &Syntax<'_>, trees: &'a [TokenTree]) -> Seen<'a>
+    ensures { Sees (Many (grammar_of item.now)) trees.now result }
+{
+    let mut seen = seen_nothing(trees);
+    loop {
+        let one = explore(item, seen.left);
+        if one.left.len() == seen.left.len() {
+            return Seen {
+                left: seen.left,
+                next: seen.next.both(one.next).with_end(),
+            };
+        }
+        if one.next.has_end() {
+            seen = one;
+        } else {
+            return one;
+        }
+    }
+}
+
+/// The trees after the `,` that they begin with.
+fn past_comma(trees: &[TokenTree]) -> Option<&[TokenTree]>
+    ensures found { IfSome result (λ rest. BeginsWith trees.now signs.Comma rest.now) }
+    ensures none { IfNone result (heads (one signs.Comma) (classes_in trees.now) ≡ false) }
+{
+    match first_sign(trees) {
+        Some((class, rest)) => {
+            if is(SignClass::Comma, class) {
+                Some(rest)
+            } else {
+                None
+            }
+        }
+        None => None,
+    }
+}
+
+/// Reads by the rule any number of times, with `,` between two and perhaps after the last.
+#[cycle(explore)]
+fn explore_list<'a>(item: &Syntax<'_>, trees: &'a [TokenTree]) -> Seen<'a>
+    ensures { Sees (comma_list (grammar_of item.now)) trees.now result }
+{
+    let mut left = trees;
+    loop {
+        let one = explore(item, left);
+        if one.left.len() == left.len() {
+            return Seen {
+                left,
+                next: one.next.with_end(),
+            };
+        }
+        if one.next.has_end() {
+            match past_comma(one.left) {
+                Some(rest) => left = rest,
+                None => {
+                    return Seen {
+                        left: one.left,
+                        next: one.next.with(SignClass::Comma),
+                    };
+                }
+            }
+        } else {
+            return one;
+        }
+    }
+}
+
+/// The signs that could come next where the trees do not fit the rule.
+#[cold]
+pub(crate) fn expected_by(syntax: &Syntax<'_>, trees: &[TokenTree]) -> Expected
+    ensures { ExpectsWhole (grammar_of syntax.now) trees.now result }
+{
+    explore(syntax, trees).next
+}
+
+/// The error of trees that the rule reads as far as the left ones.
+#[cold]
+pub(crate) fn fault_by(syntax: &Syntax<'_>, trees: &[TokenTree], left: &[TokenTree]) -> Fault
+    requires { length left.now ≤ length trees.now }
+    ensures at { result.at ≡ length trees.now - length left.now }
+    ensures span { result.span ≡ first_extent left.now }
+    ensures expected { ExpectsWhole (grammar_of syntax.now) trees.now result.expected }
+{
+    Fault::ahead_of(trees.len() - left.len(), left).expecting(expected_by(syntax, trees))
+}
