@@ -145,7 +145,8 @@ fn is_list(class: SignClass) -> bool
     ensures { result ≡ is_list class }
 {
     match class {
-        SignClass::Restriction | SignClass::Parentheses | SignClass::Brackets | SignClass::Braces => true,
+        SignClass::Restriction | SignClass::Parentheses | SignClass::Brackets | SignClass::Braces =>
+            true,
         _ => false,
     }
 }

@@ -1,6 +1,5 @@
 use Rattle.std.proofs.Common.{◌∙◌, refl, sym, arith}
 use Rattle.declarations.specs.Syntax.{grammar_of}
-
 use Rattle.declarations.proofs.ExploreLemmas.{sees_within, lists_element, lists_end, lists_more, lists_none, lists_stuck}
 use Rattle.declarations.proofs.ExploreLemmas.{repeats_end, repeats_more, repeats_none, repeats_stuck}
 use Rattle.declarations.specs.declared.class.SignClass.TheVariants as classes
@@ -63,7 +62,8 @@ explore_list-loop-left-smaller t c =
 
 pub explore_many-loop-seen-init : goal.explore_many-loop-seen-init
 explore_many-loop-seen-init t c =
-    repeats_none (grammar_of c.args.item.now) c.args.trees.now c.seen_nothing-seen.result
+    repeats_none (grammar_of c.args.item.now) c.args.trees.now c.seen_nothing-seen.result.left.now
+    c.seen_nothing-seen.result.next
     c.seen_nothing-seen.ensures.left c.seen_nothing-seen.ensures.next
 
 pub explore_many-returns-then-one-seen : goal.explore_many-returns-then-one-seen
@@ -97,3 +97,30 @@ explore_many-loop-seen-smaller t c =
     let within = sees_within (grammar_of c.args.item.now) seen.left.now c.explore-one.result c.explore-one.ensures in
     let not = c.if-one-seen.false in
     omega arith
+
+-- ---- one rule
+
+pub explore-returns-then-has_end : goal.explore-returns-then-has_end
+explore-returns-then-has_end t c =
+    rw c.in-Then.is
+    (c.joined.ensures (grammar_of c.in-Then.first.now) (grammar_of c.in-Then.second.now) c.args.trees.now
+    c.explore-before.ensures (sym c.has_end.ensures ∙ c.if-has_end.true) c.explore.ensures)
+
+pub explore-returns-else-has_end : goal.explore-returns-else-has_end
+explore-returns-else-has_end t c =
+    rw c.in-Then.is
+    (c.stopped.ensures (grammar_of c.in-Then.first.now) (grammar_of c.in-Then.second.now) c.args.trees.now
+    c.explore-before.ensures (sym c.has_end.ensures ∙ c.if-has_end.false))
+
+pub explore-returns-then-one-trees : goal.explore-returns-then-one-trees
+explore-returns-then-one-trees t c =
+    rw c.in-Either.is
+    (c.begun.ensures (grammar_of c.in-Either.first.now) (grammar_of c.in-Either.second.now) c.args.trees.now
+    c.explore-one.ensures c.if-one-trees.true)
+
+pub explore-returns-else-one-trees : goal.explore-returns-else-one-trees
+explore-returns-else-one-trees t c =
+    let all = c.if-one-trees.false in
+    rw c.in-Either.is
+    (c.chosen.ensures (grammar_of c.in-Either.first.now) (grammar_of c.in-Either.second.now) c.args.trees.now
+    c.explore-one.ensures (λ less. omega arith) c.explore-else-one-trees.ensures)
