@@ -75,7 +75,8 @@ pub struct Entry<'a> {
 /// path alone, a list or `=` and a value can come after the group. In the group the path of the entry may be in a
 /// group of its own. Groups that hold nothing but such a group are looked through. An error inside of the group has an
 /// `at` of 0, since no tree comes before the group. Its span is that of the first wrong tree inside, or that of the
-/// group if trees are missing at its end.
+/// group if trees are missing at its end. If the trees begin with such a group, the error does not say what was
+/// expected.
 pub fn parse_entry(trees: &[TokenTree]) -> Result<(Entry<'_>, &[TokenTree]), Fault>
     ensures ok { IfOk result (λ found. IsEntryAt trees.now found.0 found.1.now) }
     ensures only { IfOk result (λ found. IsOnlyPlainRest trees.now found.1.now) }
