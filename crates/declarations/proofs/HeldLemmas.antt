@@ -14,21 +14,25 @@ use Rattle.pm_stream.specs.declared.stream.TokenTree.TheVariants.{Group, Ident, 
 use Rattle.declarations.specs.Bare.{bare_first, has_no_delimiters, inside_of}
 use Rattle.declarations.specs.Entry.{Begins, BeginsWithHeld, BeginsWithNone, Continues, Fails, GoesOn, HasArgs}
 use Rattle.declarations.specs.Entry.{IsAfterEntry, IsArgsFault, IsEntryListFault, IsFaultAfter, IsFaultWithin}
-use Rattle.declarations.specs.Entry.{IsHeldEntryAt, IsNearEntryAt, IsNearFault, IsNoEntry, IsOnlyPlainRest, IsOnlyRest}
+use Rattle.declarations.specs.Entry.{IsEntryAt, IsHeldEntryAt, IsNearEntryAt, IsNearFault, IsNoEntry, IsOnlyPlainRest, IsOnlyRest}
 use Rattle.declarations.specs.Entry.{IsPlainEntryAt, IsPlainFault, LeavesSome, span_or}
 use Rattle.declarations.specs.Expected.{Expects}
+use Rattle.declarations.specs.Explore.{ExpectsWhole}
 use Rattle.declarations.specs.Fault.{extent_at, first_extent}
 use Rattle.declarations.specs.Reader.{Finds, Sticks}
 use Rattle.declarations.specs.Signs.{trees_of}
 use Rattle.declarations.specs.declared.entry.Entry.{Entry}
 use Rattle.declarations.specs.declared.entry.EntryKind.{EntryKind}
 use Rattle.declarations.specs.declared.entry.EntryKind.TheVariants as kinds
+use Rattle.declarations.specs.declared.expected.Expected.{Expected}
 use Rattle.declarations.specs.declared.fault.Fault.{Fault}
 use Rattle.declarations.specs.rules.Entries as rule
 use Rattle.declarations.specs.rules.Pieces.{ByRule}
 use Rattle.declarations.specs.rules.Rules.{follows, rules}
 use Rattle.declarations.proofs.ParamLemmas.{fault_within}
 use Rattle.declarations.proofs.ReaderLemmas.{remains_span, remains_within}
+use Rattle.declarations.proofs.EntryLemmas.{starts_entry}
+use Rattle.declarations.proofs.RuleExpectsLemmas.{reads_expects}
 use Rattle.declarations.proofs.RuleFormLemmas.{found_reads, stuck_fault}
 use Rattle.declarations.proofs.RuleLemmas.{starts}
 
@@ -171,6 +175,13 @@ pub plain_only : (trees : List TokenTree) (result : Found)
 plain_only trees (Ok found) only = λ none. only
 plain_only trees (Err fault) only = tt
 
+pub held_none : (trees : List TokenTree) (first : Grouped × List TokenTree) (P : Type 0) → bare_first trees ≡ Some first
+    → bare_first trees ≡ None → P
+held_none trees first P some none = not_both first (sym some ∙ none)
+  where
+    not_both : (first : Grouped × List TokenTree) → Some first ≡ None → P
+    not_both first both = cc
+
 pub held_expected : (trees after : List TokenTree) (g : Grouped) (result : Found)
     → bare_first trees ≡ Some (g, after)
     → IfErr result
@@ -253,6 +264,21 @@ no_rest rest b is some none =
     let empty : b ≡ true = is ∙ ap (λ ts. length ts == 0) none in
     let clash : true ≡ false = sym empty ∙ some in
     cc
+
+pub after_expected : (trees rest : List TokenTree) (entry : Entry) (at : ℕ) (set : Expected)
+    → IsEntryAt trees entry rest → (rest ≡ [] → ⊥) → at ≡ length trees - length rest
+    → (bare_first trees ≡ None → ExpectsWhole rule.entry trees set)
+    → bare_first trees ≡ None
+    → Expects (ByRule rule.entry) trees at set
+after_expected trees rest entry at set is some counted e none =
+    let plain : IsPlainEntryAt trees entry rest =
+    subst (λ o. MatchOption o (IsPlainEntryAt trees entry rest)
+    (λ found. IsHeldEntryAt IsNearEntryAt (inside_of found.0) found.1 entry rest)) none is in
+    reads_expects rule.entry starts_entry trees plain.part rest at set plain.reads (no_trees rest some) counted (e none)
+  where
+    no_trees : (rest : List TokenTree) → (rest ≡ [] → ⊥) → length rest ≡ 0 → ⊥
+    no_trees [] some none = some refl
+    no_trees (tree ∷ rest) some none = omega arith
 
 -- ---- where an error can be
 

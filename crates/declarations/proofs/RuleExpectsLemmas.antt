@@ -1,7 +1,7 @@
 -- The set of signs at the error of a rule is exact.
 use Rattle.std.proofs.Common.{◌≡◌, refl, sym, ◌∙◌, ap, subst, ℕ, Bool, true, false, List, [], ◌∷◌, ◌++◌, Option}
-use Rattle.std.proofs.Common.{Some, None, is_some, length, arith, ◌-◌}
-use Rattle.std.proofs.lemmas.Bool.{both_ways}
+use Rattle.std.proofs.Common.{Some, None, is_some, length, arith, ◌-◌, ◌+◌, append-nil, append_assoc}
+use Rattle.std.proofs.lemmas.List.{length-append}
 use Rattle.grammars.specs.Deterministic.{IsStart}
 use Rattle.grammars.specs.Grammar.{Event}
 use Rattle.grammars.specs.Machine as machine
@@ -16,7 +16,7 @@ use Rattle.pm_stream.specs.declared.stream.TokenTree.{TokenTree}
 use Rattle.declarations.specs.Expected.{Expects, holds, holds_end}
 use Rattle.declarations.specs.Explore.{Explores, ExpectsWhole}
 use Rattle.declarations.specs.Reader.{Finds, Sticks, classes_in}
-use Rattle.declarations.specs.Reading.{FaultAt, StopsBefore}
+use Rattle.declarations.specs.Reading.{FaultAt, Reads, StopsBefore}
 use Rattle.declarations.specs.Signs.{classes_of, signs}
 use Rattle.declarations.specs.Walk.{IsFront}
 use Rattle.declarations.specs.Whole.{IsWhole}
@@ -28,7 +28,12 @@ use Rattle.declarations.specs.rules.Rules.{follows, rules}
 use Rattle.declarations.proofs.ReadingLemmas.{classes-append}
 use Rattle.declarations.proofs.RuleLemmas.{well_formed}
 use Rattle.declarations.proofs.ReaderLemmas.{remains_within}
-use Rattle.declarations.proofs.RuleWholeLemmas.{goes_whole, left_whole, stuck_whole, whole_goes}
+use Rattle.declarations.proofs.RuleWholeLemmas.{goes_whole, left_whole, no_longer, some_left, stuck_whole}
+use Rattle.declarations.proofs.RuleWholeLemmas.{whole_goes}
+
+classes_of_rest : (rest : List TokenTree) → classes_of (signs rest) ≡ [] → classes_in rest ≡ []
+unfolding classes_in
+classes_of_rest rest none = none
 
 module _ (g : G) (start : IsStart rules follows (g ∷ [])) where
   -- signs that can go on are a walk of the machine
@@ -120,3 +125,50 @@ pub left_expects : (g : G) → IsStart rules follows (g ∷ []) → (trees rest 
 left_expects g start trees rest at set f some counted e =
     let within = remains_within trees rest f.remains in
     e start at (left_whole g start trees rest at f some (omega arith))
+
+-- a part is read, and trees are left over
+module _ (g : G) (start : IsStart rules follows (g ∷ [])) where
+  reads_fault : (trees part rest : List TokenTree) (at : ℕ) → Reads (ByRule g) trees part rest
+      → (length rest ≡ 0 → ⊥) → at + length rest ≡ length trees
+      → FaultAt (IsWhole (ByRule g)) trees at
+  reads_fault trees part rest at r some counted =
+      let front = classes_of r.piece in
+      let sum = ap length r.whole ∙ length-append part rest in
+      let taken = ap length r.taken in
+      record {
+        front = r.piece;
+        left = rest;
+        read = r.read;
+        whole = r.whole ∙ ap (λ p. p ++ rest) r.taken;
+        counted = omega arith;
+        goes_on = goes_whole g start front
+            (r.stands.events, [], r.stands.reading.reads, r.stands.reading.whole ∙ sym (append-nil front));
+        longest = no_longer g start front (classes_of (signs rest)) r.stands.longest;
+        nothing = λ other past reads. go other past (classes_of (signs rest)) refl reads;
+      }
+    where
+      go : (other past : List TokenTree) (left : List SignClass) → classes_of (signs rest) ≡ left
+          → Reads (IsWhole (ByRule g)) trees other past
+          → ⊥
+      go other past [] none reads = some_left g start rest some (classes_of_rest rest none)
+      go other past (c ∷ more) first reads =
+          r.stands.longest c more first (
+            reads.stands.0.events,
+            more,
+            reads.stands.0.reading.reads,
+            reads.stands.0.reading.whole
+                ∙ (sym (append-nil (classes_of reads.piece))
+                ∙ (ap (λ x. classes_of reads.piece ++ x) (sym reads.stands.1)
+                ∙ (sym (classes-append reads.piece (signs past))
+                ∙ (ap classes_of (sym reads.read ∙ r.read)
+                ∙ (classes-append r.piece (signs rest)
+                ∙ (ap (λ x. classes_of r.piece ++ x) first
+                ∙ sym (append_assoc (classes_of r.piece) (c ∷ []) more))))))),
+          )
+
+  pub reads_expects : (trees part rest : List TokenTree) (at : ℕ) (set : Expected) → Reads (ByRule g) trees part rest
+      → (length rest ≡ 0 → ⊥) → at ≡ length trees - length rest → ExpectsWhole g trees set
+      → Expects (ByRule g) trees at set
+  reads_expects trees part rest at set r some counted e =
+      let sum = ap length r.whole ∙ length-append part rest in
+      e start at (reads_fault trees part rest at r some (omega arith))

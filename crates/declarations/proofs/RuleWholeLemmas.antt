@@ -69,7 +69,7 @@ module _ (g : G) (start : IsStart rules follows (g ∷ [])) where
             ∙ (ap (λ r. goes.piece ++ r) (sym goes.stands.1) ∙ sym goes.whole)),
       )
 
-  no_longer : (front left : List SignClass)
+  pub no_longer : (front left : List SignClass)
       → ((c : SignClass) (more : List SignClass) → left ≡ c ∷ more → GoesOn rules (g ∷ []) (front ++ c ∷ []) → ⊥)
       → StopsBefore (IsWhole (ByRule g)) front left
   no_longer front [] f = tt
@@ -115,7 +115,7 @@ module _ (g : G) (start : IsStart rules follows (g ∷ [])) where
       (classes_in trees) (classes_in left) f.stuck in
       fault_of trees left at f.remains at_signs.0 at_signs.1 counted
 
-  some_left : (rest : List TokenTree) → (length rest ≡ 0 → ⊥) → classes_in rest ≡ [] → ⊥
+  pub some_left : (rest : List TokenTree) → (length rest ≡ 0 → ⊥) → classes_in rest ≡ [] → ⊥
   unfolding classes_in
   some_left rest some none = some (ap length (no_signs rest none))
 

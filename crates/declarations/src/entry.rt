@@ -1,5 +1,5 @@
 //! The entries of an attribute's list.
-ghost use Rattle.std.specs.Prelude.{◌≡◌, ◌<◌, ◌≤◌, ◌⊎◌, [], IfErr, IfNone, IfOk, IfSome, MatchResult};
+ghost use Rattle.std.specs.Prelude.{◌≡◌, ◌-◌, ◌<◌, ◌≤◌, ◌⊎◌, [], IfErr, IfNone, IfOk, IfSome, MatchResult};
 ghost use Rattle.std.specs.Prelude.{None, Some, false, length, option_copied};
 ghost use Rattle.grammars.specs.First.{heads, may_begin};
 ghost use Rattle.grammars.specs.Grammar.{Sign, perhaps};
@@ -13,6 +13,7 @@ ghost use Rattle.declarations.specs.Entry.{IsNearFault, IsNoEntry, IsOnlyPlainRe
 ghost use Rattle.declarations.specs.Entry.{IsPlainEntryFault, IsPlainFault, ReadsEntry};
 ghost use Rattle.declarations.specs.Entry.{entry_extent, entry_spot, only_name, sole_name, span_or};
 ghost use Rattle.declarations.specs.Expected.{Expects};
+ghost use Rattle.declarations.specs.Explore.{ExpectsWhole};
 ghost use Rattle.declarations.specs.Fault.{extent_at, first_extent};
 ghost use Rattle.declarations.specs.Reader.{Finds, ReadsRule, Sticks, classes_in};
 ghost use Rattle.declarations.specs.rules.Entries.{continues, entry, entry_list, entry_literal, entry_path};
@@ -264,16 +265,32 @@ fn first_span(trees: &[TokenTree]) -> Option<Span>
 pub(crate) fn whole_entry(trees: &[TokenTree]) -> Result<Entry<'_>, Fault>
     ensures ok { IfOk result (λ entry. IsEntryAt trees.now entry []) }
     ensures err { IfErr result (λ fault. IsEntryFault trees.now fault) }
+    ensures expected { IfErr result (λ fault.
+        bare_first trees.now ≡ None → Expects (ByRule entry) trees.now fault.at fault.expected) }
 {
     match parse_entry(trees) {
         Ok((entry, rest)) => {
             if rest.is_empty() {
                 Ok(entry)
             } else {
-                Err(Fault::ahead_of(trees.len() - rest.len(), rest))
+                Err(fault_after_entry(trees, rest))
             }
         }
         Err(fault) => Err(fault),
+    }
+}
+
+/// The error of trees that are left after an entry. It does not say what was expected after a group without delimiters.
+#[cold]
+fn fault_after_entry(trees: &[TokenTree], rest: &[TokenTree]) -> Fault
+    requires { length rest.now ≤ length trees.now }
+    ensures at { result.at ≡ length trees.now - length rest.now }
+    ensures span { result.span ≡ first_extent rest.now }
+    ensures expected { bare_first trees.now ≡ None → ExpectsWhole entry trees.now result.expected }
+{
+    match split_bare(trees) {
+        Some(_) => Fault::ahead_of(trees.len() - rest.len(), rest),
+        None => fault_by(&ENTRY, trees, rest),
     }
 }
 
