@@ -204,6 +204,8 @@
 //! - <a id="declarations.rules.Parts.attributes"></a>**attributes**: any number of attributes
 //! - <a id="declarations.Attribute.attributes_in"></a>**attributes_in**: the attributes at the start of the
 //!   trees, up to the first trees that are no attribute
+//! - <a id="declarations.Bare.bare_first"></a>**bare_first**: the group without delimiters that the trees begin
+//!   with, and the trees after it
 //! - <a id="declarations.Bare.bare_trees"></a>**bare_trees**: the trees; or if they are one group without
 //!   delimiters, the trees in the innermost of such groups
 //! - <a id="declarations.File.body_of"></a>**body_of**: the braces with the items of an item of this kind, if
@@ -216,6 +218,8 @@
 //!   `=` Alone and that literal
 //! - <a id="declarations.Ending.ending_at"></a>**ending_at**: the error with this span, if it has none
 //! - <a id="declarations.Grammar.ends"></a>**ends**: whether the part that is read may end in this state
+//! - <a id="declarations.rules.Entries.entry"></a>**entry**: an entry: a literal, or a path with what follows
+//!   it
 //! - <a id="declarations.Entry.entry_extent"></a>**entry_extent**: the span of the first tree of an entry that
 //!   has this kind and this path
 //! - <a id="declarations.rules.Expressions.expression"></a>**expression**: an expression, from where an operand

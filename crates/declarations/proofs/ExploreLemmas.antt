@@ -1,6 +1,6 @@
 -- How far a rule reads trees, in terms of how far its parts read them.
-use Rattle.std.proofs.Common.{◌≡◌, refl, sym, ◌∙◌, ap, subst, eqb-true, ◌<◌, ◌≤◌, ◌==◌, ◌||◌, Bool, true, false, List, []}
-use Rattle.std.proofs.Common.{◌∷◌, ◌++◌, length, arith}
+use Rattle.std.proofs.Common.{◌≡◌, refl, sym, ◌∙◌, ap, subst, eqb-true, ◌<◌, ◌≤◌, ◌==◌, ◌||◌, Bool, true, false, List}
+use Rattle.std.proofs.Common.{[], ◌∷◌, ◌++◌, length, arith}
 use Rattle.std.proofs.lemmas.Bool.{eqb-false}
 use Rattle.std.proofs.lemmas.List.{length-append}
 use Rattle.grammars.specs.First.{heads, may_begin}
@@ -185,7 +185,8 @@ module _ (a b : G) (trees : List TokenTree) (first : Seen) (e : Sees a trees fir
 
   pub neither_seen : (second seen : Seen) → (length first.left.now < length trees → ⊥) → Sees b trees second
       → length first.left.now ≤ length second.left.now → seen.left.now ≡ second.left.now
-      → HasSigns seen.next (λ c. holds first.next c || holds second.next c) (holds_end first.next || holds_end second.next)
+      → HasSigns seen.next (λ c. holds first.next c || holds second.next c)
+      (holds_end first.next || holds_end second.next)
       → Sees (Either a b) trees seen
   neither_seen second seen still d m l n =
       let inside = remains_within trees first.left.now e.remains in

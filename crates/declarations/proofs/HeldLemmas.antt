@@ -14,8 +14,8 @@ use Rattle.pm_stream.specs.declared.stream.TokenTree.TheVariants.{Group, Ident, 
 use Rattle.declarations.specs.Bare.{bare_first, has_no_delimiters, inside_of}
 use Rattle.declarations.specs.Entry.{Begins, BeginsWithHeld, BeginsWithNone, Continues, Fails, GoesOn, HasArgs}
 use Rattle.declarations.specs.Entry.{IsAfterEntry, IsArgsFault, IsEntryListFault, IsFaultAfter, IsFaultWithin}
-use Rattle.declarations.specs.Entry.{IsEntryAt, IsHeldEntryAt, IsNearEntryAt, IsNearFault, IsNoEntry, IsOnlyPlainRest, IsOnlyRest}
-use Rattle.declarations.specs.Entry.{IsPlainEntryAt, IsPlainFault, LeavesSome, span_or}
+use Rattle.declarations.specs.Entry.{IsEntryAt, IsHeldEntryAt, IsNearEntryAt, IsNearFault, IsNoEntry, IsOnlyPlainRest}
+use Rattle.declarations.specs.Entry.{IsOnlyRest, IsPlainEntryAt, IsPlainFault, LeavesSome, span_or}
 use Rattle.declarations.specs.Expected.{Expects}
 use Rattle.declarations.specs.Explore.{ExpectsWhole}
 use Rattle.declarations.specs.Fault.{extent_at, first_extent}

@@ -177,7 +177,7 @@ fn begun(first: Seen<'_>) -> Seen<'_>
 }
 
 /// What one of two rules sees. The first reads no sign.
-fn chosen<'a>(first: Seen<'a>, second: Seen<'a>) -> Seen<'a>
+fn choose<'a>(first: Seen<'a>, second: Seen<'a>) -> Seen<'a>
     ensures { Chooses first.entry second.entry result }
 {
     if second.left.len() < first.left.len() {
@@ -214,7 +214,7 @@ pub(crate) fn explore<'a>(syntax: &Syntax<'_>, trees: &'a [TokenTree]) -> Seen<'
             if one.left.len() < trees.len() {
                 begun(one)
             } else {
-                chosen(one, explore(second, trees))
+                choose(one, explore(second, trees))
             }
         }
         Syntax::Many(item) => explore_many(item, trees),

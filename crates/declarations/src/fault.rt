@@ -121,8 +121,8 @@ impl Fault {
     ///
     /// A list, such as `FieldList`, and `parse_file` read one part after the other, and their error has the set of the
     /// part that they could not read. The set is empty if the call does not say what it expected. This is so for
-    /// `parse_type_path`, `parse_param`, `parse_predicate`, `within_generics` and `after_where`, for a list where `,` is
-    /// missing, and for entries in groups without delimiters.
+    /// `parse_type_path`, `parse_param`, `parse_predicate`, `within_generics` and `after_where`. It is also so for a
+    /// list in which `,` is missing, and for entries in groups without delimiters.
     pub fn expected(&self) -> Expected
         ensures { result ≡ self.now.expected }
     {

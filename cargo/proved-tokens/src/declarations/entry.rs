@@ -4,10 +4,12 @@
 use crate::declarations::attribute::is_named;
 use crate::declarations::bare::{bare_trees, has_no_delimiters, inside_of};
 use crate::declarations::class::SignClass;
+use crate::declarations::explore::fault_by;
 use crate::declarations::fault::Fault;
 use crate::declarations::item::split_group;
 use crate::declarations::reader::{begins, is, part, past};
 use crate::declarations::signs::first_sign;
+use crate::declarations::syntax::ENTRY;
 use crate::declarations::walk::walk_past;
 use crate::declarations::walk_state::{Continuation, Item, Spot, State, WalkState};
 use crate::pm_span::Span;
@@ -51,7 +53,8 @@ pub struct Entry<'a> {
 /// path alone, a list or `=` and a value can come after the group. In the group the path of the entry may be in a
 /// group of its own. Groups that hold nothing but such a group are looked through. An error inside of the group has an
 /// `at` of 0, since no tree comes before the group. Its span is that of the first wrong tree inside, or that of the
-/// group if trees are missing at its end.
+/// group if trees are missing at its end. If the trees begin with such a group, the error does not say what was
+/// expected.
 ///
 /// # Contract
 ///
@@ -59,6 +62,8 @@ pub struct Entry<'a> {
 /// - `ensures only`: <code>[IfOk] result (λ found. [IsOnlyPlainRest] trees.now found.1.now)</code>
 /// - `ensures fewer`: <code>[IfOk] result (λ found. [length] found.1.now &lt; [length] trees.now)</code>
 /// - `ensures fault`: <code>[IfErr] result (λ fault. [IsNoEntry] trees.now fault)</code>
+/// - `ensures expected`: <code>[IfErr] result (λ fault. [bare_first] trees.now ≡ [None] → [Expects] ([ByRule]
+///   [entry]) trees.now fault.at fault.expected)</code>
 ///
 /// [IfOk]: crate::contracts#std.IfOk
 /// [IsEntryAt]: crate::contracts#declarations.Entry.IsEntryAt
@@ -66,6 +71,11 @@ pub struct Entry<'a> {
 /// [length]: crate::contracts#std.length
 /// [IfErr]: crate::contracts#std.IfErr
 /// [IsNoEntry]: crate::contracts#declarations.Entry.IsNoEntry
+/// [bare_first]: crate::contracts#declarations.Bare.bare_first
+/// [None]: crate::contracts#std.None
+/// [Expects]: crate::contracts#declarations.Expected.Expects
+/// [ByRule]: crate::contracts#declarations.rules.Pieces.ByRule
+/// [entry]: crate::contracts#declarations.rules.Entries.entry
 pub fn parse_entry(trees: &[TokenTree]) -> Result<(Entry<'_>, &[TokenTree]), Fault>
 {
     match split_bare(trees) {
@@ -79,7 +89,7 @@ fn plain_entry(trees: &[TokenTree]) -> Result<(Entry<'_>, &[TokenTree]), Fault>
 {
     match entry_of(trees) {
         Ok((entry, rest)) => Ok((entry, rest)),
-        Err(left) => Err(Fault::ahead_of(trees.len() - left.len(), left)),
+        Err(left) => Err(fault_by(&ENTRY, trees, left)),
     }
 }
 
@@ -239,10 +249,20 @@ pub(crate) fn whole_entry(trees: &[TokenTree]) -> Result<Entry<'_>, Fault>
             if rest.is_empty() {
                 Ok(entry)
             } else {
-                Err(Fault::ahead_of(trees.len() - rest.len(), rest))
+                Err(fault_after_entry(trees, rest))
             }
         }
         Err(fault) => Err(fault),
+    }
+}
+
+/// The error of trees that are left after an entry. It does not say what was expected after a group without delimiters.
+#[cold]
+fn fault_after_entry(trees: &[TokenTree], rest: &[TokenTree]) -> Fault
+{
+    match split_bare(trees) {
+        Some(_) => Fault::ahead_of(trees.len() - rest.len(), rest),
+        None => fault_by(&ENTRY, trees, rest),
     }
 }
 
@@ -276,7 +296,7 @@ fn whole_plain_entry(trees: &[TokenTree]) -> Result<Entry<'_>, Fault>
     }
 }
 
-fn is_segment(class: SignClass) -> bool
+pub(crate) fn is_segment(class: SignClass) -> bool
 {
     match class {
         SignClass::Word(_) | SignClass::Keyword(_) => true,
@@ -342,7 +362,7 @@ fn entry_path(trees: &[TokenTree]) -> Result<&[TokenTree], &[TokenTree]>
     segments(separator(trees)?)
 }
 
-fn is_literal(class: SignClass) -> bool
+pub(crate) fn is_literal(class: SignClass) -> bool
 {
     match class {
         SignClass::Literal | SignClass::Truth => true,
@@ -388,7 +408,7 @@ fn past_expression(trees: &[TokenTree]) -> Result<&[TokenTree], &[TokenTree]>
 }
 
 /// Whether the sign can go on after an operand but can begin no value: `=`, `>` or `->`.
-fn continues(class: SignClass) -> bool
+pub(crate) fn continues(class: SignClass) -> bool
 {
     match class {
         SignClass::Equals | SignClass::Greater | SignClass::Arrow => true,

@@ -132,6 +132,14 @@ impl Expected {
         }
     }
 
+    /// The set without the end.
+    pub(crate) fn without_end(self) -> Expected
+    {
+        Expected {
+            bits: self.bits & !(1 << 127),
+        }
+    }
+
     /// Everything that is in one of the sets.
     pub(crate) fn both(self, other: Expected) -> Expected
     {

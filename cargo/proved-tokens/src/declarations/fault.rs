@@ -110,8 +110,12 @@ impl Fault {
     ///
     /// A sign is in the set exactly if the first `at` trees, this sign and perhaps more can be a whole part of the kind
     /// that was read. The end is in the set if the first `at` trees are a whole part themselves. For `struct 5` the set
-    /// of [`parse_type_item`](crate::declarations::parse_type_item) has the words, which can be names, and for `struct S; 5` it has
-    /// only the end. The set is empty if the call does not say what it expected.
+    /// of `parse_type_item` has the words, which can be names, and for `struct S; 5` it has only the end.
+    ///
+    /// A list, such as `FieldList`, and `parse_file` read one part after the other, and their error has the set of the
+    /// part that they could not read. The set is empty if the call does not say what it expected. This is so for
+    /// `parse_type_path`, `parse_param`, `parse_predicate`, `within_generics` and `after_where`. It is also so for a
+    /// list in which `,` is missing, and for entries in groups without delimiters.
     ///
     /// # Contract
     ///

@@ -2,11 +2,13 @@
 //! The parts of a function.
 
 use crate::declarations::class::{Keyword, SignClass, Word};
+use crate::declarations::explore::fault_by;
 use crate::declarations::fault::Fault;
 use crate::declarations::item::{split_group, split_name, split_parentheses};
 use crate::declarations::parameter::{past_attributes, past_type};
 use crate::declarations::reader::{begins_identifier, begins_mark, is, part, past};
 use crate::declarations::signs::{first_sign, group_class, name_class};
+use crate::declarations::syntax::FUNCTION;
 use crate::declarations::walk::walk_past;
 use crate::declarations::walk_state::{Continuation, Item, Spot, State, WalkState};
 use crate::pm_stream::{Group, TokenTree};
@@ -57,6 +59,8 @@ pub struct Function<'a> {
 /// - `ensures fault`: <code>[IfErr] result (λ fault. [FaultAt] ([IsWhole] ([ByRule] [function_item])) trees.now
 ///   fault.at)</code>
 /// - `ensures span`: <code>[IfErr] result (λ fault. fault.span ≡ [extent_at] trees.now fault.at)</code>
+/// - `ensures expected`: <code>[IfErr] result (λ fault. [Expects] ([ByRule] [function_item]) trees.now fault.at
+///   fault.expected)</code>
 ///
 /// [IfOk]: crate::contracts#std.IfOk
 /// [IsFunction]: crate::contracts#declarations.Function.IsFunction
@@ -66,6 +70,7 @@ pub struct Function<'a> {
 /// [ByRule]: crate::contracts#declarations.rules.Pieces.ByRule
 /// [function_item]: crate::contracts#declarations.rules.Functions.function_item
 /// [extent_at]: crate::contracts#declarations.Fault.extent_at
+/// [Expects]: crate::contracts#declarations.Expected.Expects
 pub fn parse_function(trees: &[TokenTree]) -> Result<Function<'_>, Fault>
 {
     match function_of(trees) {
@@ -73,10 +78,10 @@ pub fn parse_function(trees: &[TokenTree]) -> Result<Function<'_>, Fault>
             if rest.is_empty() {
                 Ok(function)
             } else {
-                Err(Fault::ahead_of(trees.len() - rest.len(), rest))
+                Err(fault_by(&FUNCTION, trees, rest))
             }
         }
-        Err(left) => Err(Fault::ahead_of(trees.len() - left.len(), left)),
+        Err(left) => Err(fault_by(&FUNCTION, trees, left)),
     }
 }
 
@@ -178,7 +183,7 @@ pub(crate) fn may(trees: &[TokenTree], class: SignClass) -> &[TokenTree]
 }
 
 /// Whether the sign is `unsafe` or `safe`.
-fn is_safe(class: SignClass) -> bool
+pub(crate) fn is_safe(class: SignClass) -> bool
 {
     match class {
         SignClass::Keyword(Keyword::Unsafe) | SignClass::Word(Word::Safe) => true,
@@ -317,7 +322,7 @@ fn body_of(trees: &[TokenTree]) -> Result<(Option<&Group>, &[TokenTree]), &[Toke
 }
 
 /// Whether the sign is braces, or a group without delimiters that holds only braces.
-fn is_block(class: SignClass) -> bool
+pub(crate) fn is_block(class: SignClass) -> bool
 {
     match class {
         SignClass::Braces | SignClass::Block => true,

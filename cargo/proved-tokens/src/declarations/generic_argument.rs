@@ -2,12 +2,14 @@
 //! The generic arguments of a path, one at a time.
 
 use crate::declarations::class::SignClass;
+use crate::declarations::explore::fault_by;
 use crate::declarations::fault::Fault;
 use crate::declarations::list::{fault_after, past_comma};
 use crate::declarations::parameter::past_type;
 use crate::declarations::range::past_range;
 use crate::declarations::reader::{begins, is, part, past};
 use crate::declarations::signs::first_sign;
+use crate::declarations::syntax::ARGUMENT;
 use crate::declarations::types::TypeState;
 use crate::pm_stream::TokenTree;
 
@@ -55,6 +57,8 @@ pub struct GenericArgument<'a> {
 /// - `ensures fault`: <code>[IfErr] result (λ fault. [FaultAt] ([ByRule] [generic_argument]) trees.now
 ///   fault.at)</code>
 /// - `ensures span`: <code>[IfErr] result (λ fault. fault.span ≡ [extent_at] trees.now fault.at)</code>
+/// - `ensures expected`: <code>[IfErr] result (λ fault. [Expects] ([ByRule] [generic_argument]) trees.now
+///   fault.at fault.expected)</code>
 ///
 /// [IfOk]: crate::contracts#std.IfOk
 /// [IsArgumentAt]: crate::contracts#declarations.GenericArgument.IsArgumentAt
@@ -65,13 +69,14 @@ pub struct GenericArgument<'a> {
 /// [FaultAt]: crate::contracts#declarations.Reading.FaultAt
 /// [ByRule]: crate::contracts#declarations.rules.Pieces.ByRule
 /// [extent_at]: crate::contracts#declarations.Fault.extent_at
+/// [Expects]: crate::contracts#declarations.Expected.Expects
 pub fn parse_generic_argument(
     trees: &[TokenTree],
 ) -> Result<(GenericArgument<'_>, &[TokenTree]), Fault>
 {
     match argument_of(trees) {
         Ok((argument, rest)) => Ok((argument, rest)),
-        Err(left) => Err(Fault::ahead_of(trees.len() - left.len(), left)),
+        Err(left) => Err(fault_by(&ARGUMENT, trees, left)),
     }
 }
 
@@ -146,7 +151,7 @@ fn past_bounds(trees: &[TokenTree]) -> Result<&[TokenTree], &[TokenTree]>
 }
 
 /// Whether the sign is a constant by itself.
-fn is_constant(class: SignClass) -> bool
+pub(crate) fn is_constant(class: SignClass) -> bool
 {
     match class {
         SignClass::Literal | SignClass::Braces | SignClass::Block | SignClass::Truth => true,

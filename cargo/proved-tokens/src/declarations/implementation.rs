@@ -2,12 +2,14 @@
 //! The parts of an `impl`.
 
 use crate::declarations::class::{Keyword, SignClass, Word};
+use crate::declarations::explore::fault_by;
 use crate::declarations::fault::Fault;
 use crate::declarations::function::{is_name, may, past_generics, past_visibility, past_where};
 use crate::declarations::item::split_braces;
 use crate::declarations::parameter::{past_attributes, past_type};
 use crate::declarations::reader::{is, part};
 use crate::declarations::signs::first_sign;
+use crate::declarations::syntax::IMPL;
 use crate::declarations::type_path::opens;
 use crate::pm_stream::{Group, TokenTree};
 
@@ -60,6 +62,8 @@ pub struct Impl<'a> {
 /// - `ensures fault`: <code>[IfErr] result (λ fault. [FaultAt] ([IsWhole] ([ByRule] [impl_item])) trees.now
 ///   fault.at)</code>
 /// - `ensures span`: <code>[IfErr] result (λ fault. fault.span ≡ [extent_at] trees.now fault.at)</code>
+/// - `ensures expected`: <code>[IfErr] result (λ fault. [Expects] ([ByRule] [impl_item]) trees.now fault.at
+///   fault.expected)</code>
 ///
 /// [IfOk]: crate::contracts#std.IfOk
 /// [IsImpl]: crate::contracts#declarations.Impl.IsImpl
@@ -69,6 +73,7 @@ pub struct Impl<'a> {
 /// [ByRule]: crate::contracts#declarations.rules.Pieces.ByRule
 /// [impl_item]: crate::contracts#declarations.rules.ImplItems.impl_item
 /// [extent_at]: crate::contracts#declarations.Fault.extent_at
+/// [Expects]: crate::contracts#declarations.Expected.Expects
 pub fn parse_impl(trees: &[TokenTree]) -> Result<Impl<'_>, Fault>
 {
     match impl_of(trees) {
@@ -76,10 +81,10 @@ pub fn parse_impl(trees: &[TokenTree]) -> Result<Impl<'_>, Fault>
             if rest.is_empty() {
                 Ok(item)
             } else {
-                Err(Fault::ahead_of(trees.len() - rest.len(), rest))
+                Err(fault_by(&IMPL, trees, rest))
             }
         }
-        Err(left) => Err(Fault::ahead_of(trees.len() - left.len(), left)),
+        Err(left) => Err(fault_by(&IMPL, trees, left)),
     }
 }
 

@@ -2,11 +2,13 @@
 //! The parameters of functions, one at a time.
 
 use crate::declarations::class::{Keyword, SignClass};
+use crate::declarations::explore::fault_by;
 use crate::declarations::fault::Fault;
 use crate::declarations::list::{fault_after, past_comma};
 use crate::declarations::range::past_range;
 use crate::declarations::reader::{begins, begins_mark, is, part, past};
 use crate::declarations::signs::first_sign;
+use crate::declarations::syntax::{PARAMETER, PATTERN};
 use crate::declarations::types::TypeState;
 use crate::pm_stream::{Group, TokenTree};
 
@@ -46,7 +48,7 @@ pub enum Shape {
 }
 
 /// Whether a pattern can begin with the sign, apart from angle brackets.
-fn is_pattern(class: SignClass) -> bool
+pub(crate) fn is_pattern(class: SignClass) -> bool
 {
     match class {
         SignClass::Word(_) | SignClass::Keyword(Keyword::Mut | Keyword::Other) => true,
@@ -62,7 +64,7 @@ fn is_pattern(class: SignClass) -> bool
 }
 
 /// Whether the sign can be in a pattern after its first sign.
-fn continues(class: SignClass) -> bool
+pub(crate) fn continues(class: SignClass) -> bool
 {
     match class {
         SignClass::Braces
@@ -458,6 +460,8 @@ fn parameter_of(trees: &[TokenTree]) -> Result<(Parameter<'_>, &[TokenTree]), &[
 /// - `ensures fault`: <code>[IfErr] result (λ fault. [FaultAt] ([ByRule] [function_parameter]) trees.now
 ///   fault.at)</code>
 /// - `ensures span`: <code>[IfErr] result (λ fault. fault.span ≡ [extent_at] trees.now fault.at)</code>
+/// - `ensures expected`: <code>[IfErr] result (λ fault. [Expects] ([ByRule] [function_parameter]) trees.now
+///   fault.at fault.expected)</code>
 ///
 /// [IfOk]: crate::contracts#std.IfOk
 /// [IsParameterAt]: crate::contracts#declarations.Parameter.IsParameterAt
@@ -468,11 +472,12 @@ fn parameter_of(trees: &[TokenTree]) -> Result<(Parameter<'_>, &[TokenTree]), &[
 /// [FaultAt]: crate::contracts#declarations.Reading.FaultAt
 /// [ByRule]: crate::contracts#declarations.rules.Pieces.ByRule
 /// [extent_at]: crate::contracts#declarations.Fault.extent_at
+/// [Expects]: crate::contracts#declarations.Expected.Expects
 pub fn parse_parameter(trees: &[TokenTree]) -> Result<(Parameter<'_>, &[TokenTree]), Fault>
 {
     match parameter_of(trees) {
         Ok((parameter, rest)) => Ok((parameter, rest)),
-        Err(left) => Err(Fault::ahead_of(trees.len() - left.len(), left)),
+        Err(left) => Err(fault_by(&PARAMETER, trees, left)),
     }
 }
 
@@ -491,6 +496,8 @@ pub fn parse_parameter(trees: &[TokenTree]) -> Result<(Parameter<'_>, &[TokenTre
 ///   found.1.now)</code>
 /// - `ensures fault`: <code>[IfErr] result (λ fault. [FaultAt] ([ByRule] [pattern]) trees.now fault.at)</code>
 /// - `ensures span`: <code>[IfErr] result (λ fault. fault.span ≡ [extent_at] trees.now fault.at)</code>
+/// - `ensures expected`: <code>[IfErr] result (λ fault. [Expects] ([ByRule] [pattern]) trees.now fault.at
+///   fault.expected)</code>
 ///
 /// [IfOk]: crate::contracts#std.IfOk
 /// [Reads]: crate::contracts#declarations.Reading.Reads
@@ -500,11 +507,12 @@ pub fn parse_parameter(trees: &[TokenTree]) -> Result<(Parameter<'_>, &[TokenTre
 /// [IfErr]: crate::contracts#std.IfErr
 /// [FaultAt]: crate::contracts#declarations.Reading.FaultAt
 /// [extent_at]: crate::contracts#declarations.Fault.extent_at
+/// [Expects]: crate::contracts#declarations.Expected.Expects
 pub fn split_pattern(trees: &[TokenTree]) -> Result<(&[TokenTree], &[TokenTree]), Fault>
 {
     match past_pattern(trees) {
         Ok(rest) => Ok((part(trees, rest), rest)),
-        Err(left) => Err(Fault::ahead_of(trees.len() - left.len(), left)),
+        Err(left) => Err(fault_by(&PATTERN, trees, left)),
     }
 }
 

@@ -127,7 +127,7 @@ pub(crate) fn opens(class: SignClass) -> bool
     }
 }
 
-fn is_round(class: SignClass) -> bool
+pub(crate) fn is_round(class: SignClass) -> bool
 {
     match class {
         SignClass::Parentheses | SignClass::Restriction => true,

@@ -65,16 +65,16 @@ pub(crate) fn walk_past<'a>(
 
 /// The state and the trees at which a walk stops.
 #[derive(Clone, Copy)]
-struct Stop<'a> {
-    place: WalkState,
-    // The trees that are left.
-    left: &'a [TokenTree],
-    // The trees from the item's name on, or no trees if it has no name.
-    named: &'a [TokenTree],
+pub(crate) struct Stop<'a> {
+    pub place: WalkState,
+    /// The trees that are left.
+    pub left: &'a [TokenTree],
+    /// The trees from the item's name on, or no trees if it has no name.
+    pub named: &'a [TokenTree],
 }
 
 /// Walks from a state on, as far as the signs are steps.
-fn walk_from<'a>(trees: &'a [TokenTree], start: WalkState) -> Stop<'a>
+pub(crate) fn walk_from<'a>(trees: &'a [TokenTree], start: WalkState) -> Stop<'a>
 {
     let mut place = start;
     let mut left = trees;

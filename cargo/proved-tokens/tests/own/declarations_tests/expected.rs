@@ -4,8 +4,9 @@ use crate::shim::prelude::{AllocGlobal, HostRuntime};
 
 // The signs that an error says were expected.
 use proved_tokens::declarations::{
-    Fault, Keyword, SignClass, Word, parse_item, parse_type_item, split_attributes, split_field,
-    split_generics, split_variant, split_where,
+    Fault, Keyword, SignClass, Word, parse_entry, parse_function, parse_generic_argument,
+    parse_impl, parse_item, parse_parameter, parse_type_item, split_attributes, split_field,
+    split_generics, split_pattern, split_variant, split_where,
 };
 use proved_tokens::proc_macro2::{SourceMap, TokenStream, TokenTree};
 use crate::shim::process::Abort;
@@ -15,9 +16,15 @@ use crate::shim::test::Fail;
 enum Call {
     ParseItem,
     ParseTypeItem,
+    Argument,
     Attributes,
+    Entry,
     Field,
+    Function,
     Generics,
+    Impl,
+    Parameter,
+    Pattern,
     Variant,
     Where,
 }
@@ -26,9 +33,15 @@ fn fault_of(call: Call, trees: &[TokenTree]) -> Option<Fault> {
     match call {
         Call::ParseItem => parse_item(trees).err(),
         Call::ParseTypeItem => parse_type_item(trees).err(),
+        Call::Argument => parse_generic_argument(trees).err(),
         Call::Attributes => split_attributes(trees).err(),
+        Call::Entry => parse_entry(trees).err(),
         Call::Field => split_field(trees).err(),
+        Call::Function => parse_function(trees).err(),
         Call::Generics => split_generics(trees).err(),
+        Call::Impl => parse_impl(trees).err(),
+        Call::Parameter => parse_parameter(trees).err(),
+        Call::Pattern => split_pattern(trees).err(),
         Call::Variant => split_variant(trees).err(),
         Call::Where => split_where(trees).err(),
     }
@@ -164,6 +177,142 @@ fn an_error_has_the_signs_that_can_come_next() -> Result<(), Fail> {
             2,
             &[SignClass::Colon, SignClass::PathSeparator, SignClass::Less],
             &[SignClass::Comma, SignClass::Semicolon, SignClass::Braces],
+            false,
+        ),
+    ];
+    for row in rows {
+        check(&rt, row)?;
+    }
+    Ok(())
+}
+
+#[test]
+fn an_error_of_a_function_or_an_impl_has_the_signs_that_can_come_next() -> Result<(), Fail> {
+    let rt = HostRuntime;
+    let rows: [Row<'_>; 6] = [
+        (
+            Call::Function,
+            "const struct",
+            1,
+            &[
+                SignClass::Keyword(Keyword::Async),
+                SignClass::Word(Word::Gen),
+                SignClass::Keyword(Keyword::Extern),
+                SignClass::Keyword(Keyword::Fn),
+            ],
+            &[SignClass::Keyword(Keyword::Const), NAME, SignClass::Hash],
+            false,
+        ),
+        (
+            Call::Function,
+            "fn f() -> ;",
+            5,
+            &[NAME, SignClass::And, SignClass::Less],
+            &[SignClass::Semicolon, SignClass::Braces, WHERE],
+            false,
+        ),
+        (
+            Call::Function,
+            "fn f() = ;",
+            3,
+            &[
+                SignClass::Arrow,
+                WHERE,
+                SignClass::Braces,
+                SignClass::Semicolon,
+            ],
+            &[SignClass::Colon, NAME],
+            false,
+        ),
+        (
+            Call::Function,
+            "fn f(); ;",
+            4,
+            &[],
+            &[SignClass::Semicolon, NAME],
+            true,
+        ),
+        (
+            Call::Impl,
+            "unsafe fn",
+            1,
+            &[SignClass::Keyword(Keyword::Impl)],
+            &[SignClass::Keyword(Keyword::Fn), SignClass::Less],
+            false,
+        ),
+        (
+            Call::Impl,
+            "impl T for ;",
+            3,
+            &[NAME, SignClass::And],
+            &[SignClass::Semicolon, SignClass::Braces],
+            false,
+        ),
+    ];
+    for row in rows {
+        check(&rt, row)?;
+    }
+    Ok(())
+}
+
+#[test]
+fn an_error_of_a_part_has_the_signs_that_can_come_next() -> Result<(), Fail> {
+    let rt = HostRuntime;
+    let rows: [Row<'_>; 7] = [
+        (
+            Call::Parameter,
+            "& mut ;",
+            2,
+            &[SignClass::SelfValue, NAME, SignClass::Parentheses],
+            &[SignClass::Semicolon, SignClass::Colon, SignClass::Lifetime],
+            false,
+        ),
+        (
+            Call::Parameter,
+            "x ;",
+            1,
+            &[SignClass::Colon, SignClass::PathSeparator, SignClass::Less],
+            &[SignClass::Comma, SignClass::SelfValue],
+            false,
+        ),
+        (
+            Call::Pattern,
+            ":",
+            0,
+            &[NAME, SignClass::Parentheses, SignClass::Less],
+            &[SignClass::Colon, SignClass::SelfValue],
+            false,
+        ),
+        (
+            Call::Argument,
+            "- x",
+            1,
+            &[SignClass::Literal],
+            &[NAME, SignClass::Minus],
+            false,
+        ),
+        (
+            Call::Argument,
+            "A = ;",
+            2,
+            &[NAME, SignClass::And],
+            &[SignClass::Equals, SignClass::Semicolon, SignClass::Literal],
+            false,
+        ),
+        (
+            Call::Entry,
+            "a = = 1",
+            2,
+            &[SignClass::Literal, SignClass::Minus, NAME],
+            &[SignClass::Equals, SignClass::Comma],
+            false,
+        ),
+        (
+            Call::Entry,
+            "a :: 1",
+            3,
+            &[NAME, SignClass::Keyword(Keyword::Unsafe)],
+            &[SignClass::Literal, SignClass::Truth],
             false,
         ),
     ];

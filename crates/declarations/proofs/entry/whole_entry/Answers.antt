@@ -6,9 +6,9 @@ use Rattle.declarations.proofs.entry.whole_entry.Goals as goal
 pub returns-else-is_empty-clause-err : goal.returns-else-is_empty-clause-err
 returns-else-is_empty-clause-err c =
     inr
-    (leaves_some IsNearEntryAt c.args.trees.now c.in-Ok.rest.now c.in-Ok.entry c.in-Ok.ensures.ok c.fault_after_entry.result
-    c.fault_after_entry.ensures.at c.fault_after_entry.ensures.span (no_rest c.in-Ok.rest.now c.is_empty.result c.is_empty.ensures
-    c.if-is_empty.false))
+    (leaves_some IsNearEntryAt c.args.trees.now c.in-Ok.rest.now c.in-Ok.entry c.in-Ok.ensures.ok
+    c.fault_after_entry.result c.fault_after_entry.ensures.at c.fault_after_entry.ensures.span
+    (no_rest c.in-Ok.rest.now c.is_empty.result c.is_empty.ensures c.if-is_empty.false))
 
 pub returns-else-is_empty-clause-expected : goal.returns-else-is_empty-clause-expected
 returns-else-is_empty-clause-expected c =

@@ -1,6 +1,7 @@
 use Rattle.std.proofs.Common.{◌∙◌, refl, sym, arith}
 use Rattle.declarations.specs.Syntax.{grammar_of}
-use Rattle.declarations.proofs.ExploreLemmas.{sees_within, lists_element, lists_end, lists_more, lists_none, lists_stuck}
+use Rattle.declarations.proofs.ExploreLemmas.{lists_element, lists_end, lists_more, lists_none, lists_stuck}
+use Rattle.declarations.proofs.ExploreLemmas.{sees_within}
 use Rattle.declarations.proofs.ExploreLemmas.{repeats_end, repeats_more, repeats_none, repeats_stuck}
 use Rattle.declarations.specs.declared.class.SignClass.TheVariants as classes
 use Rattle.declarations.proofs.ReaderLemmas.{remains_sign, remains_within}
@@ -122,5 +123,5 @@ pub explore-returns-else-one-trees : goal.explore-returns-else-one-trees
 explore-returns-else-one-trees t c =
     let all = c.if-one-trees.false in
     rw c.in-Either.is
-    (c.chosen.ensures (grammar_of c.in-Either.first.now) (grammar_of c.in-Either.second.now) c.args.trees.now
+    (c.choose.ensures (grammar_of c.in-Either.first.now) (grammar_of c.in-Either.second.now) c.args.trees.now
     c.explore-one.ensures (λ less. omega arith) c.explore-else-one-trees.ensures)

@@ -16,11 +16,12 @@ returns-else-is_empty-clause-fault c =
 
 pub returns-else-is_empty-clause-expected : goal.returns-else-is_empty-clause-expected
 returns-else-is_empty-clause-expected c =
-    left_expects function_item starts_function c.args.trees.now c.in-Ok.rest.now c.fault_by.result.at c.fault_by.result.expected
-    c.in-Ok.ensures.0 (λ none. let no : false ≡ (0 == 0) = c.if-is_empty.ensures ∙ ap (λ n. n == 0) none in cc)
+    left_expects function_item starts_function c.args.trees.now c.in-Ok.rest.now c.fault_by.result.at
+    c.fault_by.result.expected c.in-Ok.ensures.0
+    (λ none. let no : false ≡ (0 == 0) = c.if-is_empty.ensures ∙ ap (λ n. n == 0) none in cc)
     c.fault_by.ensures.at c.fault_by.ensures.expected
 
 pub returns-in-Err-clause-expected : goal.returns-in-Err-clause-expected
 returns-in-Err-clause-expected c =
-    stuck_expects function_item starts_function c.args.trees.now c.in-Err.left.now c.fault_by-in-Err.result.at c.fault_by-in-Err.result.expected
-    c.in-Err.ensures c.fault_by-in-Err.ensures.at c.fault_by-in-Err.ensures.expected
+    stuck_expects function_item starts_function c.args.trees.now c.in-Err.left.now c.fault_by-in-Err.result.at
+    c.fault_by-in-Err.result.expected c.in-Err.ensures c.fault_by-in-Err.ensures.at c.fault_by-in-Err.ensures.expected

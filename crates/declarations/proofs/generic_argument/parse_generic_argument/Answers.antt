@@ -1,5 +1,6 @@
 use Rattle.declarations.specs.rules.Paths.{generic_argument}
-use Rattle.declarations.proofs.GenericArgumentLemmas.{argument_at, argument_fault, argument_fewer, argument_only, starts_argument}
+use Rattle.declarations.proofs.GenericArgumentLemmas.{argument_at, argument_fault, argument_fewer, argument_only}
+use Rattle.declarations.proofs.GenericArgumentLemmas.{starts_argument}
 use Rattle.declarations.proofs.RuleExpectsLemmas.{stuck_expects}
 use Rattle.declarations.proofs.generic_argument.parse_generic_argument.Goals as goal
 
@@ -19,5 +20,5 @@ returns-in-Err-clause-fault c =
 
 pub returns-in-Err-clause-expected : goal.returns-in-Err-clause-expected
 returns-in-Err-clause-expected c =
-    stuck_expects generic_argument starts_argument c.args.trees.now c.in-Err.left.now c.fault_by.result.at c.fault_by.result.expected
-    c.in-Err.ensures c.fault_by.ensures.at c.fault_by.ensures.expected
+    stuck_expects generic_argument starts_argument c.args.trees.now c.in-Err.left.now c.fault_by.result.at
+    c.fault_by.result.expected c.in-Err.ensures c.fault_by.ensures.at c.fault_by.ensures.expected

@@ -22,5 +22,5 @@ returns-else-is_empty-clause-expected c =
 
 pub returns-in-Err-clause-expected : goal.returns-in-Err-clause-expected
 returns-in-Err-clause-expected c =
-    stuck_expects impl_item starts_item c.args.trees.now c.in-Err.left.now c.fault_by-in-Err.result.at c.fault_by-in-Err.result.expected
-    c.in-Err.ensures c.fault_by-in-Err.ensures.at c.fault_by-in-Err.ensures.expected
+    stuck_expects impl_item starts_item c.args.trees.now c.in-Err.left.now c.fault_by-in-Err.result.at
+    c.fault_by-in-Err.result.expected c.in-Err.ensures c.fault_by-in-Err.ensures.at c.fault_by-in-Err.ensures.expected

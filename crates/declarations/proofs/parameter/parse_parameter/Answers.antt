@@ -1,5 +1,6 @@
 use Rattle.declarations.specs.rules.Parameters.{function_parameter}
-use Rattle.declarations.proofs.ParameterLemmas.{parameter_at, parameter_fault, parameter_fewer, parameter_only, starts_parameter}
+use Rattle.declarations.proofs.ParameterLemmas.{parameter_at, parameter_fault, parameter_fewer, parameter_only}
+use Rattle.declarations.proofs.ParameterLemmas.{starts_parameter}
 use Rattle.declarations.proofs.RuleExpectsLemmas.{stuck_expects}
 use Rattle.declarations.proofs.parameter.parse_parameter.Goals as goal
 
@@ -20,5 +21,5 @@ returns-in-Err-clause-fault c =
 
 pub returns-in-Err-clause-expected : goal.returns-in-Err-clause-expected
 returns-in-Err-clause-expected c =
-    stuck_expects function_parameter starts_parameter c.args.trees.now c.in-Err.left.now c.fault_by.result.at c.fault_by.result.expected
-    c.in-Err.ensures c.fault_by.ensures.at c.fault_by.ensures.expected
+    stuck_expects function_parameter starts_parameter c.args.trees.now c.in-Err.left.now c.fault_by.result.at
+    c.fault_by.result.expected c.in-Err.ensures c.fault_by.ensures.at c.fault_by.ensures.expected

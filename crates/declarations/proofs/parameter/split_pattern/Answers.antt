@@ -9,5 +9,5 @@ returns-in-Ok-clause-only c =
 
 pub returns-in-Err-clause-expected : goal.returns-in-Err-clause-expected
 returns-in-Err-clause-expected c =
-    stuck_expects pattern starts_pattern c.args.trees.now c.in-Err.left.now c.fault_by.result.at c.fault_by.result.expected
-    c.in-Err.ensures c.fault_by.ensures.at c.fault_by.ensures.expected
+    stuck_expects pattern starts_pattern c.args.trees.now c.in-Err.left.now c.fault_by.result.at
+    c.fault_by.result.expected c.in-Err.ensures c.fault_by.ensures.at c.fault_by.ensures.expected

@@ -1,6 +1,6 @@
 use Rattle.std.proofs.Common.{refl, arith}
 use Rattle.declarations.proofs.ExploreLemmas.{neither_seen, second_seen}
-use Rattle.declarations.proofs.explore.chosen.Goals as goal
+use Rattle.declarations.proofs.explore.choose.Goals as goal
 
 pub returns-then-second-first : goal.returns-then-second-first
 returns-then-second-first c = λ a b trees e still d.
