@@ -52,6 +52,7 @@ fn see_nothing(trees: &[TokenTree]) -> Seen<'_>
 fn see_mark(label: Label, trees: &[TokenTree]) -> Seen<'_>
     ensures { Sees (Mark (label_of label)) trees.now result }
 {
+    let _label = label;
     seen_nothing(trees)
 }
 

@@ -37,6 +37,7 @@ fn see_nothing(trees: &[TokenTree]) -> Seen<'_>
 /// Reads by a label.
 fn see_mark(label: Label, trees: &[TokenTree]) -> Seen<'_>
 {
+    let _label = label;
     seen_nothing(trees)
 }
 
