@@ -1,14 +1,13 @@
 -- Tables read rules of the grammar, and the first signs of rules that tables read after a test.
-use Rattle.std.proofs.Common.{◌≡◌, refl, sym, ◌∙◌, ap, subst, Bool, true, false, ◌&&◌, ◌||◌, List, [], ◌∷◌, ◌++◌}
+use Rattle.std.proofs.Common.{◌≡◌, refl, sym, ◌∙◌, ap, subst, Bool, true, false, ◌&&◌, ◌||◌, List, [], ◌∷◌}
 use Rattle.std.proofs.Common.{Option, Some, None, is_some}
 use Rattle.std.proofs.lemmas.Bool.{and_parts, both_ways}
 use Rattle.grammars.specs.First.{heads, may_begin, starts}
-use Rattle.grammars.specs.Grammar.{Event}
 use Rattle.grammars.specs.Machine as machine
 use Rattle.grammars.specs.Machine.{is_nullable, only}
 use Rattle.grammars.specs.Next as signs_next
 use Rattle.grammars.specs.Next.{stop}
-use Rattle.grammars.proofs.FlatLemmas.{ends_flat, flat, flat_all, flat_stack_after, move, step_flat}
+use Rattle.grammars.proofs.FlatLemmas.{ends_flat, flat_all, flat_stack_after, move, step_flat}
 use Rattle.grammars.proofs.NextLemmas.{step_is}
 use Rattle.grammars.proofs.NextWordLemmas as laws
 use Rattle.grammars.proofs.StopLemmas.{stop_none, stop_some}

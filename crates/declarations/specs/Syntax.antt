@@ -1,5 +1,5 @@
 -- Rules of the grammar as data.
-use Rattle.std.specs.Prelude.{ℕ, suc, ◌+◌, Bool, false, not, ◌&&◌, [], ◌∷◌}
+use Rattle.std.specs.Prelude.{ℕ, suc, ◌+◌, Bool, false, not, ◌&&◌}
 use Rattle.grammars.specs.Grammar.{Nothing, Sign, Mark, Then, Either, Many}
 use Rattle.declarations.specs.Forms.{start}
 use Rattle.declarations.specs.declared.class.SignClass.{SignClass}
