@@ -48,14 +48,10 @@ table_left : (table : Table) → left_at (start_of table) ≡ Some (flat_all (ru
 table_left tables.Type = refl
 table_left tables.Bounds = refl
 table_left tables.Attributes = refl
-table_left tables.InnerAttributes = refl
 table_left tables.Visibility = refl
 table_left tables.Generics = refl
 table_left tables.Where = refl
 table_left tables.Expression = refl
-table_left tables.Field = refl
-table_left tables.TupleField = refl
-table_left tables.Variant = refl
 table_left tables.AnyItem = refl
 
 -- the tables have a step exactly where the machine has one

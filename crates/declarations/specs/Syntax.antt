@@ -57,10 +57,8 @@ label_of labels.Front = names.Front
 label_of labels.Named = names.Named
 label_of labels.Parameter = names.Parameter
 label_of labels.Bounds = names.Bounds
-label_of labels.Default = names.Default
 label_of labels.OfType = names.OfType
 label_of labels.Value = names.Value
-label_of labels.Bounded = names.Bounded
 label_of labels.Fields = names.Fields
 label_of labels.Returns = names.Returns
 label_of labels.Body = names.Body
@@ -71,14 +69,10 @@ abbrev pub rule_of : Table → G
 rule_of tables.Type = type
 rule_of tables.Bounds = bounds
 rule_of tables.Attributes = parts.attributes
-rule_of tables.InnerAttributes = parts.inner_attributes
 rule_of tables.Visibility = parts.visibility
 rule_of tables.Generics = parts.generics
 rule_of tables.Where = parts.where_clause
 rule_of tables.Expression = expression
-rule_of tables.Field = parts.field
-rule_of tables.TupleField = parts.tuple_field
-rule_of tables.Variant = parts.variant
 rule_of tables.AnyItem = any_item
 
 -- the state in which the table begins
@@ -86,14 +80,10 @@ abbrev pub state_of : Table → State
 state_of tables.Type = states.Range types.Wanted
 state_of tables.Bounds = states.Range types.Bound
 state_of tables.Attributes = states.At (spots.Before parts_in.Attributes)
-state_of tables.InnerAttributes = states.At spots.Inner
 state_of tables.Visibility = states.At (spots.Before parts_in.Visibility)
 state_of tables.Generics = states.At spots.Generics
 state_of tables.Where = states.At spots.Where
 state_of tables.Expression = states.At spots.Expression
-state_of tables.Field = states.At (spots.Before parts_in.Field)
-state_of tables.TupleField = states.At (spots.Before parts_in.TupleField)
-state_of tables.Variant = states.At (spots.Before parts_in.Variant)
 state_of tables.AnyItem = states.At (spots.Before parts_in.AnyItem)
 
 -- the state of the walk from which the table reads

@@ -53,14 +53,10 @@ pub enum Label {
     Parameter,
     /// Bounds.
     Bounds,
-    /// The default of a generic parameter.
-    Default,
     /// The type of a parameter.
     OfType,
     /// The value of an entry.
     Value,
-    /// The type of a predicate.
-    Bounded,
     /// The parameters of a function.
     Fields,
     /// A return type.
@@ -80,8 +76,6 @@ pub enum Table {
     Bounds,
     /// Attributes.
     Attributes,
-    /// Inner attributes.
-    InnerAttributes,
     /// A visibility, or nothing.
     Visibility,
     /// Generic parameters, or nothing.
@@ -90,12 +84,6 @@ pub enum Table {
     Where,
     /// An expression.
     Expression,
-    /// A named field.
-    Field,
-    /// A field without a name.
-    TupleField,
-    /// A variant.
-    Variant,
     /// An item of any kind.
     AnyItem,
 }
@@ -179,14 +167,10 @@ pub(crate) fn start_of(table: Table) -> WalkState
             Table::Type => State::Range(TypeState::Wanted),
             Table::Bounds => State::Range(TypeState::Bound),
             Table::Attributes => State::At(Spot::Before(Part::Attributes)),
-            Table::InnerAttributes => State::At(Spot::Inner),
             Table::Visibility => State::At(Spot::Before(Part::Visibility)),
             Table::Generics => State::At(Spot::Generics),
             Table::Where => State::At(Spot::Where),
             Table::Expression => State::At(Spot::Expression),
-            Table::Field => State::At(Spot::Before(Part::Field)),
-            Table::TupleField => State::At(Spot::Before(Part::TupleField)),
-            Table::Variant => State::At(Spot::Before(Part::Variant)),
             Table::AnyItem => State::At(Spot::Before(Part::AnyItem)),
         },
         depth: 0,
@@ -484,123 +468,6 @@ pub(crate) const PARAMETER: Syntax<'static> = Syntax::Then(
     ),
 );
 
-/// `:` and bounds, or nothing.
-const WITH_BOUNDS: Syntax<'static> = Syntax::Either(
-    &Syntax::Then(
-        &Syntax::Mark(Label::Rest),
-        &Syntax::Then(
-            &Syntax::Sign(Test::Is(SignClass::Colon)),
-            &Syntax::Then(&Syntax::Mark(Label::Bounds), &Syntax::Table(Table::Bounds)),
-        ),
-    ),
-    &Syntax::Nothing,
-);
-
-/// `=` and a type.
-const DEFAULT_TYPE: Syntax<'static> = Syntax::Then(
-    &Syntax::Mark(Label::Rest),
-    &Syntax::Then(
-        &Syntax::Sign(Test::Is(SignClass::Equals)),
-        &Syntax::Then(&Syntax::Mark(Label::Default), &Syntax::Table(Table::Type)),
-    ),
-);
-
-/// `=` and the default of a constant, or nothing.
-const WITH_CONSTANT: Syntax<'static> = Syntax::Either(
-    &Syntax::Then(
-        &Syntax::Mark(Label::Rest),
-        &Syntax::Then(
-            &Syntax::Sign(Test::Is(SignClass::Equals)),
-            &Syntax::Then(
-                &Syntax::Mark(Label::Default),
-                &Syntax::Either(
-                    &Syntax::Then(
-                        &Syntax::Sign(Test::Is(SignClass::Minus)),
-                        &Syntax::Sign(Test::Is(SignClass::Literal)),
-                    ),
-                    &Syntax::Either(
-                        &Syntax::Sign(Test::Is(SignClass::Literal)),
-                        &Syntax::Either(
-                            &Syntax::Sign(Test::Block),
-                            &Syntax::Either(
-                                &Syntax::Sign(Test::Is(SignClass::Truth)),
-                                &Syntax::Table(Table::Type),
-                            ),
-                        ),
-                    ),
-                ),
-            ),
-        ),
-    ),
-    &Syntax::Nothing,
-);
-
-/// A generic parameter.
-pub(crate) const GENERIC: Syntax<'static> = Syntax::Then(
-    &Syntax::Mark(Label::Parameter),
-    &Syntax::Then(
-        &Syntax::Table(Table::Attributes),
-        &Syntax::Either(
-            &Syntax::Then(
-                &Syntax::Mark(Label::Named),
-                &Syntax::Then(&Syntax::Sign(Test::Is(SignClass::Lifetime)), &WITH_BOUNDS),
-            ),
-            &Syntax::Either(
-                &Syntax::Then(
-                    &Syntax::Mark(Label::Named),
-                    &Syntax::Then(
-                        &Syntax::Sign(Test::Word),
-                        &Syntax::Then(
-                            &WITH_BOUNDS,
-                            &Syntax::Either(&DEFAULT_TYPE, &Syntax::Nothing),
-                        ),
-                    ),
-                ),
-                &Syntax::Then(
-                    &Syntax::Mark(Label::Rest),
-                    &Syntax::Then(
-                        &Syntax::Sign(Test::Is(SignClass::Keyword(Keyword::Const))),
-                        &Syntax::Then(
-                            &Syntax::Mark(Label::Named),
-                            &Syntax::Then(
-                                &Syntax::Sign(Test::Word),
-                                &Syntax::Then(
-                                    &Syntax::Mark(Label::Rest),
-                                    &Syntax::Then(
-                                        &Syntax::Sign(Test::Is(SignClass::Colon)),
-                                        &Syntax::Then(
-                                            &Syntax::Mark(Label::Bounds),
-                                            &Syntax::Then(
-                                                &Syntax::Table(Table::Type),
-                                                &WITH_CONSTANT,
-                                            ),
-                                        ),
-                                    ),
-                                ),
-                            ),
-                        ),
-                    ),
-                ),
-            ),
-        ),
-    ),
-);
-
-/// A predicate of a where clause.
-pub(crate) const PREDICATE: Syntax<'static> = Syntax::Then(
-    &Syntax::Mark(Label::Bounded),
-    &Syntax::Then(
-        &Syntax::Table(Table::Type),
-        &Syntax::Then(
-            &Syntax::Mark(Label::Rest),
-            &Syntax::Then(
-                &Syntax::Sign(Test::Is(SignClass::Colon)),
-                &Syntax::Then(&Syntax::Mark(Label::Bounds), &Syntax::Table(Table::Bounds)),
-            ),
-        ),
-    ),
-);
-
 /// A generic argument.
 pub(crate) const ARGUMENT: Syntax<'static> = Syntax::Either(
     &Syntax::Then(
@@ -671,10 +538,4 @@ pub(crate) const IMPL: Syntax<'static> = Syntax::Then(
             &Syntax::Then(&IMPL_QUALIFIERS, &Syntax::Guarded(Guard::Impl)),
         ),
     ),
-);
-
-/// A file.
-pub(crate) const FILE: Syntax<'static> = Syntax::Then(
-    &Syntax::Table(Table::InnerAttributes),
-    &Syntax::Many(&Syntax::Table(Table::AnyItem)),
 );
