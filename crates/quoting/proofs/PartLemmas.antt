@@ -27,7 +27,7 @@ joined_assoc (group d lo hi f k) g h = ap (group d lo hi f) (joined_assoc k g h)
 
 -- ---- the outer lists
 
--- what becomes of a list's trees is told by its first tree and by the trees after it
+-- the function goes over a list tree by tree: it changes the first tree, and then the trees after it
 pub record IsByTrees (each : Forest → Forest) : Type 0 where
   pub none : each nil ≡ nil
   pub at_group : (d : Delimiter) (lo hi : ℕ) (inside rest : Forest)
