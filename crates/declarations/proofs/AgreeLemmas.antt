@@ -2,15 +2,15 @@
 use Rattle.std.proofs.Common.{◌≡◌, true, Option, Some, None, List}
 use Rattle.grammars.specs.Machine as machine
 use Rattle.grammars.proofs.FlatLemmas.{move}
-use Rattle.declarations.specs.Grammar.{ends}
+use Rattle.item_tables.specs.Grammar.{ends}
 use Rattle.declarations.specs.rules.Names.{G}
 use Rattle.declarations.specs.rules.Rules.{rules}
-use Rattle.declarations.specs.declared.class.SignClass.{SignClass}
-use Rattle.declarations.specs.declared.walk_state.Item.{Item}
-use Rattle.declarations.specs.declared.walk_state.WalkState.{WalkState}
-use Rattle.declarations.specs.declared.walk_state.Continuation.{Continuation}
-use Rattle.declarations.specs.declared.walk_state.Spot.{Spot}
-use Rattle.declarations.specs.declared.walk_state.State.TheVariants as states
+use Rattle.item_tables.specs.declared.class.SignClass.{SignClass}
+use Rattle.item_tables.specs.declared.walk_state.Item.{Item}
+use Rattle.item_tables.specs.declared.walk_state.WalkState.{WalkState}
+use Rattle.item_tables.specs.declared.walk_state.Continuation.{Continuation}
+use Rattle.item_tables.specs.declared.walk_state.Spot.{Spot}
+use Rattle.item_tables.specs.declared.walk_state.State.TheVariants as states
 use Rattle.declarations.proofs.StackLemmas.{left_after, stack_after}
 
 -- if the tables reach this state, their step is that of the grammar

@@ -5,11 +5,11 @@ use Rattle.std.proofs.Common.{inl, inr}
 use Rattle.std.proofs.lemmas.Bool.{and_parts, or_cases, both_ways}
 use Rattle.grammars.specs.Deterministic.{Passes}
 use Rattle.grammars.specs.Tests.{IsAny, IsEvery}
-use Rattle.declarations.specs.rules.Classes.{code, classes, all_of, every, any_of, any, is}
-use Rattle.declarations.specs.declared.class.SignClass.{SignClass}
-use Rattle.declarations.specs.declared.class.SignClass.TheVariants as signs
-use Rattle.declarations.specs.declared.class.Word.TheVariants as words
-use Rattle.declarations.specs.declared.class.Keyword.TheVariants as keywords
+use Rattle.item_tables.specs.Classes.{code, classes, all_of, every, any_of, any, is}
+use Rattle.item_tables.specs.declared.class.SignClass.{SignClass}
+use Rattle.item_tables.specs.declared.class.SignClass.TheVariants as signs
+use Rattle.item_tables.specs.declared.class.Word.TheVariants as words
+use Rattle.item_tables.specs.declared.class.Keyword.TheVariants as keywords
 
 -- the element of a list at an index
 abbrev at : {T : Type 0} → List T → ℕ → Option T

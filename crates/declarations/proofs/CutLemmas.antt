@@ -5,12 +5,12 @@ use Rattle.pm_stream.specs.declared.stream.TokenTree.{TokenTree}
 use Rattle.declarations.proofs.SignLemmas.{after_first_sign}
 use Rattle.declarations.proofs.WalkLemmas.{after, walk-cons}
 use Rattle.declarations.specs.Forms.{IsFrom}
-use Rattle.declarations.specs.Grammar.{step, ends}
+use Rattle.item_tables.specs.Grammar.{step, ends}
 use Rattle.declarations.specs.Reading.{Reads, FaultAt, IsOnly}
 use Rattle.declarations.specs.Signs.{Sign, signs, classes_of}
 use Rattle.declarations.specs.Walk.{walk}
-use Rattle.declarations.specs.declared.class.SignClass.{SignClass}
-use Rattle.declarations.specs.declared.walk_state.WalkState.{WalkState}
+use Rattle.item_tables.specs.declared.class.SignClass.{SignClass}
+use Rattle.item_tables.specs.declared.walk_state.WalkState.{WalkState}
 
 -- a walk from the state takes all of the trees, and may end after them
 pub record Goes (place : WalkState) (trees : List TokenTree) : Type 0 where

@@ -3,23 +3,23 @@ use Rattle.std.proofs.Common.{◌≡◌, refl, ℕ, zero, suc, Bool, true, false
 use Rattle.std.proofs.Common.{Some, None, if◌then◌else◌}
 use Rattle.grammars.specs.Machine.{is_nullable}
 use Rattle.grammars.specs.Machine as machine
-use Rattle.declarations.specs.Grammar.{rule_ends}
-use Rattle.declarations.specs.TypeStep.{may_end}
+use Rattle.item_tables.specs.Grammar.{rule_ends}
+use Rattle.item_tables.specs.TypeStep.{may_end}
 use Rattle.declarations.specs.rules.Names.{Inside}
 use Rattle.declarations.specs.rules.Types.{range}
-use Rattle.declarations.specs.declared.class.Word.TheVariants as words
-use Rattle.declarations.specs.declared.walk_state.Front.TheVariants as fronts
-use Rattle.declarations.specs.declared.walk_state.Item.{Item}
-use Rattle.declarations.specs.declared.walk_state.Item.TheVariants as items
-use Rattle.declarations.specs.declared.walk_state.WalkState.{WalkState}
-use Rattle.declarations.specs.declared.walk_state.Continuation.{Continuation}
-use Rattle.declarations.specs.declared.walk_state.Continuation.TheVariants as places
-use Rattle.declarations.specs.declared.walk_state.Spot.{Spot}
-use Rattle.declarations.specs.declared.walk_state.Spot.TheVariants as spots
-use Rattle.declarations.specs.declared.walk_state.State.{State}
-use Rattle.declarations.specs.declared.walk_state.State.TheVariants as states
-use Rattle.declarations.specs.declared.types.TypeState.{TypeState}
-use Rattle.declarations.specs.declared.types.TypeState.TheVariants as types
+use Rattle.item_tables.specs.declared.class.Word.TheVariants as words
+use Rattle.item_tables.specs.declared.walk_state.Front.TheVariants as fronts
+use Rattle.item_tables.specs.declared.walk_state.Item.{Item}
+use Rattle.item_tables.specs.declared.walk_state.Item.TheVariants as items
+use Rattle.item_tables.specs.declared.walk_state.WalkState.{WalkState}
+use Rattle.item_tables.specs.declared.walk_state.Continuation.{Continuation}
+use Rattle.item_tables.specs.declared.walk_state.Continuation.TheVariants as places
+use Rattle.item_tables.specs.declared.walk_state.Spot.{Spot}
+use Rattle.item_tables.specs.declared.walk_state.Spot.TheVariants as spots
+use Rattle.item_tables.specs.declared.walk_state.State.{State}
+use Rattle.item_tables.specs.declared.walk_state.State.TheVariants as states
+use Rattle.item_tables.specs.declared.types.TypeState.{TypeState}
+use Rattle.item_tables.specs.declared.types.TypeState.TheVariants as types
 use Rattle.declarations.proofs.AgreeLemmas.{EndsAgree, at_spot}
 use Rattle.declarations.proofs.StackLemmas as stacks
 use Rattle.declarations.proofs.PartSpotLemmas.{part_ends_agree}

@@ -26,17 +26,17 @@ use Rattle.declarations.specs.Reader.{Finds, ReadsRule, Sticks, classes_in}
 use Rattle.declarations.specs.Reading.{FaultAt, Reads, StopsAt}
 use Rattle.declarations.specs.Signs as signs_in
 use Rattle.declarations.specs.Signs.{BeginsWith, group_class, is_restriction, parentheses_class, trees_of}
-use Rattle.declarations.specs.declared.class.SignClass.{SignClass}
-use Rattle.declarations.specs.declared.class.SignClass.TheVariants as signs
-use Rattle.declarations.specs.declared.class.Keyword.TheVariants as keywords
-use Rattle.declarations.specs.declared.class.Word.TheVariants as words
+use Rattle.item_tables.specs.declared.class.SignClass.{SignClass}
+use Rattle.item_tables.specs.declared.class.SignClass.TheVariants as signs
+use Rattle.item_tables.specs.declared.class.Keyword.TheVariants as keywords
+use Rattle.item_tables.specs.declared.class.Word.TheVariants as words
 use Rattle.declarations.specs.declared.entry.Entry.{Entry}
 use Rattle.declarations.specs.declared.entry.EntryKind.{EntryKind}
 use Rattle.declarations.specs.declared.entry.EntryKind.TheVariants as kinds
-use Rattle.declarations.specs.declared.walk_state.Continuation.TheVariants as places
-use Rattle.declarations.specs.declared.walk_state.Spot.TheVariants as spots
-use Rattle.declarations.specs.declared.walk_state.State.TheVariants as states
-use Rattle.declarations.specs.rules.Classes.{is}
+use Rattle.item_tables.specs.declared.walk_state.Continuation.TheVariants as places
+use Rattle.item_tables.specs.declared.walk_state.Spot.TheVariants as spots
+use Rattle.item_tables.specs.declared.walk_state.State.TheVariants as states
+use Rattle.item_tables.specs.Classes.{is}
 use Rattle.declarations.specs.rules.Entries as rule
 use Rattle.declarations.specs.rules.Expressions.{expression}
 use Rattle.declarations.specs.rules.Names.{G, Value, one}

@@ -7,10 +7,10 @@ use Rattle.std.proofs.lemmas.Bool.Decides.{nat_tests}
 use Rattle.std.proofs.lemmas.Nat.Bits.{bit_at-lt, bit_at_or, bit_at_clear_other, bit_at_clear_same, bit_at_set_other}
 use Rattle.std.proofs.lemmas.Nat.Bits.{bit_at_set_same}
 use Rattle.std.specs.Int.{w128, bit_at}
-use Rattle.declarations.specs.declared.class.SignClass.{SignClass}
+use Rattle.item_tables.specs.declared.class.SignClass.{SignClass}
 use Rattle.declarations.specs.declared.expected.Expected.{Expected}
 use Rattle.declarations.specs.Expected.{HasSigns, holds, holds_end}
-use Rattle.declarations.specs.rules.Classes.{any_of, classes, code, is}
+use Rattle.item_tables.specs.Classes.{any_of, classes, code, is}
 use Rattle.declarations.proofs.ClassLemmas.{every_holds, same_class}
 
 -- ---- bits

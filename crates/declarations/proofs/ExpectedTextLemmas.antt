@@ -7,9 +7,9 @@ use Rattle.std.specs.Int.{bit_at}
 use Rattle.std.specs.Int.RustNames.{bit_xor}
 use Rattle.declarations.specs.Expected.{holds}
 use Rattle.declarations.specs.ExpectedText.{Names, NamesOnly, more_listed, separator}
-use Rattle.declarations.specs.declared.class.SignClass.{SignClass}
+use Rattle.item_tables.specs.declared.class.SignClass.{SignClass}
 use Rattle.declarations.specs.declared.expected.Expected.{Expected}
-use Rattle.declarations.specs.rules.Classes.{code}
+use Rattle.item_tables.specs.Classes.{code}
 
 -- one more name, and those after it
 pub more_split : (count : ℕ) (names rest : List (List ℕ)) (name before : List ℕ) → (count ≡ 0 → ⊥)

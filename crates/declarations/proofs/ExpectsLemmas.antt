@@ -8,14 +8,14 @@ use Rattle.pm_token.specs.Leaf.{Name}
 use Rattle.pm_stream.specs.declared.stream.TokenTree.{TokenTree}
 use Rattle.declarations.specs.Expected.{AreSteps, Expects}
 use Rattle.declarations.specs.Forms.{IsFrom}
-use Rattle.declarations.specs.Grammar.{ends, step}
+use Rattle.item_tables.specs.Grammar.{ends, step}
 use Rattle.declarations.specs.Reading.{Walked}
 use Rattle.declarations.specs.Signs.{classes_of, trees_of}
 use Rattle.declarations.specs.Walk.{IsFront, walk}
 use Rattle.declarations.specs.Whole.{IsWhole}
-use Rattle.declarations.specs.declared.class.SignClass.{SignClass}
+use Rattle.item_tables.specs.declared.class.SignClass.{SignClass}
 use Rattle.declarations.specs.declared.expected.Expected.{Expected}
-use Rattle.declarations.specs.declared.walk_state.WalkState.{WalkState}
+use Rattle.item_tables.specs.declared.walk_state.WalkState.{WalkState}
 use Rattle.declarations.proofs.PlaceLemmas.{goes_on}
 use Rattle.declarations.proofs.WalkLemmas.{after, walk-append}
 use Rattle.declarations.proofs.WholeLemmas.{stuck}

@@ -15,11 +15,11 @@ use Rattle.declarations.specs.Expected.{HasSigns, holds, holds_end}
 use Rattle.declarations.specs.Explore.{Explores, Sees}
 use Rattle.declarations.specs.Reader.{Remains, classes_in}
 use Rattle.declarations.specs.Signs.{BeginsWith, Sign as Read, classes_of, signs, trees_of}
-use Rattle.declarations.specs.declared.class.SignClass.{SignClass}
-use Rattle.declarations.specs.declared.class.SignClass.TheVariants as classes
+use Rattle.item_tables.specs.declared.class.SignClass.{SignClass}
+use Rattle.item_tables.specs.declared.class.SignClass.TheVariants as classes
 use Rattle.declarations.specs.declared.expected.Expected.{Expected}
 use Rattle.declarations.specs.declared.explore.Seen.{Seen}
-use Rattle.declarations.specs.rules.Classes.{is}
+use Rattle.item_tables.specs.Classes.{is}
 use Rattle.declarations.specs.rules.Names.{G, Label, Name, Rest, comma, comma_list, one}
 use Rattle.declarations.specs.rules.Rules.{rules}
 use Rattle.declarations.proofs.ReaderLemmas.{remains_on, remains_self, remains_sign, remains_within}

@@ -15,21 +15,21 @@ use Rattle.declarations.proofs.SortLemmas.{pairs}
 use Rattle.declarations.specs.Field.{HasFront, HasFieldParts, IsNamed}
 use Rattle.declarations.specs.declared.field.Field.{Field}
 use Rattle.declarations.specs.Forms.{IsFrom, AreAttributes, IsVisibility, IsType}
-use Rattle.declarations.specs.Grammar.{step, else_follow, after_range}
+use Rattle.item_tables.specs.Grammar.{step, else_follow, after_range}
 use Rattle.declarations.specs.Item.{IsNameClass}
 use Rattle.declarations.specs.Reading.{Reads, FaultAt, IsOnly}
 use Rattle.declarations.specs.Signs.{Sign, signs, trees_of, name_class, pair_class, tree_class}
-use Rattle.declarations.specs.TypeStep.{step_of}
+use Rattle.item_tables.specs.TypeStep.{step_of}
 use Rattle.declarations.specs.Whole.{ReadsAll}
-use Rattle.declarations.specs.declared.class.SignClass.{SignClass}
-use Rattle.declarations.specs.declared.class.SignClass.TheVariants as signs
-use Rattle.declarations.specs.declared.walk_state.Item.TheVariants as items
-use Rattle.declarations.specs.declared.walk_state.Part.TheVariants as parts
-use Rattle.declarations.specs.declared.walk_state.WalkState.{WalkState}
-use Rattle.declarations.specs.declared.walk_state.Continuation.TheVariants as rules
-use Rattle.declarations.specs.declared.walk_state.Spot.TheVariants as spots
-use Rattle.declarations.specs.declared.types.TypeState.TheVariants as types
-use Rattle.declarations.specs.declared.types.TypeStep.{TypeStep}
+use Rattle.item_tables.specs.declared.class.SignClass.{SignClass}
+use Rattle.item_tables.specs.declared.class.SignClass.TheVariants as signs
+use Rattle.item_tables.specs.declared.walk_state.Item.TheVariants as items
+use Rattle.item_tables.specs.declared.walk_state.Part.TheVariants as parts
+use Rattle.item_tables.specs.declared.walk_state.WalkState.{WalkState}
+use Rattle.item_tables.specs.declared.walk_state.Continuation.TheVariants as rules
+use Rattle.item_tables.specs.declared.walk_state.Spot.TheVariants as spots
+use Rattle.item_tables.specs.declared.types.TypeState.TheVariants as types
+use Rattle.item_tables.specs.declared.types.TypeStep.{TypeStep}
 
 -- ---- a part without the trees after it
 

@@ -8,7 +8,7 @@ use Rattle.grammars.proofs.WordLemmas.{find_element, find_first, find_lacks, fin
 use Rattle.grammars.proofs.WordLemmas.{find_sign}
 use Rattle.grammars.proofs.WordLemmas.{find_skips, find_then, find_to}
 use Rattle.declarations.specs.Found.{bare, finds}
-use Rattle.declarations.specs.declared.class.SignClass.{SignClass}
+use Rattle.item_tables.specs.declared.class.SignClass.{SignClass}
 use Rattle.declarations.specs.rules.Names.{G, Label, Name}
 use Rattle.declarations.specs.rules.Rules.{rules}
 use Rattle.declarations.proofs.LoopLemmas.{Fits, scan_fits}

@@ -7,11 +7,11 @@ use Rattle.pm_stream.specs.declared.stream.TokenTree.{TokenTree}
 use Rattle.declarations.specs.Parts.{begins_identifier, begins_mark}
 use Rattle.declarations.specs.Reader.{Finds, classes_in}
 use Rattle.declarations.specs.Signs.{BeginsWith}
-use Rattle.declarations.specs.declared.class.SignClass.{SignClass}
-use Rattle.declarations.specs.declared.class.SignClass.TheVariants as signs
-use Rattle.declarations.specs.declared.class.Keyword.TheVariants as keywords
-use Rattle.declarations.specs.declared.class.Word.TheVariants as words
-use Rattle.declarations.specs.rules.Classes.{is}
+use Rattle.item_tables.specs.declared.class.SignClass.{SignClass}
+use Rattle.item_tables.specs.declared.class.SignClass.TheVariants as signs
+use Rattle.item_tables.specs.declared.class.Keyword.TheVariants as keywords
+use Rattle.item_tables.specs.declared.class.Word.TheVariants as words
+use Rattle.item_tables.specs.Classes.{is}
 use Rattle.declarations.specs.rules.Names.{G, Label, Name, Visible, Generics, Where, comma_list, one, key}
 use Rattle.declarations.specs.rules.Parts.{attribute, closed_parameters, generics, predicate, restriction, visibility}
 use Rattle.declarations.specs.rules.Parts.{visible, where_clause}

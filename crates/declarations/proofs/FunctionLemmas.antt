@@ -18,10 +18,10 @@ use Rattle.declarations.specs.Reader.{Finds, Sticks, classes_in}
 use Rattle.declarations.specs.Reading.{FaultAt, Reads}
 use Rattle.declarations.specs.Signs as signs_in
 use Rattle.declarations.specs.Whole.{IsWhole}
-use Rattle.declarations.specs.declared.class.Keyword.TheVariants as keywords
+use Rattle.item_tables.specs.declared.class.Keyword.TheVariants as keywords
 use Rattle.declarations.specs.declared.function.Function.{Function}
 use Rattle.declarations.specs.rules.Bodies.{function_end, function_rest, name, returning}
-use Rattle.declarations.specs.rules.Classes.{is_round}
+use Rattle.item_tables.specs.Classes.{is_round}
 use Rattle.declarations.specs.rules.Functions as rule
 use Rattle.declarations.specs.rules.Names.{Fields, Front, G, Label, Named, key}
 use Rattle.declarations.specs.rules.Names.{word}

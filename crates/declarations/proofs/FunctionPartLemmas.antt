@@ -22,16 +22,16 @@ use Rattle.declarations.specs.Reader.{Finds, ReadsRule, Sticks, classes_in}
 use Rattle.declarations.specs.Reading.{StopsAt}
 use Rattle.declarations.specs.Signs as signs_in
 use Rattle.declarations.specs.Signs.{BeginsWith, group_class, is_restriction, name_class, parentheses_class}
-use Rattle.declarations.specs.declared.class.SignClass.{SignClass}
-use Rattle.declarations.specs.declared.class.SignClass.TheVariants as signs
-use Rattle.declarations.specs.declared.class.Keyword.TheVariants as keywords
-use Rattle.declarations.specs.declared.class.Word.TheVariants as words
-use Rattle.declarations.specs.declared.walk_state.Part.TheVariants as parts
-use Rattle.declarations.specs.declared.walk_state.Continuation.TheVariants as places
-use Rattle.declarations.specs.declared.walk_state.Spot.TheVariants as spots
-use Rattle.declarations.specs.declared.walk_state.State.TheVariants as states
+use Rattle.item_tables.specs.declared.class.SignClass.{SignClass}
+use Rattle.item_tables.specs.declared.class.SignClass.TheVariants as signs
+use Rattle.item_tables.specs.declared.class.Keyword.TheVariants as keywords
+use Rattle.item_tables.specs.declared.class.Word.TheVariants as words
+use Rattle.item_tables.specs.declared.walk_state.Part.TheVariants as parts
+use Rattle.item_tables.specs.declared.walk_state.Continuation.TheVariants as places
+use Rattle.item_tables.specs.declared.walk_state.Spot.TheVariants as spots
+use Rattle.item_tables.specs.declared.walk_state.State.TheVariants as states
 use Rattle.declarations.specs.rules.Bodies.{block, braces, function_end, semicolon}
-use Rattle.declarations.specs.rules.Classes.{is, is_block, is_round, is_word}
+use Rattle.item_tables.specs.Classes.{is, is_block, is_round, is_word}
 use Rattle.declarations.specs.rules.Fronts.{is_safe}
 use Rattle.declarations.specs.rules.Functions as rule
 use Rattle.declarations.specs.rules.Names.{Body, Label, Name as RuleName, Rest, Returns, key}

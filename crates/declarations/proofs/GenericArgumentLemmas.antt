@@ -20,15 +20,15 @@ use Rattle.declarations.specs.GenericArgument.{HasAfter, HasArgument, HasConstra
 use Rattle.declarations.specs.Reader.{Finds, ReadsRule, Sticks, classes_in}
 use Rattle.declarations.specs.Reading.{FaultAt, Reads, StopsAt}
 use Rattle.declarations.specs.Signs.{BeginsWith, trees_of}
-use Rattle.declarations.specs.declared.class.SignClass.{SignClass}
-use Rattle.declarations.specs.declared.class.SignClass.TheVariants as signs
+use Rattle.item_tables.specs.declared.class.SignClass.{SignClass}
+use Rattle.item_tables.specs.declared.class.SignClass.TheVariants as signs
 use Rattle.declarations.specs.declared.generic_argument.ArgumentKind.{ArgumentKind}
 use Rattle.declarations.specs.declared.generic_argument.ArgumentKind.TheVariants as kinds
 use Rattle.declarations.specs.declared.generic_argument.GenericArgument.{GenericArgument}
-use Rattle.declarations.specs.declared.walk_state.Continuation.TheVariants as places
-use Rattle.declarations.specs.declared.walk_state.State.TheVariants as states
-use Rattle.declarations.specs.declared.types.TypeState.TheVariants as types
-use Rattle.declarations.specs.rules.Classes.{is, is_word}
+use Rattle.item_tables.specs.declared.walk_state.Continuation.TheVariants as places
+use Rattle.item_tables.specs.declared.walk_state.State.TheVariants as states
+use Rattle.item_tables.specs.declared.types.TypeState.TheVariants as types
+use Rattle.item_tables.specs.Classes.{is, is_word}
 use Rattle.declarations.specs.rules.Names.{Bounds, G, Named, OfType, Outside, Rest, Value, one}
 use Rattle.declarations.specs.rules.Paths as rule
 use Rattle.declarations.specs.rules.Pieces.{ByRule}

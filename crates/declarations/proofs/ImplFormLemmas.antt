@@ -8,14 +8,14 @@ use Rattle.grammars.specs.Machine.{is_nullable, step}
 use Rattle.grammars.proofs.FindLemmas.{scan_step}
 use Rattle.declarations.specs.Impl.{begins_generics, begins_parameter, ends_parameter, goes_on_parameter, may_for}
 use Rattle.declarations.specs.Found.{bare, finds}
-use Rattle.declarations.specs.declared.class.SignClass.{SignClass}
-use Rattle.declarations.specs.declared.class.SignClass.TheVariants as signs
-use Rattle.declarations.specs.declared.class.Keyword.TheVariants as keywords
-use Rattle.declarations.specs.declared.class.Word.{Word}
-use Rattle.declarations.specs.declared.class.Word.TheVariants as words
-use Rattle.declarations.specs.declared.types.TypeState.TheVariants as types
+use Rattle.item_tables.specs.declared.class.SignClass.{SignClass}
+use Rattle.item_tables.specs.declared.class.SignClass.TheVariants as signs
+use Rattle.item_tables.specs.declared.class.Keyword.TheVariants as keywords
+use Rattle.item_tables.specs.declared.class.Word.{Word}
+use Rattle.item_tables.specs.declared.class.Word.TheVariants as words
+use Rattle.item_tables.specs.declared.types.TypeState.TheVariants as types
 use Rattle.declarations.specs.rules.Bodies.{where_and_body}
-use Rattle.declarations.specs.rules.Classes.{is, is_word, keyword, opens}
+use Rattle.item_tables.specs.Classes.{is, is_word, keyword, opens}
 use Rattle.declarations.specs.rules.Impls.{angle_target, const_target, impl_angle, impl_front, impl_word}
 use Rattle.declarations.specs.rules.Impls.{more_parameters, negative, target, target_but}
 use Rattle.declarations.specs.rules.Names.{Bounds, G, Generics, Inside, Label, Named}

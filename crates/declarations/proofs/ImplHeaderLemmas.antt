@@ -5,13 +5,13 @@ use Rattle.grammars.specs.First.{heads, may_begin}
 use Rattle.grammars.specs.Grammar.{Nothing, Then}
 use Rattle.declarations.specs.Found.{finds}
 use Rattle.declarations.specs.Impl.{begins_generics, has_generics, may_const, may_for, target_types}
-use Rattle.declarations.specs.declared.class.SignClass.{SignClass}
-use Rattle.declarations.specs.declared.class.SignClass.TheVariants as signs
-use Rattle.declarations.specs.declared.class.Keyword.TheVariants as keywords
-use Rattle.declarations.specs.declared.class.Word.TheVariants as words
-use Rattle.declarations.specs.declared.types.TypeState.TheVariants as types
+use Rattle.item_tables.specs.declared.class.SignClass.{SignClass}
+use Rattle.item_tables.specs.declared.class.SignClass.TheVariants as signs
+use Rattle.item_tables.specs.declared.class.Keyword.TheVariants as keywords
+use Rattle.item_tables.specs.declared.class.Word.TheVariants as words
+use Rattle.item_tables.specs.declared.types.TypeState.TheVariants as types
 use Rattle.declarations.specs.rules.Bodies.{where_and_body}
-use Rattle.declarations.specs.rules.Classes.{is, opens}
+use Rattle.item_tables.specs.Classes.{is, opens}
 use Rattle.declarations.specs.rules.Impls.{const_target, impl_front, negative, target}
 use Rattle.declarations.specs.rules.Names.{G, Target, key}
 use Rattle.declarations.specs.rules.Parts.{generics}

@@ -20,14 +20,14 @@ use Rattle.declarations.specs.Reader.{Finds, Sticks, classes_in}
 use Rattle.declarations.specs.Reading.{FaultAt, Reads}
 use Rattle.declarations.specs.Signs.{BeginsWith, group_class}
 use Rattle.declarations.specs.Whole.{IsWhole}
-use Rattle.declarations.specs.declared.class.SignClass.{SignClass}
-use Rattle.declarations.specs.declared.class.SignClass.TheVariants as signs
-use Rattle.declarations.specs.declared.class.Keyword.TheVariants as keywords
-use Rattle.declarations.specs.declared.class.Word.TheVariants as words
+use Rattle.item_tables.specs.declared.class.SignClass.{SignClass}
+use Rattle.item_tables.specs.declared.class.SignClass.TheVariants as signs
+use Rattle.item_tables.specs.declared.class.Keyword.TheVariants as keywords
+use Rattle.item_tables.specs.declared.class.Word.TheVariants as words
 use Rattle.declarations.specs.declared.implementation.Impl.{Impl}
 use Rattle.declarations.specs.declared.implementation.Target.{Target as Targeted}
 use Rattle.declarations.specs.rules.Bodies.{where_and_body, braces}
-use Rattle.declarations.specs.rules.Classes.{is, is_word, keyword, opens}
+use Rattle.item_tables.specs.Classes.{is, is_word, keyword, opens}
 use Rattle.declarations.specs.rules.ImplItems as rule
 use Rattle.declarations.specs.rules.Impls.{const_target, impl_front, target}
 use Rattle.declarations.specs.rules.Names.{Body, Front, G, Impl as ImplName, key, one}

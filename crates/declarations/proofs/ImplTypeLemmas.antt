@@ -9,12 +9,12 @@ use Rattle.grammars.specs.Grammar.{Either, Nothing, To, perhaps}
 use Rattle.grammars.specs.Machine.{is_nullable}
 use Rattle.declarations.specs.Found.{finds}
 use Rattle.declarations.specs.Impl.{for_type, may_for}
-use Rattle.declarations.specs.declared.class.SignClass.{SignClass}
-use Rattle.declarations.specs.declared.class.SignClass.TheVariants as signs
-use Rattle.declarations.specs.declared.class.Keyword.TheVariants as keywords
-use Rattle.declarations.specs.declared.types.TypeState.{TypeState}
-use Rattle.declarations.specs.declared.types.TypeState.TheVariants as types
-use Rattle.declarations.specs.rules.Classes.{is, is_round, is_word, keyword, opens}
+use Rattle.item_tables.specs.declared.class.SignClass.{SignClass}
+use Rattle.item_tables.specs.declared.class.SignClass.TheVariants as signs
+use Rattle.item_tables.specs.declared.class.Keyword.TheVariants as keywords
+use Rattle.item_tables.specs.declared.types.TypeState.{TypeState}
+use Rattle.item_tables.specs.declared.types.TypeState.TheVariants as types
+use Rattle.item_tables.specs.Classes.{is, is_round, is_word, keyword, opens}
 use Rattle.declarations.specs.rules.Names.{G, Inside, Label, Outside, Range, Target, key}
 use Rattle.declarations.specs.rules.Rules.{rules}
 use Rattle.declarations.specs.rules.Types.{angle, operand}

@@ -20,8 +20,8 @@ use Rattle.declarations.proofs.SignLemmas.{trees_of-signs, no_signs}
 use Rattle.declarations.proofs.SortLemmas.{sort_of, is_identifier_sign, is_group_sign, names, groups, unseen}
 use Rattle.declarations.proofs.WalkLemmas.{after, walk-cons}
 use Rattle.declarations.specs.Forms.{IsFrom, IsItem, AreAttributes, IsVisibility, AreGenerics, IsWhere}
-use Rattle.declarations.specs.Grammar.{step, ends}
-use Rattle.declarations.specs.Header.{closing}
+use Rattle.item_tables.specs.Grammar.{step, ends}
+use Rattle.item_tables.specs.Header.{closing}
 use Rattle.declarations.specs.Item as spec
 use Rattle.declarations.specs.Item.{AreBracesLeft, IsNameClass, IsLeft, IsTypeItem, HasEnding}
 use Rattle.declarations.specs.declared.item.TypeItem.{TypeItem}
@@ -30,14 +30,14 @@ use Rattle.declarations.specs.Signs.{Sign, signs, classes_of, group_class, is_re
 use Rattle.declarations.specs.Signs.{parentheses_class}
 use Rattle.declarations.specs.Walk.{walk}
 use Rattle.declarations.specs.Whole.{ReadsAll}
-use Rattle.declarations.specs.declared.class.SignClass.{SignClass}
-use Rattle.declarations.specs.declared.class.SignClass.TheVariants as signs
-use Rattle.declarations.specs.declared.class.Keyword.TheVariants as keywords
-use Rattle.declarations.specs.declared.class.Word.TheVariants as words
-use Rattle.declarations.specs.declared.walk_state.Item.TheVariants as items
-use Rattle.declarations.specs.declared.walk_state.Part.TheVariants as parts
-use Rattle.declarations.specs.declared.walk_state.WalkState.{WalkState}
-use Rattle.declarations.specs.declared.walk_state.Spot.TheVariants as spots
+use Rattle.item_tables.specs.declared.class.SignClass.{SignClass}
+use Rattle.item_tables.specs.declared.class.SignClass.TheVariants as signs
+use Rattle.item_tables.specs.declared.class.Keyword.TheVariants as keywords
+use Rattle.item_tables.specs.declared.class.Word.TheVariants as words
+use Rattle.item_tables.specs.declared.walk_state.Item.TheVariants as items
+use Rattle.item_tables.specs.declared.walk_state.Part.TheVariants as parts
+use Rattle.item_tables.specs.declared.walk_state.WalkState.{WalkState}
+use Rattle.item_tables.specs.declared.walk_state.Spot.TheVariants as spots
 
 -- ---- walks over all trees
 

@@ -11,9 +11,9 @@ use Rattle.declarations.specs.Parameter.{LeadsTo}
 use Rattle.declarations.specs.Reader.{Finds, Sticks, classes_in}
 use Rattle.declarations.specs.Signs.{BeginsWith}
 use Rattle.declarations.specs.TypePath.{IsElement}
-use Rattle.declarations.specs.declared.class.SignClass.{SignClass}
-use Rattle.declarations.specs.declared.class.SignClass.TheVariants as signs
-use Rattle.declarations.specs.rules.Classes.{is}
+use Rattle.item_tables.specs.declared.class.SignClass.{SignClass}
+use Rattle.item_tables.specs.declared.class.SignClass.TheVariants as signs
+use Rattle.item_tables.specs.Classes.{is}
 use Rattle.declarations.specs.rules.Names.{G, Rest, comma, one}
 use Rattle.declarations.specs.rules.Paths as rule
 use Rattle.declarations.specs.rules.Rules.{rules}

@@ -9,7 +9,7 @@ use Rattle.declarations.proofs.ReadingLemmas.{split_only}
 use Rattle.declarations.proofs.WalkLemmas.{after, walk-cons}
 use Rattle.declarations.specs.Fault.{first_extent, extent_at}
 use Rattle.declarations.specs.Forms.{IsFrom, AreAttributes, AreBounds, IsType}
-use Rattle.declarations.specs.Grammar.{step, ends}
+use Rattle.item_tables.specs.Grammar.{step, ends}
 use Rattle.declarations.specs.Param.{EndsElement, Fails, HasBounds, HasDefault, HasName, HasNo, HasSign, IsBack}
 use Rattle.declarations.specs.Param.{is_constant, IsParamAt, IsPredicateAt, IsWord, MayHave, MustHave, ParamTrees}
 use Rattle.declarations.specs.Param.{PredicateTrees, ReadsConstant, stands, left_out, comma, last, one_sign}
@@ -17,16 +17,16 @@ use Rattle.declarations.specs.Param.{negative, of_type}
 use Rattle.declarations.specs.Reading.{Reads, FaultAt}
 use Rattle.declarations.specs.Signs.{BeginsWith, Sign, signs, classes_of, trees_of}
 use Rattle.declarations.specs.Walk.{walk}
-use Rattle.declarations.specs.declared.class.SignClass.{SignClass}
-use Rattle.declarations.specs.declared.class.SignClass.TheVariants as classes
-use Rattle.declarations.specs.declared.class.Keyword.TheVariants as keywords
+use Rattle.item_tables.specs.declared.class.SignClass.{SignClass}
+use Rattle.item_tables.specs.declared.class.SignClass.TheVariants as classes
+use Rattle.item_tables.specs.declared.class.Keyword.TheVariants as keywords
 use Rattle.declarations.specs.declared.generics.ParamKind.{ParamKind}
 use Rattle.declarations.specs.declared.generics.ParamKind.TheVariants as kinds
-use Rattle.declarations.specs.declared.walk_state.Item.TheVariants as items
-use Rattle.declarations.specs.declared.walk_state.WalkState.{WalkState}
-use Rattle.declarations.specs.declared.walk_state.Continuation.TheVariants as rules
-use Rattle.declarations.specs.declared.walk_state.State.TheVariants as states
-use Rattle.declarations.specs.declared.types.TypeState.TheVariants as types
+use Rattle.item_tables.specs.declared.walk_state.Item.TheVariants as items
+use Rattle.item_tables.specs.declared.walk_state.WalkState.{WalkState}
+use Rattle.item_tables.specs.declared.walk_state.Continuation.TheVariants as rules
+use Rattle.item_tables.specs.declared.walk_state.State.TheVariants as states
+use Rattle.item_tables.specs.declared.types.TypeState.TheVariants as types
 
 -- ---- at most one part can be read
 

@@ -22,22 +22,22 @@ use Rattle.declarations.specs.Parameter.{front_of, left_of}
 use Rattle.declarations.specs.Reader.{Finds, ReadsRule, Sticks, classes_in}
 use Rattle.declarations.specs.Reading.{FaultAt, IsOnly, Reads, StopsAt}
 use Rattle.declarations.specs.Signs.{BeginsWith, trees_of}
-use Rattle.declarations.specs.declared.class.SignClass.{SignClass}
-use Rattle.declarations.specs.declared.class.SignClass.TheVariants as signs
-use Rattle.declarations.specs.declared.class.Keyword.TheVariants as keywords
-use Rattle.declarations.specs.declared.class.Word.TheVariants as words
+use Rattle.item_tables.specs.declared.class.SignClass.{SignClass}
+use Rattle.item_tables.specs.declared.class.SignClass.TheVariants as signs
+use Rattle.item_tables.specs.declared.class.Keyword.TheVariants as keywords
+use Rattle.item_tables.specs.declared.class.Word.TheVariants as words
 use Rattle.declarations.specs.declared.parameter.Parameter.{Parameter}
 use Rattle.declarations.specs.declared.parameter.ParameterKind.{ParameterKind}
 use Rattle.declarations.specs.declared.parameter.ParameterKind.TheVariants as kinds
 use Rattle.declarations.specs.declared.parameter.Named.{Named}
 use Rattle.declarations.specs.declared.parameter.Shape.{Shape}
 use Rattle.declarations.specs.declared.parameter.Shape.TheVariants as shapes
-use Rattle.declarations.specs.declared.walk_state.Part.TheVariants as parts
-use Rattle.declarations.specs.declared.walk_state.Continuation.TheVariants as places
-use Rattle.declarations.specs.declared.walk_state.Spot.TheVariants as spots
-use Rattle.declarations.specs.declared.walk_state.State.TheVariants as states
-use Rattle.declarations.specs.declared.types.TypeState.TheVariants as types
-use Rattle.declarations.specs.rules.Classes.{is, keyword, opens}
+use Rattle.item_tables.specs.declared.walk_state.Part.TheVariants as parts
+use Rattle.item_tables.specs.declared.walk_state.Continuation.TheVariants as places
+use Rattle.item_tables.specs.declared.walk_state.Spot.TheVariants as spots
+use Rattle.item_tables.specs.declared.walk_state.State.TheVariants as states
+use Rattle.item_tables.specs.declared.types.TypeState.TheVariants as types
+use Rattle.item_tables.specs.Classes.{is, keyword, opens}
 use Rattle.declarations.specs.rules.Names.{G, Label, Named as NamedPart, OfType, Outside}
 use Rattle.declarations.specs.rules.Names.{Parameter as ParameterPart, Range}
 use Rattle.declarations.specs.rules.Names.{Rest, key, one}

@@ -1,27 +1,27 @@
 -- Where the parts of an item, of a field and of a variant end.
 use Rattle.std.proofs.Common.{◌≡◌, refl, inl, inr, ap, ℕ, true, false, Option, Some, None, ◌∙◌}
 use Rattle.declarations.proofs.CutLemmas.{Takes, Beside}
-use Rattle.declarations.specs.Grammar.{step, ends, after_attribute as attributed_shift, begin, else_type, type_at}
-use Rattle.declarations.specs.Grammar.{after_range}
-use Rattle.declarations.specs.Grammar.{spot_type}
-use Rattle.declarations.specs.TypeStep.{step_of}
-use Rattle.declarations.specs.declared.class.SignClass.{SignClass}
-use Rattle.declarations.specs.declared.class.SignClass.TheVariants as signs
-use Rattle.declarations.specs.declared.class.Keyword.TheVariants as keywords
-use Rattle.declarations.specs.declared.walk_state.Item.{Item}
-use Rattle.declarations.specs.declared.walk_state.Item.TheVariants as items
-use Rattle.declarations.specs.declared.walk_state.Part.{Part}
-use Rattle.declarations.specs.declared.walk_state.Part.TheVariants as parts
-use Rattle.declarations.specs.declared.walk_state.WalkState.{WalkState}
-use Rattle.declarations.specs.declared.walk_state.Continuation.{Continuation}
-use Rattle.declarations.specs.declared.walk_state.Continuation.TheVariants as rules
-use Rattle.declarations.specs.declared.walk_state.Shift.{Shift}
-use Rattle.declarations.specs.declared.walk_state.Spot.{Spot}
-use Rattle.declarations.specs.declared.walk_state.Spot.TheVariants as spots
-use Rattle.declarations.specs.declared.walk_state.State.TheVariants as states
-use Rattle.declarations.specs.declared.walk_state.TypeStart.{TypeStart}
-use Rattle.declarations.specs.declared.types.TypeState.{TypeState}
-use Rattle.declarations.specs.declared.types.TypeStep.{TypeStep}
+use Rattle.item_tables.specs.Grammar.{step, ends, after_attribute as attributed_shift, begin, else_type, type_at}
+use Rattle.item_tables.specs.Grammar.{after_range}
+use Rattle.item_tables.specs.Grammar.{spot_type}
+use Rattle.item_tables.specs.TypeStep.{step_of}
+use Rattle.item_tables.specs.declared.class.SignClass.{SignClass}
+use Rattle.item_tables.specs.declared.class.SignClass.TheVariants as signs
+use Rattle.item_tables.specs.declared.class.Keyword.TheVariants as keywords
+use Rattle.item_tables.specs.declared.walk_state.Item.{Item}
+use Rattle.item_tables.specs.declared.walk_state.Item.TheVariants as items
+use Rattle.item_tables.specs.declared.walk_state.Part.{Part}
+use Rattle.item_tables.specs.declared.walk_state.Part.TheVariants as parts
+use Rattle.item_tables.specs.declared.walk_state.WalkState.{WalkState}
+use Rattle.item_tables.specs.declared.walk_state.Continuation.{Continuation}
+use Rattle.item_tables.specs.declared.walk_state.Continuation.TheVariants as rules
+use Rattle.item_tables.specs.declared.walk_state.Shift.{Shift}
+use Rattle.item_tables.specs.declared.walk_state.Spot.{Spot}
+use Rattle.item_tables.specs.declared.walk_state.Spot.TheVariants as spots
+use Rattle.item_tables.specs.declared.walk_state.State.TheVariants as states
+use Rattle.item_tables.specs.declared.walk_state.TypeStart.{TypeStart}
+use Rattle.item_tables.specs.declared.types.TypeState.{TypeState}
+use Rattle.item_tables.specs.declared.types.TypeStep.{TypeStep}
 
 abbrev pub at : Item → Spot → WalkState
 at item spot = record { item = item; rule = rules.Alone; state = states.At spot; depth = 0 }

@@ -5,7 +5,7 @@ use Rattle.pm_stream.specs.declared.stream.TokenTree.{TokenTree}
 use Rattle.declarations.specs.Forms.{AreAttributes, AreGenerics, IsVisibility, IsWhere}
 use Rattle.declarations.specs.Reader.{Finds}
 use Rattle.declarations.specs.Reading.{IsOnly, Reads}
-use Rattle.declarations.specs.declared.class.SignClass.{SignClass}
+use Rattle.item_tables.specs.declared.class.SignClass.{SignClass}
 use Rattle.declarations.specs.rules.Names.{G}
 use Rattle.declarations.specs.rules.Parts.{attributes, generics, visibility, where_clause}
 use Rattle.declarations.specs.rules.Pieces.{ByRule, ReadsBy}

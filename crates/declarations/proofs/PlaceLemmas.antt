@@ -4,30 +4,30 @@ use Rattle.std.proofs.Common.{◌++◌, Some, arith}
 use Rattle.std.proofs.lemmas.Bool.Decides.{nat_tests}
 use Rattle.declarations.proofs.WalkLemmas.{after, walk-cons}
 use Rattle.declarations.specs.Walk.{walk}
-use Rattle.declarations.specs.Grammar.{step, ends, range_state}
-use Rattle.declarations.specs.declared.types.Turn.TheVariants as turns
-use Rattle.declarations.specs.declared.class.SignClass.{SignClass}
-use Rattle.declarations.specs.declared.class.SignClass.TheVariants.{Literal, Less, Greater, Parentheses, Colon}
-use Rattle.declarations.specs.declared.class.SignClass.TheVariants.{Semicolon}
-use Rattle.declarations.specs.declared.class.SignClass.TheVariants.{Braces, Brackets, Lifetime, Bar, Comma, Dot, Word}
-use Rattle.declarations.specs.declared.class.SignClass.TheVariants.{Exclamation, Hash, Keyword, Restriction}
-use Rattle.declarations.specs.declared.class.Keyword.TheVariants as keywords
-use Rattle.declarations.specs.declared.class.Word.TheVariants as words
-use Rattle.declarations.specs.declared.walk_state.Front.{Front}
-use Rattle.declarations.specs.declared.walk_state.Front.TheVariants as fronts
-use Rattle.declarations.specs.declared.walk_state.Item.{Item}
-use Rattle.declarations.specs.declared.walk_state.Item.TheVariants as items
-use Rattle.declarations.specs.declared.walk_state.Part.{Part}
-use Rattle.declarations.specs.declared.walk_state.Part.TheVariants as parts
-use Rattle.declarations.specs.declared.walk_state.WalkState.{WalkState}
-use Rattle.declarations.specs.declared.walk_state.Continuation.{Continuation}
-use Rattle.declarations.specs.declared.walk_state.Continuation.TheVariants as places
-use Rattle.declarations.specs.declared.walk_state.Spot.{Spot}
-use Rattle.declarations.specs.declared.walk_state.Spot.TheVariants as spots
-use Rattle.declarations.specs.declared.walk_state.State.{State}
-use Rattle.declarations.specs.declared.walk_state.State.TheVariants as states
-use Rattle.declarations.specs.declared.types.TypeState.{TypeState}
-use Rattle.declarations.specs.declared.types.TypeState.TheVariants as types
+use Rattle.item_tables.specs.Grammar.{step, ends, range_state}
+use Rattle.item_tables.specs.declared.types.Turn.TheVariants as turns
+use Rattle.item_tables.specs.declared.class.SignClass.{SignClass}
+use Rattle.item_tables.specs.declared.class.SignClass.TheVariants.{Literal, Less, Greater, Parentheses, Colon}
+use Rattle.item_tables.specs.declared.class.SignClass.TheVariants.{Semicolon}
+use Rattle.item_tables.specs.declared.class.SignClass.TheVariants.{Braces, Brackets, Lifetime, Bar, Comma, Dot, Word}
+use Rattle.item_tables.specs.declared.class.SignClass.TheVariants.{Exclamation, Hash, Keyword, Restriction}
+use Rattle.item_tables.specs.declared.class.Keyword.TheVariants as keywords
+use Rattle.item_tables.specs.declared.class.Word.TheVariants as words
+use Rattle.item_tables.specs.declared.walk_state.Front.{Front}
+use Rattle.item_tables.specs.declared.walk_state.Front.TheVariants as fronts
+use Rattle.item_tables.specs.declared.walk_state.Item.{Item}
+use Rattle.item_tables.specs.declared.walk_state.Item.TheVariants as items
+use Rattle.item_tables.specs.declared.walk_state.Part.{Part}
+use Rattle.item_tables.specs.declared.walk_state.Part.TheVariants as parts
+use Rattle.item_tables.specs.declared.walk_state.WalkState.{WalkState}
+use Rattle.item_tables.specs.declared.walk_state.Continuation.{Continuation}
+use Rattle.item_tables.specs.declared.walk_state.Continuation.TheVariants as places
+use Rattle.item_tables.specs.declared.walk_state.Spot.{Spot}
+use Rattle.item_tables.specs.declared.walk_state.Spot.TheVariants as spots
+use Rattle.item_tables.specs.declared.walk_state.State.{State}
+use Rattle.item_tables.specs.declared.walk_state.State.TheVariants as states
+use Rattle.item_tables.specs.declared.types.TypeState.{TypeState}
+use Rattle.item_tables.specs.declared.types.TypeState.TheVariants as types
 
 -- some signs lead from the state to one in which the walk may end
 pub record GoesOn (place : WalkState) : Type 0 where

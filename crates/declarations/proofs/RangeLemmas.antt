@@ -5,27 +5,27 @@ use Rattle.std.proofs.lemmas.Bool.{both_ways, false_from_ne_true}
 use Rattle.grammars.specs.Grammar.{To}
 use Rattle.grammars.specs.Machine.{is_nullable, only, or_else}
 use Rattle.grammars.proofs.FlatLemmas.{and_more, enter, flat, move}
-use Rattle.declarations.specs.Grammar.{after_angle, else_follow, follow, range_state, after_range, shift_state, step}
-use Rattle.declarations.specs.TypeStep.{may_end, step_of}
-use Rattle.declarations.specs.rules.Classes.{is}
+use Rattle.item_tables.specs.Grammar.{after_angle, else_follow, follow, range_state, after_range, shift_state, step}
+use Rattle.item_tables.specs.TypeStep.{may_end, step_of}
+use Rattle.item_tables.specs.Classes.{is}
 use Rattle.declarations.specs.rules.Names.{G, Inside, Name, Outside, Range}
 use Rattle.declarations.specs.rules.Rules.{rules}
 use Rattle.declarations.specs.rules.Types.{range}
-use Rattle.declarations.specs.declared.class.SignClass.{SignClass}
-use Rattle.declarations.specs.declared.class.SignClass.TheVariants as signs
-use Rattle.declarations.specs.declared.class.Keyword.TheVariants as keywords
-use Rattle.declarations.specs.declared.class.Word.TheVariants as words
-use Rattle.declarations.specs.declared.walk_state.Item.{Item}
-use Rattle.declarations.specs.declared.walk_state.Item.TheVariants as items
-use Rattle.declarations.specs.declared.walk_state.WalkState.{WalkState}
-use Rattle.declarations.specs.declared.walk_state.Continuation.{Continuation}
-use Rattle.declarations.specs.declared.walk_state.Continuation.TheVariants as places
-use Rattle.declarations.specs.declared.walk_state.State.TheVariants as states
-use Rattle.declarations.specs.declared.types.Turn.{Turn}
-use Rattle.declarations.specs.declared.types.Turn.TheVariants as turns
-use Rattle.declarations.specs.declared.types.TypeState.{TypeState}
-use Rattle.declarations.specs.declared.types.TypeState.TheVariants as types
-use Rattle.declarations.specs.declared.types.TypeStep.{TypeStep}
+use Rattle.item_tables.specs.declared.class.SignClass.{SignClass}
+use Rattle.item_tables.specs.declared.class.SignClass.TheVariants as signs
+use Rattle.item_tables.specs.declared.class.Keyword.TheVariants as keywords
+use Rattle.item_tables.specs.declared.class.Word.TheVariants as words
+use Rattle.item_tables.specs.declared.walk_state.Item.{Item}
+use Rattle.item_tables.specs.declared.walk_state.Item.TheVariants as items
+use Rattle.item_tables.specs.declared.walk_state.WalkState.{WalkState}
+use Rattle.item_tables.specs.declared.walk_state.Continuation.{Continuation}
+use Rattle.item_tables.specs.declared.walk_state.Continuation.TheVariants as places
+use Rattle.item_tables.specs.declared.walk_state.State.TheVariants as states
+use Rattle.item_tables.specs.declared.types.Turn.{Turn}
+use Rattle.item_tables.specs.declared.types.Turn.TheVariants as turns
+use Rattle.item_tables.specs.declared.types.TypeState.{TypeState}
+use Rattle.item_tables.specs.declared.types.TypeState.TheVariants as types
+use Rattle.item_tables.specs.declared.types.TypeStep.{TypeStep}
 use Rattle.declarations.proofs.StackLemmas.{after_brackets, brackets_left, comes_inside, left_after}
 use Rattle.declarations.proofs.StackLemmas.{range_left, stack_after, rule_left, state_left}
 use Rattle.declarations.proofs.AgreeLemmas.{Agrees}

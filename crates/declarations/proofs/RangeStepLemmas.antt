@@ -2,22 +2,22 @@
 use Rattle.std.proofs.Common.{◌≡◌, refl, sym, ◌∙◌, ap, ℕ, ◌+◌, ◌≤◌, ◌==◌, Bool, true, false, ◌&&◌, List}
 use Rattle.std.proofs.Common.{Option, Some, None, length, arith, if◌then◌else◌}
 use Rattle.pm_stream.specs.declared.stream.TokenTree.{TokenTree}
-use Rattle.declarations.specs.Grammar.{after_angle, else_follow, ends, follow, range_state, after_range, shift_state}
-use Rattle.declarations.specs.Grammar.{step}
-use Rattle.declarations.specs.Grammar.{depth_after}
+use Rattle.item_tables.specs.Grammar.{after_angle, else_follow, ends, follow, range_state, after_range, shift_state}
+use Rattle.item_tables.specs.Grammar.{step}
+use Rattle.item_tables.specs.Grammar.{depth_after}
 use Rattle.declarations.specs.Range.{in_range}
 use Rattle.declarations.specs.Reading.{StopsAt, Walked}
 use Rattle.declarations.specs.Signs.{BeginsWith, classes_of, signs}
-use Rattle.declarations.specs.TypeStep.{may_end, step_of}
+use Rattle.item_tables.specs.TypeStep.{may_end, step_of}
 use Rattle.declarations.specs.Walk.{Stops}
-use Rattle.declarations.specs.declared.class.SignClass.{SignClass}
-use Rattle.declarations.specs.declared.walk_state.Item.TheVariants as items
-use Rattle.declarations.specs.declared.walk_state.Continuation.TheVariants as rules
-use Rattle.declarations.specs.declared.walk_state.State.TheVariants as states
-use Rattle.declarations.specs.declared.types.Turn.{Turn}
-use Rattle.declarations.specs.declared.types.Turn.TheVariants as turns
-use Rattle.declarations.specs.declared.types.TypeState.{TypeState}
-use Rattle.declarations.specs.declared.types.TypeStep.{TypeStep}
+use Rattle.item_tables.specs.declared.class.SignClass.{SignClass}
+use Rattle.item_tables.specs.declared.walk_state.Item.TheVariants as items
+use Rattle.item_tables.specs.declared.walk_state.Continuation.TheVariants as rules
+use Rattle.item_tables.specs.declared.walk_state.State.TheVariants as states
+use Rattle.item_tables.specs.declared.types.Turn.{Turn}
+use Rattle.item_tables.specs.declared.types.Turn.TheVariants as turns
+use Rattle.item_tables.specs.declared.types.TypeState.{TypeState}
+use Rattle.item_tables.specs.declared.types.TypeStep.{TypeStep}
 use Rattle.declarations.proofs.ReadingLemmas.{walked-more, walked-none}
 
 -- ---- one step

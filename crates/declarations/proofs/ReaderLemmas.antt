@@ -16,7 +16,7 @@ use Rattle.pm_stream.specs.declared.stream.TokenTree.{TokenTree}
 use Rattle.declarations.specs.Fault.{extent_at, first_extent}
 use Rattle.declarations.specs.Signs.{BeginsWith, classes_of, signs, trees_of}
 use Rattle.declarations.specs.Reader.{Finds, Remains, ReadsRule, Sticks, classes_in}
-use Rattle.declarations.specs.declared.class.SignClass.{SignClass}
+use Rattle.item_tables.specs.declared.class.SignClass.{SignClass}
 use Rattle.declarations.specs.rules.Names.{G, Label, Name}
 use Rattle.declarations.specs.rules.Rules.{rules}
 use Rattle.declarations.proofs.ReadingLemmas.{trees-append}

@@ -13,10 +13,10 @@ use Rattle.declarations.proofs.PlaceLemmas.{goes_on}
 use Rattle.declarations.specs.Reading.{Reads, FaultAt, IsOnly, StopsBefore, Walked, first_name, name_of, name_so_far}
 use Rattle.declarations.specs.Signs.{Sign, signs, classes_of, trees_of, BeginsWith}
 use Rattle.declarations.specs.Forms.{IsFrom}
-use Rattle.declarations.specs.Grammar.{step, ends, names}
+use Rattle.item_tables.specs.Grammar.{step, ends, names}
 use Rattle.declarations.specs.Walk.{walk, Stops}
-use Rattle.declarations.specs.declared.class.SignClass.{SignClass}
-use Rattle.declarations.specs.declared.walk_state.WalkState.{WalkState}
+use Rattle.item_tables.specs.declared.class.SignClass.{SignClass}
+use Rattle.item_tables.specs.declared.walk_state.WalkState.{WalkState}
 
 pub classes-append : (front back : List Sign) → classes_of (front ++ back) ≡ classes_of front ++ classes_of back
 classes-append [] back = refl

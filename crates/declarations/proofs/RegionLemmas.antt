@@ -5,28 +5,28 @@ use Rattle.std.proofs.lemmas.Bool.{and_parts, and_right}
 use Rattle.std.proofs.lemmas.Bool.Decides.{nat_tests}
 use Rattle.declarations.proofs.CutLemmas.{Takes, Beside}
 use Rattle.declarations.proofs.PartLemmas.{at, range}
-use Rattle.declarations.specs.Grammar.{step, ends, shift_state, else_type, follow, rule_ends, range_state, depth_after}
-use Rattle.declarations.specs.Grammar.{after_angle, after_range}
-use Rattle.declarations.specs.Header.{body, closing, is_alone}
-use Rattle.declarations.specs.TypeStep.{step_of, may_end}
-use Rattle.declarations.specs.declared.class.SignClass.{SignClass}
-use Rattle.declarations.specs.declared.class.SignClass.TheVariants as signs
-use Rattle.declarations.specs.declared.class.Keyword.TheVariants as keywords
-use Rattle.declarations.specs.declared.walk_state.Item.{Item}
-use Rattle.declarations.specs.declared.walk_state.Item.TheVariants as items
-use Rattle.declarations.specs.declared.walk_state.Part.TheVariants as parts
-use Rattle.declarations.specs.declared.walk_state.WalkState.{WalkState}
-use Rattle.declarations.specs.declared.walk_state.Continuation.{Continuation}
-use Rattle.declarations.specs.declared.walk_state.Continuation.TheVariants as rules
-use Rattle.declarations.specs.declared.walk_state.Shift.{Shift}
-use Rattle.declarations.specs.declared.walk_state.Spot.{Spot}
-use Rattle.declarations.specs.declared.walk_state.Spot.TheVariants as spots
-use Rattle.declarations.specs.declared.walk_state.State.TheVariants as states
-use Rattle.declarations.specs.declared.types.Turn.{Turn}
-use Rattle.declarations.specs.declared.types.Turn.TheVariants as turns
-use Rattle.declarations.specs.declared.types.TypeState.{TypeState}
-use Rattle.declarations.specs.declared.types.TypeState.TheVariants as types
-use Rattle.declarations.specs.declared.types.TypeStep.{TypeStep}
+use Rattle.item_tables.specs.Grammar.{step, ends, shift_state, else_type, follow, rule_ends, range_state, depth_after}
+use Rattle.item_tables.specs.Grammar.{after_angle, after_range}
+use Rattle.item_tables.specs.Header.{body, closing, is_alone}
+use Rattle.item_tables.specs.TypeStep.{step_of, may_end}
+use Rattle.item_tables.specs.declared.class.SignClass.{SignClass}
+use Rattle.item_tables.specs.declared.class.SignClass.TheVariants as signs
+use Rattle.item_tables.specs.declared.class.Keyword.TheVariants as keywords
+use Rattle.item_tables.specs.declared.walk_state.Item.{Item}
+use Rattle.item_tables.specs.declared.walk_state.Item.TheVariants as items
+use Rattle.item_tables.specs.declared.walk_state.Part.TheVariants as parts
+use Rattle.item_tables.specs.declared.walk_state.WalkState.{WalkState}
+use Rattle.item_tables.specs.declared.walk_state.Continuation.{Continuation}
+use Rattle.item_tables.specs.declared.walk_state.Continuation.TheVariants as rules
+use Rattle.item_tables.specs.declared.walk_state.Shift.{Shift}
+use Rattle.item_tables.specs.declared.walk_state.Spot.{Spot}
+use Rattle.item_tables.specs.declared.walk_state.Spot.TheVariants as spots
+use Rattle.item_tables.specs.declared.walk_state.State.TheVariants as states
+use Rattle.item_tables.specs.declared.types.Turn.{Turn}
+use Rattle.item_tables.specs.declared.types.Turn.TheVariants as turns
+use Rattle.item_tables.specs.declared.types.TypeState.{TypeState}
+use Rattle.item_tables.specs.declared.types.TypeState.TheVariants as types
+use Rattle.item_tables.specs.declared.types.TypeStep.{TypeStep}
 
 -- the item that generic parameters are in
 pub data Declared : Type 0 where

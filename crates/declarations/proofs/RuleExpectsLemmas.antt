@@ -20,7 +20,7 @@ use Rattle.declarations.specs.Reading.{FaultAt, Reads, StopsBefore}
 use Rattle.declarations.specs.Signs.{classes_of, signs}
 use Rattle.declarations.specs.Walk.{IsFront}
 use Rattle.declarations.specs.Whole.{IsWhole}
-use Rattle.declarations.specs.declared.class.SignClass.{SignClass}
+use Rattle.item_tables.specs.declared.class.SignClass.{SignClass}
 use Rattle.declarations.specs.declared.expected.Expected.{Expected}
 use Rattle.declarations.specs.rules.Names.{G, Label, Name}
 use Rattle.declarations.specs.rules.Pieces.{ByRule}

@@ -15,7 +15,7 @@ use Rattle.declarations.specs.Reader.{Finds, Sticks, classes_in}
 use Rattle.declarations.specs.Reading.{FaultAt, IsOnly, Reads, StopsBefore}
 use Rattle.declarations.specs.Signs.{Sign, classes_of, signs, trees_of}
 use Rattle.declarations.specs.Walk.{IsFront, IsWalk, Stops, walk}
-use Rattle.declarations.specs.declared.class.SignClass.{SignClass}
+use Rattle.item_tables.specs.declared.class.SignClass.{SignClass}
 use Rattle.declarations.specs.rules.Names.{G, Label, Name}
 use Rattle.declarations.specs.rules.Pieces.{ByRule}
 use Rattle.declarations.specs.rules.Rules.{follows, rules}

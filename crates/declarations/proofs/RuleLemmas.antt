@@ -7,7 +7,7 @@ use Rattle.grammars.specs.Deterministic.{IsStart, IsWellFormed}
 use Rattle.grammars.specs.Tests.{is_deterministic, is_productive}
 use Rattle.grammars.proofs.SoundLemmas.{ReadsOf, run_sound}
 use Rattle.grammars.proofs.TestLemmas.{alive_holds, clear_holds}
-use Rattle.declarations.specs.rules.Classes.{any, every}
+use Rattle.item_tables.specs.Classes.{any, every}
 use Rattle.declarations.specs.rules.Names.{G, Inside, Label, Name, Outside, Range, Target, Expression, ExpressionOpen}
 use Rattle.declarations.specs.rules.Names.{ExpressionWhole, ExpressionLess, ExpressionDot, Closure, Cast, CastWhole}
 use Rattle.declarations.specs.rules.Names.{Function, Qualified, Async, Constant, Static, Alias, Struct, Enum, Union}
@@ -15,11 +15,11 @@ use Rattle.declarations.specs.rules.Names.{Trait}
 use Rattle.declarations.specs.rules.Names.{Impl, Module, Path, Use, UsePath, Call}
 use Rattle.declarations.specs.rules.Names.{AfterArguments, AfterName, AfterSeparator}
 use Rattle.declarations.specs.rules.Rules.{follows, rules}
-use Rattle.declarations.specs.declared.class.SignClass.{SignClass}
-use Rattle.declarations.specs.declared.class.SignClass.TheVariants as signs
-use Rattle.declarations.specs.declared.class.Keyword.TheVariants as keywords
-use Rattle.declarations.specs.declared.class.Word.TheVariants as words
-use Rattle.declarations.specs.declared.types.TypeState.TheVariants as types
+use Rattle.item_tables.specs.declared.class.SignClass.{SignClass}
+use Rattle.item_tables.specs.declared.class.SignClass.TheVariants as signs
+use Rattle.item_tables.specs.declared.class.Keyword.TheVariants as keywords
+use Rattle.item_tables.specs.declared.class.Word.TheVariants as words
+use Rattle.item_tables.specs.declared.types.TypeState.TheVariants as types
 use Rattle.declarations.proofs.ClassLemmas.{any_passes, every_holds}
 
 deterministic : (n : Name) → is_deterministic every follows (rules n) (follows n) ≡ true

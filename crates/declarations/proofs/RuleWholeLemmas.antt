@@ -13,7 +13,7 @@ use Rattle.declarations.specs.Reading.{FaultAt, StopsBefore}
 use Rattle.declarations.specs.Signs.{classes_of, signs, trees_of}
 use Rattle.declarations.specs.Walk.{IsFront}
 use Rattle.declarations.specs.Whole.{IsWhole, ReadsAll}
-use Rattle.declarations.specs.declared.class.SignClass.{SignClass}
+use Rattle.item_tables.specs.declared.class.SignClass.{SignClass}
 use Rattle.declarations.specs.rules.Names.{G}
 use Rattle.declarations.specs.rules.Pieces.{ByRule}
 use Rattle.declarations.specs.rules.Rules.{follows, rules}

@@ -16,8 +16,8 @@ use Rattle.declarations.specs.Signs.{classes_of, trees_of}
 use Rattle.declarations.specs.Bare.{innermost, innermost_trees}
 use Rattle.declarations.specs.Signs.{held_class, is_pub, is_visibility, may_restrict, restricts, restricts_in}
 use Rattle.declarations.specs.Signs.{unseen_class}
-use Rattle.declarations.specs.declared.class.SignClass.{SignClass}
-use Rattle.declarations.specs.declared.class.SignClass.TheVariants as classes
+use Rattle.item_tables.specs.declared.class.SignClass.{SignClass}
+use Rattle.item_tables.specs.declared.class.SignClass.TheVariants as classes
 
 -- the signs of trees, if it is known whether the first two trees are one sign
 abbrev pub pair_signs : Option SignClass → TokenTree → TokenTree → List TokenTree → List Sign

@@ -15,9 +15,9 @@ use Rattle.declarations.specs.Signs.{Sign, signs, class_or_name, group_class, he
 use Rattle.declarations.specs.Signs.{is_truth, is_visibility, is_written, keyword_of, keyword_or_word, mark_class}
 use Rattle.declarations.specs.Signs.{marks_class, name_class, operand_class, operator_class, or_else, pair_class}
 use Rattle.declarations.specs.Signs.{joint_class, loose_class, parentheses_class, path_class, tree_class, unseen_class}
-use Rattle.declarations.specs.declared.class.SignClass.{SignClass}
-use Rattle.declarations.specs.declared.class.Keyword.{Keyword}
-use Rattle.declarations.specs.declared.class.SignClass.TheVariants as signs
+use Rattle.item_tables.specs.declared.class.SignClass.{SignClass}
+use Rattle.item_tables.specs.declared.class.Keyword.{Keyword}
+use Rattle.item_tables.specs.declared.class.SignClass.TheVariants as signs
 
 -- the kind of trees that a sign has
 pub data Sort : Type 0 where

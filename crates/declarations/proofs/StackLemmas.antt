@@ -3,8 +3,8 @@ use Rattle.std.proofs.Common.{ℕ, zero, suc, Bool, true, false, List, [], ◌�
 use Rattle.std.proofs.Common.{if◌then◌else◌}
 use Rattle.grammars.specs.Grammar.{To, Either, Many, further, perhaps}
 use Rattle.grammars.proofs.FlatLemmas.{flat, flat_all}
-use Rattle.declarations.specs.Header.{has_where}
-use Rattle.declarations.specs.rules.Classes.{is}
+use Rattle.item_tables.specs.Header.{has_where}
+use Rattle.item_tables.specs.Classes.{is}
 use Rattle.declarations.specs.rules.Names.{Context, Inside, Outside, Target, Name, Range, ExpressionOpen, Expression}
 use Rattle.declarations.specs.rules.Names.{ExpressionWhole, CastWhole, Closure, Call, Static, Use, G, one, seq, word}
 use Rattle.declarations.specs.rules.Names.{comma, comma_list}
@@ -16,24 +16,24 @@ use Rattle.declarations.specs.rules.Fronts as fronts_of
 use Rattle.declarations.specs.rules.Items as items_of
 use Rattle.declarations.specs.rules.Impls as impls
 use Rattle.declarations.specs.rules.Rules.{rules}
-use Rattle.declarations.specs.declared.class.SignClass.TheVariants as signs
-use Rattle.declarations.specs.declared.class.Word.{Word}
-use Rattle.declarations.specs.declared.class.Word.TheVariants as words
-use Rattle.declarations.specs.declared.walk_state.Front.{Front}
-use Rattle.declarations.specs.declared.walk_state.Front.TheVariants as fronts
-use Rattle.declarations.specs.declared.walk_state.Item.{Item}
-use Rattle.declarations.specs.declared.walk_state.Item.TheVariants as items
-use Rattle.declarations.specs.declared.walk_state.Part.{Part}
-use Rattle.declarations.specs.declared.walk_state.Part.TheVariants as parts
-use Rattle.declarations.specs.declared.walk_state.WalkState.{WalkState}
-use Rattle.declarations.specs.declared.walk_state.Continuation.{Continuation}
-use Rattle.declarations.specs.declared.walk_state.Continuation.TheVariants as places
-use Rattle.declarations.specs.declared.walk_state.Spot.{Spot}
-use Rattle.declarations.specs.declared.walk_state.Spot.TheVariants as spots
-use Rattle.declarations.specs.declared.walk_state.State.{State}
-use Rattle.declarations.specs.declared.walk_state.State.TheVariants as states
-use Rattle.declarations.specs.declared.types.TypeState.{TypeState}
-use Rattle.declarations.specs.declared.types.TypeState.TheVariants as types
+use Rattle.item_tables.specs.declared.class.SignClass.TheVariants as signs
+use Rattle.item_tables.specs.declared.class.Word.{Word}
+use Rattle.item_tables.specs.declared.class.Word.TheVariants as words
+use Rattle.item_tables.specs.declared.walk_state.Front.{Front}
+use Rattle.item_tables.specs.declared.walk_state.Front.TheVariants as fronts
+use Rattle.item_tables.specs.declared.walk_state.Item.{Item}
+use Rattle.item_tables.specs.declared.walk_state.Item.TheVariants as items
+use Rattle.item_tables.specs.declared.walk_state.Part.{Part}
+use Rattle.item_tables.specs.declared.walk_state.Part.TheVariants as parts
+use Rattle.item_tables.specs.declared.walk_state.WalkState.{WalkState}
+use Rattle.item_tables.specs.declared.walk_state.Continuation.{Continuation}
+use Rattle.item_tables.specs.declared.walk_state.Continuation.TheVariants as places
+use Rattle.item_tables.specs.declared.walk_state.Spot.{Spot}
+use Rattle.item_tables.specs.declared.walk_state.Spot.TheVariants as spots
+use Rattle.item_tables.specs.declared.walk_state.State.{State}
+use Rattle.item_tables.specs.declared.walk_state.State.TheVariants as states
+use Rattle.item_tables.specs.declared.types.TypeState.{TypeState}
+use Rattle.item_tables.specs.declared.types.TypeState.TheVariants as types
 
 -- ---- after the parts of an item
 

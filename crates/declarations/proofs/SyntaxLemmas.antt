@@ -15,23 +15,23 @@ use Rattle.pm_token.specs.Leaf.{Name as Written}
 use Rattle.pm_stream.specs.declared.stream.TokenTree.{TokenTree}
 use Rattle.declarations.specs.Expected.{AreSteps, HasSigns, holds, holds_end}
 use Rattle.declarations.specs.Explore.{Explores, Sees}
-use Rattle.declarations.specs.Grammar.{step}
+use Rattle.item_tables.specs.Grammar.{step}
 use Rattle.declarations.specs.Reader.{classes_in}
 use Rattle.declarations.specs.Reading.{Walked}
 use Rattle.declarations.specs.Signs.{BeginsWith, classes_of, signs}
 use Rattle.declarations.specs.Syntax.{admits, guarded_rule, rule_of, start_of, table_of}
 use Rattle.declarations.specs.Walk.{Stops}
-use Rattle.declarations.specs.declared.class.SignClass.{SignClass}
-use Rattle.declarations.specs.declared.class.SignClass.TheVariants as classes
-use Rattle.declarations.specs.declared.class.Keyword.TheVariants as keywords
-use Rattle.declarations.specs.declared.class.Word.TheVariants as words
+use Rattle.item_tables.specs.declared.class.SignClass.{SignClass}
+use Rattle.item_tables.specs.declared.class.SignClass.TheVariants as classes
+use Rattle.item_tables.specs.declared.class.Keyword.TheVariants as keywords
+use Rattle.item_tables.specs.declared.class.Word.TheVariants as words
 use Rattle.declarations.specs.declared.expected.Expected.{Expected}
 use Rattle.declarations.specs.declared.explore.Seen.{Seen}
 use Rattle.declarations.specs.declared.syntax.Guard.{Guard}
 use Rattle.declarations.specs.declared.syntax.Guard.TheVariants as guards
 use Rattle.declarations.specs.declared.syntax.Table.{Table}
 use Rattle.declarations.specs.declared.syntax.Table.TheVariants as tables
-use Rattle.declarations.specs.declared.walk_state.WalkState.{WalkState}
+use Rattle.item_tables.specs.declared.walk_state.WalkState.{WalkState}
 use Rattle.declarations.specs.rules.Names.{G, Label, Name}
 use Rattle.declarations.specs.rules.Rules.{rules}
 use Rattle.declarations.proofs.ExploreLemmas.{first_sign, none_seen}

@@ -9,13 +9,13 @@ use Rattle.grammars.specs.Find.{Found, Past, Stuck, find, front, scan}
 use Rattle.grammars.proofs.FindLemmas.{front_front, scan_step}
 use Rattle.grammars.proofs.FlatLemmas.{flat_all}
 use Rattle.pm_stream.specs.declared.stream.TokenTree.{TokenTree}
-use Rattle.declarations.specs.Grammar.{step}
+use Rattle.item_tables.specs.Grammar.{step}
 use Rattle.declarations.specs.Reader.{Remains, ReadsRule, classes_in}
 use Rattle.declarations.specs.Reading.{StopsAt}
 use Rattle.declarations.specs.Signs.{classes_of, signs}
 use Rattle.declarations.specs.Walk.{Stops}
-use Rattle.declarations.specs.declared.class.SignClass.{SignClass}
-use Rattle.declarations.specs.declared.walk_state.WalkState.{WalkState}
+use Rattle.item_tables.specs.declared.class.SignClass.{SignClass}
+use Rattle.item_tables.specs.declared.walk_state.WalkState.{WalkState}
 use Rattle.declarations.specs.rules.Names.{G, Label, Name}
 use Rattle.declarations.specs.rules.Rules.{rules}
 use Rattle.declarations.proofs.ReadingLemmas.{classes-append}

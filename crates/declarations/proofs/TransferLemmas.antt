@@ -4,7 +4,7 @@ use Rattle.std.proofs.Common.{List}
 use Rattle.pm_stream.specs.declared.stream.TokenTree.{TokenTree}
 use Rattle.declarations.specs.Reading.{IsOnly, Reads}
 use Rattle.declarations.specs.Signs.{classes_of, signs}
-use Rattle.declarations.specs.declared.class.SignClass.{SignClass}
+use Rattle.item_tables.specs.declared.class.SignClass.{SignClass}
 
 -- ---- forms with the same pieces
 

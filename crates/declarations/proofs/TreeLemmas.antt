@@ -8,7 +8,7 @@ use Rattle.declarations.specs.Parts.{is_mark}
 use Rattle.declarations.specs.Reader.{classes_in}
 use Rattle.declarations.specs.Signs as signs_in
 use Rattle.declarations.specs.Signs.{Sign, signs}
-use Rattle.declarations.specs.declared.class.SignClass.{SignClass}
+use Rattle.item_tables.specs.declared.class.SignClass.{SignClass}
 use Rattle.declarations.specs.rules.Names.{Label, Name as RuleName}
 use Rattle.declarations.proofs.SortLemmas.{FirstTree, IsTree, MayBeGroup, clash, first_tree, group_sort, literals}
 use Rattle.declarations.proofs.SortLemmas.{marks, name_sort, names, one as one_tree, pairs, sort_of, two as two_trees}

@@ -28,17 +28,17 @@ use Rattle.declarations.specs.TypePath.{Goes, HasAngle, HasArguments, HasNext}
 use Rattle.declarations.specs.TypePath.{HasPathParts, HasRound, IsLast, IsSegmentAt, IsStep}
 use Rattle.declarations.specs.TypePath.{IsTypePath, MaySeparate, ReadsStep, Segments, at_first, onward}
 use Rattle.declarations.specs.Whole.{IsWhole}
-use Rattle.declarations.specs.declared.class.SignClass.{SignClass}
-use Rattle.declarations.specs.declared.class.SignClass.TheVariants as signs
-use Rattle.declarations.specs.declared.class.Keyword.TheVariants as keywords
-use Rattle.declarations.specs.declared.class.Word.TheVariants as words
+use Rattle.item_tables.specs.declared.class.SignClass.{SignClass}
+use Rattle.item_tables.specs.declared.class.SignClass.TheVariants as signs
+use Rattle.item_tables.specs.declared.class.Keyword.TheVariants as keywords
+use Rattle.item_tables.specs.declared.class.Word.TheVariants as words
 use Rattle.declarations.specs.declared.type_path.Last.{Last}
 use Rattle.declarations.specs.declared.type_path.PathArguments.{PathArguments}
 use Rattle.declarations.specs.declared.type_path.PathArguments.TheVariants as kinds
 use Rattle.declarations.specs.declared.type_path.Segment.{Segment}
 use Rattle.declarations.specs.declared.type_path.Transition.{Transition}
 use Rattle.declarations.specs.declared.type_path.TypePath.{TypePath}
-use Rattle.declarations.specs.rules.Classes.{is, is_round, opens}
+use Rattle.item_tables.specs.Classes.{is, is_round, opens}
 use Rattle.declarations.specs.rules.Functions.{return_type_rule, with_arrow}
 use Rattle.declarations.specs.rules.Names.{AfterArguments, AfterName, AfterSeparator, G, Label, Name as RuleName}
 use Rattle.declarations.specs.rules.Names.{Path, Returns, one}

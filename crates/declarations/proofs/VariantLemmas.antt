@@ -22,16 +22,16 @@ use Rattle.declarations.specs.Variant.{AreDelimited, HasValue, HasVariantParts, 
 use Rattle.declarations.specs.declared.item.Fields.{Fields}
 use Rattle.declarations.specs.declared.item.Fields.TheVariants as fields
 use Rattle.declarations.specs.declared.variant.Variant.{Variant}
-use Rattle.declarations.specs.Grammar.{step}
+use Rattle.item_tables.specs.Grammar.{step}
 use Rattle.declarations.specs.Item.{IsNameClass}
 use Rattle.declarations.specs.Signs.{Sign, signs, classes_of, name_class, group_class, is_restriction}
 use Rattle.declarations.specs.Signs.{parentheses_class, tree_class}
 use Rattle.declarations.specs.Whole.{ReadsAll}
-use Rattle.declarations.specs.declared.class.SignClass.{SignClass}
-use Rattle.declarations.specs.declared.class.SignClass.TheVariants as signs
-use Rattle.declarations.specs.declared.walk_state.Item.TheVariants as items
-use Rattle.declarations.specs.declared.walk_state.WalkState.{WalkState}
-use Rattle.declarations.specs.declared.walk_state.Spot.TheVariants as spots
+use Rattle.item_tables.specs.declared.class.SignClass.{SignClass}
+use Rattle.item_tables.specs.declared.class.SignClass.TheVariants as signs
+use Rattle.item_tables.specs.declared.walk_state.Item.TheVariants as items
+use Rattle.item_tables.specs.declared.walk_state.WalkState.{WalkState}
+use Rattle.item_tables.specs.declared.walk_state.Spot.TheVariants as spots
 
 -- ---- the name of a variant
 

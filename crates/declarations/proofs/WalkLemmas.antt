@@ -2,7 +2,7 @@
 use Rattle.std.proofs.Common.{◌≡◌, refl, sym, ◌∙◌, ap, subst, Bool, true, false, cond, List, [], ◌∷◌, ◌++◌, Option}
 use Rattle.std.proofs.Common.{Some, None, append_assoc, append-nil}
 use Rattle.declarations.specs.Walk.{walk, Stops, IsWalk, IsFront}
-use Rattle.declarations.specs.declared.class.SignClass.{SignClass}
+use Rattle.item_tables.specs.declared.class.SignClass.{SignClass}
 
 -- a walk that a sign comes before
 abbrev pub onto : SignClass → Option (List SignClass × List SignClass) → Option (List SignClass × List SignClass)

@@ -12,13 +12,13 @@ use Rattle.declarations.proofs.ReadingLemmas.{classes-append}
 use Rattle.declarations.proofs.SignLemmas.{no_signs}
 use Rattle.declarations.specs.Fault.{first_extent, extent_at}
 use Rattle.declarations.specs.Forms.{IsFrom}
-use Rattle.declarations.specs.Grammar.{step, ends}
+use Rattle.item_tables.specs.Grammar.{step, ends}
 use Rattle.declarations.specs.Reading.{FaultAt, StopsBefore, Walked}
 use Rattle.declarations.specs.Signs.{signs, classes_of, trees_of}
 use Rattle.declarations.specs.Walk.{walk, Stops}
 use Rattle.declarations.specs.Whole.{IsWhole, ReadsAll}
-use Rattle.declarations.specs.declared.class.SignClass.{SignClass}
-use Rattle.declarations.specs.declared.walk_state.WalkState.{WalkState}
+use Rattle.item_tables.specs.declared.class.SignClass.{SignClass}
+use Rattle.item_tables.specs.declared.walk_state.WalkState.{WalkState}
 
 -- all trees are read if a walk over them may end
 pub whole_read : {name : Option Name} → (start : WalkState) (trees left : List TokenTree) (place : WalkState)

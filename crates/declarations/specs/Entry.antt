@@ -13,8 +13,8 @@ use Rattle.declarations.specs.List.{IsPastComma}
 use Rattle.declarations.specs.Reader.{Finds, Sticks}
 use Rattle.declarations.specs.Reading.{FaultAt, Reads}
 use Rattle.declarations.specs.Signs.{BeginsWith}
-use Rattle.declarations.specs.declared.class.SignClass.{SignClass}
-use Rattle.declarations.specs.declared.class.SignClass.TheVariants as classes
+use Rattle.item_tables.specs.declared.class.SignClass.{SignClass}
+use Rattle.item_tables.specs.declared.class.SignClass.TheVariants as classes
 use Rattle.declarations.specs.declared.entry.Entry.{Entry}
 use Rattle.declarations.specs.declared.entry.EntryKind.{EntryKind}
 use Rattle.declarations.specs.declared.entry.EntryKind.TheVariants as kinds

@@ -2,14 +2,14 @@
 use Rattle.std.specs.Prelude.{◌≡◌, ℕ, ◌==◌, ◌↔◌, Bool, true, List, [], ◌∷◌, ◌++◌, length, is_some}
 use Rattle.std.specs.Int.{bit_at}
 use Rattle.pm_stream.specs.declared.stream.TokenTree.{TokenTree}
-use Rattle.declarations.specs.Grammar.{ends, step}
+use Rattle.item_tables.specs.Grammar.{ends, step}
 use Rattle.declarations.specs.Signs.{Sign, classes_of, signs, trees_of}
 use Rattle.declarations.specs.Walk.{IsFront}
 use Rattle.declarations.specs.Whole.{IsWhole}
-use Rattle.declarations.specs.declared.class.SignClass.{SignClass}
+use Rattle.item_tables.specs.declared.class.SignClass.{SignClass}
 use Rattle.declarations.specs.declared.expected.Expected.{Expected}
-use Rattle.declarations.specs.declared.walk_state.WalkState.{WalkState}
-use Rattle.declarations.specs.rules.Classes.{code}
+use Rattle.item_tables.specs.declared.walk_state.WalkState.{WalkState}
+use Rattle.item_tables.specs.Classes.{code}
 
 -- whether the class is in the set
 abbrev pub holds : Expected → SignClass → Bool

@@ -8,8 +8,8 @@ use Rattle.declarations.specs.Item.{IsNameClass}
 use Rattle.declarations.specs.Reading.{Reads}
 use Rattle.declarations.specs.Signs.{name_class, tree_class}
 use Rattle.declarations.specs.Whole.{ReadsAll}
-use Rattle.declarations.specs.declared.class.SignClass.{SignClass}
-use Rattle.declarations.specs.declared.class.SignClass.TheVariants as classes
+use Rattle.item_tables.specs.declared.class.SignClass.{SignClass}
+use Rattle.item_tables.specs.declared.class.SignClass.TheVariants as classes
 use Rattle.declarations.specs.declared.field.Field.{Field}
 
 -- the trees are attributes, a visibility and the rest. Attributes and visibility are what their rules read

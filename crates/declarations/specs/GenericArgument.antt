@@ -6,8 +6,8 @@ use Rattle.declarations.specs.List.{BeginsList}
 use Rattle.declarations.specs.Reader.{Finds, Sticks}
 use Rattle.declarations.specs.Reading.{Reads}
 use Rattle.declarations.specs.Signs.{BeginsWith}
-use Rattle.declarations.specs.declared.class.SignClass.{SignClass}
-use Rattle.declarations.specs.declared.class.SignClass.TheVariants as classes
+use Rattle.item_tables.specs.declared.class.SignClass.{SignClass}
+use Rattle.item_tables.specs.declared.class.SignClass.TheVariants as classes
 use Rattle.declarations.specs.declared.fault.Fault.{Fault}
 use Rattle.declarations.specs.declared.generic_argument.ArgumentKind.{ArgumentKind}
 use Rattle.declarations.specs.declared.generic_argument.ArgumentKind.TheVariants as kinds

@@ -10,11 +10,11 @@ use Rattle.declarations.specs.Reader.{classes_in}
 use Rattle.declarations.specs.Reading.{Reads}
 use Rattle.declarations.specs.Signs.{BeginsWith}
 use Rattle.declarations.specs.Whole.{ReadsAll}
-use Rattle.declarations.specs.declared.class.SignClass.{SignClass}
-use Rattle.declarations.specs.declared.class.SignClass.TheVariants as classes
-use Rattle.declarations.specs.declared.class.Keyword.TheVariants as keywords
+use Rattle.item_tables.specs.declared.class.SignClass.{SignClass}
+use Rattle.item_tables.specs.declared.class.SignClass.TheVariants as classes
+use Rattle.item_tables.specs.declared.class.Keyword.TheVariants as keywords
 use Rattle.declarations.specs.declared.implementation.Impl.{Impl}
-use Rattle.declarations.specs.rules.Classes.{is_word, one_of, opens}
+use Rattle.item_tables.specs.Classes.{is_word, one_of, opens}
 use Rattle.declarations.specs.rules.ImplItems as rule
 use Rattle.declarations.specs.rules.Names.{G, key, one}
 use Rattle.declarations.specs.rules.Parts.{attributes, generics, visibility, where_clause}

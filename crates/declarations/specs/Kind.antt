@@ -6,9 +6,9 @@ use Rattle.declarations.specs.Forms.{any_item}
 use Rattle.declarations.specs.Reading.{Walked}
 use Rattle.declarations.specs.declared.any_item.ItemKind.{ItemKind}
 use Rattle.declarations.specs.declared.any_item.ItemKind.TheVariants as kinds
-use Rattle.declarations.specs.declared.walk_state.Item.{Item}
-use Rattle.declarations.specs.declared.walk_state.Item.TheVariants as items
-use Rattle.declarations.specs.declared.walk_state.WalkState.{WalkState}
+use Rattle.item_tables.specs.declared.walk_state.Item.{Item}
+use Rattle.item_tables.specs.declared.walk_state.Item.TheVariants as items
+use Rattle.item_tables.specs.declared.walk_state.WalkState.{WalkState}
 
 abbrev pub kind_of : Item → ItemKind
 kind_of items.Struct = kinds.Struct

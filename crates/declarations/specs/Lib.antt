@@ -1,10 +1,4 @@
-pub mod TypeStep
 pub mod Walk
-pub mod Moves
-pub mod Expression
-pub mod Header
-pub mod Front
-pub mod Grammar
 pub mod Forms
 pub mod Bare
 pub mod Range

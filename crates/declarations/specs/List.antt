@@ -10,7 +10,7 @@ use Rattle.declarations.specs.Field.{IsFieldAt, HasFieldParts, HasTypeParts}
 use Rattle.declarations.specs.Forms.{IsField, IsTupleField, IsVariant}
 use Rattle.declarations.specs.Reading.{Reads, FaultAt}
 use Rattle.declarations.specs.Variant.{IsVariantAt}
-use Rattle.declarations.specs.declared.class.SignClass.{SignClass}
+use Rattle.item_tables.specs.declared.class.SignClass.{SignClass}
 use Rattle.declarations.specs.declared.fault.Fault.{Fault}
 use Rattle.declarations.specs.declared.field.Field.{Field}
 use Rattle.declarations.specs.declared.item.Fields.{Fields}

@@ -1,10 +1,10 @@
 -- The states of the walk over a type or bounds that stand alone.
 use Rattle.std.specs.Prelude.{ℕ}
-use Rattle.declarations.specs.declared.walk_state.Item.TheVariants as items
-use Rattle.declarations.specs.declared.walk_state.WalkState.{WalkState}
-use Rattle.declarations.specs.declared.walk_state.Continuation.TheVariants as rules
-use Rattle.declarations.specs.declared.walk_state.State.TheVariants as states
-use Rattle.declarations.specs.declared.types.TypeState.{TypeState}
+use Rattle.item_tables.specs.declared.walk_state.Item.TheVariants as items
+use Rattle.item_tables.specs.declared.walk_state.WalkState.{WalkState}
+use Rattle.item_tables.specs.declared.walk_state.Continuation.TheVariants as rules
+use Rattle.item_tables.specs.declared.walk_state.State.TheVariants as states
+use Rattle.item_tables.specs.declared.types.TypeState.{TypeState}
 
 -- this state, within so many angle brackets
 abbrev pub in_range : TypeState → ℕ → WalkState

@@ -5,7 +5,7 @@ use Rattle.grammars.specs.Grammar.{Event}
 use Rattle.grammars.specs.Find.{Past, Stuck, find}
 use Rattle.pm_stream.specs.declared.stream.TokenTree.{TokenTree}
 use Rattle.declarations.specs.Signs.{Sign, classes_of, signs, trees_of}
-use Rattle.declarations.specs.declared.class.SignClass.{SignClass}
+use Rattle.item_tables.specs.declared.class.SignClass.{SignClass}
 use Rattle.declarations.specs.rules.Names.{G, Label}
 use Rattle.declarations.specs.rules.Rules.{rules}
 

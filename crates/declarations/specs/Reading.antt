@@ -3,11 +3,11 @@ use Rattle.std.specs.Prelude.{◌≡◌, ℕ, Bool, List, [], ◌∷◌, ◌++�
 use Rattle.pm_token.specs.Leaf.{Name}
 use Rattle.pm_stream.specs.declared.stream.TokenTree.{TokenTree}
 use Rattle.pm_stream.specs.declared.stream.TokenTree.TheVariants.{Ident}
-use Rattle.declarations.specs.Grammar.{ends, names, step}
+use Rattle.item_tables.specs.Grammar.{ends, names, step}
 use Rattle.declarations.specs.Signs.{Sign, signs, classes_of, trees_of}
 use Rattle.declarations.specs.Walk.{IsFront, Stops, walk}
-use Rattle.declarations.specs.declared.class.SignClass.{SignClass}
-use Rattle.declarations.specs.declared.walk_state.WalkState.{WalkState}
+use Rattle.item_tables.specs.declared.class.SignClass.{SignClass}
+use Rattle.item_tables.specs.declared.walk_state.WalkState.{WalkState}
 
 -- the trees are the part and then the rest, and the part has this form if the rest comes after it
 pub record Reads (form : List SignClass → List SignClass → Type 0) (trees part rest : List TokenTree) : Type 0 where

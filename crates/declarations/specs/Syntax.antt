@@ -2,15 +2,15 @@
 use Rattle.std.specs.Prelude.{ℕ, suc, ◌+◌, Bool, false, not, ◌&&◌}
 use Rattle.grammars.specs.Grammar.{Nothing, Sign, Mark, Then, Either, Many}
 use Rattle.declarations.specs.Forms.{start}
-use Rattle.declarations.specs.declared.class.SignClass.{SignClass}
-use Rattle.declarations.specs.declared.class.SignClass.TheVariants as classes
-use Rattle.declarations.specs.declared.class.Keyword.TheVariants as keywords
-use Rattle.declarations.specs.declared.walk_state.Continuation.TheVariants as places
-use Rattle.declarations.specs.declared.walk_state.Part.TheVariants as parts_in
-use Rattle.declarations.specs.declared.walk_state.Spot.TheVariants as spots
-use Rattle.declarations.specs.declared.walk_state.State.{State}
-use Rattle.declarations.specs.declared.walk_state.State.TheVariants as states
-use Rattle.declarations.specs.declared.walk_state.WalkState.{WalkState}
+use Rattle.item_tables.specs.declared.class.SignClass.{SignClass}
+use Rattle.item_tables.specs.declared.class.SignClass.TheVariants as classes
+use Rattle.item_tables.specs.declared.class.Keyword.TheVariants as keywords
+use Rattle.item_tables.specs.declared.walk_state.Continuation.TheVariants as places
+use Rattle.item_tables.specs.declared.walk_state.Part.TheVariants as parts_in
+use Rattle.item_tables.specs.declared.walk_state.Spot.TheVariants as spots
+use Rattle.item_tables.specs.declared.walk_state.State.{State}
+use Rattle.item_tables.specs.declared.walk_state.State.TheVariants as states
+use Rattle.item_tables.specs.declared.walk_state.WalkState.{WalkState}
 use Rattle.declarations.specs.declared.syntax.Guard.{Guard}
 use Rattle.declarations.specs.declared.syntax.Guard.TheVariants as guards
 use Rattle.declarations.specs.declared.syntax.Label.{Label as Shown}
@@ -21,8 +21,8 @@ use Rattle.declarations.specs.declared.syntax.Table.{Table}
 use Rattle.declarations.specs.declared.syntax.Table.TheVariants as tables
 use Rattle.declarations.specs.declared.syntax.Test.{Test}
 use Rattle.declarations.specs.declared.syntax.Test.TheVariants as tests
-use Rattle.declarations.specs.declared.types.TypeState.TheVariants as types
-use Rattle.declarations.specs.rules.Classes.{is, is_block, is_round, is_word, keyword, opens}
+use Rattle.item_tables.specs.declared.types.TypeState.TheVariants as types
+use Rattle.item_tables.specs.Classes.{is, is_block, is_round, is_word, keyword, opens}
 use Rattle.declarations.specs.rules.Entries as entries
 use Rattle.declarations.specs.rules.Expressions.{expression}
 use Rattle.declarations.specs.rules.Fronts.{is_safe}

@@ -11,15 +11,15 @@ use Rattle.declarations.specs.Reader.{Finds, Remains, Sticks}
 use Rattle.declarations.specs.Reading.{Reads}
 use Rattle.declarations.specs.Signs.{BeginsWith, name_class}
 use Rattle.declarations.specs.Whole.{ReadsAll}
-use Rattle.declarations.specs.declared.class.SignClass.{SignClass}
-use Rattle.declarations.specs.declared.class.SignClass.TheVariants as classes
+use Rattle.item_tables.specs.declared.class.SignClass.{SignClass}
+use Rattle.item_tables.specs.declared.class.SignClass.TheVariants as classes
 use Rattle.declarations.specs.declared.type_path.Last.{Last}
 use Rattle.declarations.specs.declared.type_path.PathArguments.{PathArguments}
 use Rattle.declarations.specs.declared.type_path.PathArguments.TheVariants as kinds
 use Rattle.declarations.specs.declared.type_path.Segment.{Segment}
 use Rattle.declarations.specs.declared.type_path.Transition.{Transition}
 use Rattle.declarations.specs.declared.type_path.TypePath.{TypePath}
-use Rattle.declarations.specs.rules.Classes.{opens}
+use Rattle.item_tables.specs.Classes.{opens}
 use Rattle.declarations.specs.rules.Names.{AfterName, G}
 use Rattle.declarations.specs.rules.Paths as rule
 use Rattle.declarations.specs.rules.Pieces.{ByRule}

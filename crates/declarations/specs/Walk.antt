@@ -1,6 +1,6 @@
 -- Walks over signs: each sign is a step from one state to the next, as far as there are steps.
 use Rattle.std.specs.Prelude.{◌≡◌, Bool, true, List, [], ◌∷◌, ◌++◌, Option, Some, None}
-use Rattle.declarations.specs.declared.class.SignClass.{SignClass}
+use Rattle.item_tables.specs.declared.class.SignClass.{SignClass}
 
 -- the state after a step for each of the signs, or nothing if a sign is no step
 abbrev pub walk : {P : Type 0} → (P → SignClass → Option P) → P → List SignClass → Option P

@@ -2,7 +2,7 @@
 use Rattle.std.specs.Prelude.{◌≡◌, List, []}
 use Rattle.pm_stream.specs.declared.stream.TokenTree.{TokenTree}
 use Rattle.declarations.specs.Reading.{Reads}
-use Rattle.declarations.specs.declared.class.SignClass.{SignClass}
+use Rattle.item_tables.specs.declared.class.SignClass.{SignClass}
 
 -- a piece of the form with nothing after it
 abbrev pub IsWhole : (List SignClass → List SignClass → Type 0) → List SignClass → List SignClass → Type 0

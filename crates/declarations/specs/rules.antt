@@ -1,4 +1,3 @@
-pub mod Classes
 pub mod Names
 pub mod Types
 pub mod Expressions

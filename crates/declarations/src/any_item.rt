@@ -9,7 +9,7 @@ ghost use Rattle.declarations.specs.Reading.{FaultAt, IsOnly, Reads, first_name}
 
 use crate::fault::Fault;
 use crate::walk::split_from;
-use crate::walk_state::{Continuation, Item, Part, Spot, State, WalkState};
+use item_tables::walk_state::{Continuation, Item, Part, Spot, State, WalkState};
 use pm_stream::TokenTree;
 use pm_token::Ident;
 

@@ -22,11 +22,10 @@ ghost use Rattle.declarations.specs.rules.Entries.{literal_entry, more_segments,
 ghost use Rattle.declarations.specs.rules.Expressions.{expression};
 ghost use Rattle.declarations.specs.rules.Names.{one};
 ghost use Rattle.declarations.specs.rules.Pieces.{ByRule};
-ghost use Rattle.declarations.specs.declared.class.SignClass.TheVariants as signs;
+ghost use Rattle.item_tables.specs.declared.class.SignClass.TheVariants as signs;
 
 use crate::attribute::is_named;
 use crate::bare::{bare_trees, has_no_delimiters, inside_of};
-use crate::class::SignClass;
 use crate::explore::fault_by;
 use crate::fault::Fault;
 use crate::item::split_group;
@@ -34,7 +33,8 @@ use crate::reader::{begins, is, part, past};
 use crate::signs::first_sign;
 use crate::syntax::ENTRY;
 use crate::walk::walk_past;
-use crate::walk_state::{Continuation, Item, Spot, State, WalkState};
+use item_tables::class::SignClass;
+use item_tables::walk_state::{Continuation, Item, Spot, State, WalkState};
 use pm_span::Span;
 use pm_stream::{Group, TokenTree};
 use pm_token::Ident;

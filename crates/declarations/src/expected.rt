@@ -1,11 +1,11 @@
 //! The signs that can come next where trees do not fit the grammar.
 ghost use Rattle.std.specs.Prelude.{◌≡◌, ◌+◌, ◌<◌, ◌^◌, ◌&&◌, ◌||◌, false, is_some, true};
 ghost use Rattle.declarations.specs.Expected.{AreSteps, HasSigns, holds, holds_end};
-ghost use Rattle.declarations.specs.Grammar.{step};
-ghost use Rattle.declarations.specs.rules.Classes.{any_of, is};
+ghost use Rattle.item_tables.specs.Grammar.{step};
+ghost use Rattle.item_tables.specs.Classes.{any_of, is};
 
-use crate::class::{Keyword, SignClass, Word, code};
-use crate::walk_state::WalkState;
+use item_tables::class::{Keyword, SignClass, Word, code};
+use item_tables::walk_state::WalkState;
 
 /// A set of classes of signs, which may also have the end in it.
 ///

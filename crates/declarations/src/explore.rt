@@ -8,17 +8,17 @@ ghost use Rattle.declarations.specs.Fault.{first_extent};
 ghost use Rattle.declarations.specs.Reader.{classes_in};
 ghost use Rattle.declarations.specs.Signs.{BeginsWith};
 ghost use Rattle.declarations.specs.Syntax.{admits, grammar_of, guarded_rule, label_of, rule_of, test_of};
-ghost use Rattle.declarations.specs.rules.Classes.{any_of, is};
+ghost use Rattle.item_tables.specs.Classes.{any_of, is};
 ghost use Rattle.declarations.specs.rules.Names.{comma_list, one};
-ghost use Rattle.declarations.specs.declared.class.SignClass.TheVariants as signs;
+ghost use Rattle.item_tables.specs.declared.class.SignClass.TheVariants as signs;
 
-use crate::class::SignClass;
 use crate::expected::{CLASSES, Expected, steps_from};
 use crate::fault::Fault;
 use crate::reader::is;
 use crate::signs::first_sign;
 use crate::syntax::{Guard, Label, Syntax, Table, Test, admits, passes, start_of, table_of};
 use crate::walk::walk_from;
+use item_tables::class::SignClass;
 use pm_stream::TokenTree;
 
 /// The trees after what a rule reads, and the signs with which the rule could go on.

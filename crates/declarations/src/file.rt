@@ -14,7 +14,7 @@ use crate::any_item::{AnyItem, ItemKind, split_any_item};
 use crate::fault::Fault;
 use crate::part_splitting::split_inner_attributes;
 use crate::walk::read_whole;
-use crate::walk_state::{Continuation, Item, Part, Spot, State, WalkState};
+use item_tables::walk_state::{Continuation, Item, Part, Spot, State, WalkState};
 use pm_stream::{Group, TokenTree};
 use pm_token::Delimiter;
 

@@ -12,14 +12,13 @@ ghost use Rattle.declarations.specs.Reader.{Finds, ReadsRule, Sticks};
 ghost use Rattle.declarations.specs.Reading.{FaultAt};
 ghost use Rattle.declarations.specs.Whole.{IsWhole};
 ghost use Rattle.declarations.specs.rules.Bodies.{function_end, returning};
-ghost use Rattle.declarations.specs.rules.Classes.{is_block, is_round, is_word};
+ghost use Rattle.item_tables.specs.Classes.{is_block, is_round, is_word};
 ghost use Rattle.declarations.specs.rules.Fronts.{is_safe};
 ghost use Rattle.declarations.specs.rules.Functions.{abi, function_item, qualifiers, return_type_rule};
 ghost use Rattle.declarations.specs.rules.Names.{one, word};
 ghost use Rattle.declarations.specs.rules.Parts.{generics, visibility, where_clause};
 ghost use Rattle.declarations.specs.rules.Pieces.{ByRule};
 
-use crate::class::{Keyword, SignClass, Word};
 use crate::explore::fault_by;
 use crate::fault::Fault;
 use crate::item::{split_group, split_name, split_parentheses};
@@ -28,7 +27,8 @@ use crate::reader::{begins_identifier, begins_mark, is, part, past};
 use crate::signs::{first_sign, group_class, name_class};
 use crate::syntax::FUNCTION;
 use crate::walk::walk_past;
-use crate::walk_state::{Continuation, Item, Spot, State, WalkState};
+use item_tables::class::{Keyword, SignClass, Word};
+use item_tables::walk_state::{Continuation, Item, Spot, State, WalkState};
 use pm_stream::{Group, TokenTree};
 use pm_token::Ident;
 

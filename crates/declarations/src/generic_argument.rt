@@ -9,15 +9,14 @@ ghost use Rattle.declarations.specs.GenericArgument.{HasConstraint, IsArgumentAt
 ghost use Rattle.declarations.specs.List.{IsFirst, IsListFault};
 ghost use Rattle.declarations.specs.Reader.{Finds, ReadsRule, Sticks, classes_in};
 ghost use Rattle.declarations.specs.Reading.{FaultAt};
-ghost use Rattle.declarations.specs.rules.Classes.{is_word};
+ghost use Rattle.item_tables.specs.Classes.{is_word};
 ghost use Rattle.declarations.specs.rules.Paths.{constant, constraint, generic_argument, is_constant};
 ghost use Rattle.declarations.specs.rules.Paths.{word_argument, word_type};
 ghost use Rattle.declarations.specs.rules.Pieces.{ByRule};
 ghost use Rattle.declarations.specs.rules.Names.{one};
 ghost use Rattle.declarations.specs.rules.Types.{bounds, type};
-ghost use Rattle.declarations.specs.declared.class.SignClass.TheVariants as signs;
+ghost use Rattle.item_tables.specs.declared.class.SignClass.TheVariants as signs;
 
-use crate::class::SignClass;
 use crate::explore::fault_by;
 use crate::fault::Fault;
 use crate::list::{fault_after, past_comma};
@@ -26,7 +25,8 @@ use crate::range::past_range;
 use crate::reader::{begins, is, part, past};
 use crate::signs::first_sign;
 use crate::syntax::ARGUMENT;
-use crate::types::TypeState;
+use item_tables::class::SignClass;
+use item_tables::types::TypeState;
 use pm_stream::TokenTree;
 
 /// The form of a generic argument.

@@ -11,14 +11,13 @@ ghost use Rattle.declarations.specs.Reader.{Finds, Sticks, classes_in};
 ghost use Rattle.declarations.specs.Reading.{FaultAt};
 ghost use Rattle.declarations.specs.Signs.{BeginsWith};
 ghost use Rattle.declarations.specs.Whole.{IsWhole};
-ghost use Rattle.declarations.specs.declared.class.SignClass.TheVariants as signs;
-ghost use Rattle.declarations.specs.declared.class.Keyword.TheVariants as keywords;
+ghost use Rattle.item_tables.specs.declared.class.SignClass.TheVariants as signs;
+ghost use Rattle.item_tables.specs.declared.class.Keyword.TheVariants as keywords;
 ghost use Rattle.declarations.specs.rules.Bodies.{where_and_body};
 ghost use Rattle.declarations.specs.rules.ImplItems.{impl_item, impl_keyword, impl_qualifiers};
 ghost use Rattle.declarations.specs.rules.Impls.{const_target, impl_front, target};
 ghost use Rattle.declarations.specs.rules.Pieces.{ByRule};
 
-use crate::class::{Keyword, SignClass, Word};
 use crate::explore::fault_by;
 use crate::fault::Fault;
 use crate::function::{is_name, may, past_generics, past_visibility, past_where};
@@ -28,6 +27,7 @@ use crate::reader::{is, part};
 use crate::signs::first_sign;
 use crate::syntax::IMPL;
 use crate::type_path::opens;
+use item_tables::class::{Keyword, SignClass, Word};
 use pm_stream::{Group, TokenTree};
 
 /// An `impl`, with its parts in reading order.

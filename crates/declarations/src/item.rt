@@ -11,16 +11,16 @@ ghost use Rattle.declarations.specs.Item.{AreBracesLeft, HasBraces, HasEnding, I
 ghost use Rattle.declarations.specs.Item.{after_generics_state};
 ghost use Rattle.declarations.specs.Reading.{FaultAt};
 ghost use Rattle.declarations.specs.Whole.{IsWhole, ReadsAll};
-ghost use Rattle.declarations.specs.declared.class.SignClass.TheVariants as classes;
-ghost use Rattle.declarations.specs.declared.class.Keyword.TheVariants as keywords;
-ghost use Rattle.declarations.specs.declared.walk_state.Item.TheVariants as items;
+ghost use Rattle.item_tables.specs.declared.class.SignClass.TheVariants as classes;
+ghost use Rattle.item_tables.specs.declared.class.Keyword.TheVariants as keywords;
+ghost use Rattle.item_tables.specs.declared.walk_state.Item.TheVariants as items;
 
-use crate::class::{Keyword, SignClass};
 use crate::fault::Fault;
 use crate::part_splitting::{split_attributes, split_generics, split_visibility, split_where};
 use crate::signs::name_class;
 use crate::walk::read_whole;
-use crate::walk_state::{Continuation, Item, Part, Spot, State, WalkState};
+use item_tables::class::{Keyword, SignClass};
+use item_tables::walk_state::{Continuation, Item, Part, Spot, State, WalkState};
 use pm_stream::{Group, TokenTree};
 use pm_token::{Delimiter, Ident};
 

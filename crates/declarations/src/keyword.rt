@@ -2,8 +2,8 @@
 ghost use Rattle.std.specs.Prelude.{◌≡◌};
 ghost use Rattle.declarations.specs.Item.{is_keyword};
 
-use crate::class::SignClass;
 use crate::signs::name_class;
+use item_tables::class::SignClass;
 use pm_token::Ident;
 
 /// Returns whether the identifier is a keyword of the grammar, and so cannot be a name.

@@ -10,13 +10,13 @@ ghost use Rattle.declarations.specs.Param.{IsParamAt, IsPredicateAt, IsWord, May
 ghost use Rattle.declarations.specs.Param.{PredicateTrees, ReadsConstant, is_constant, param_trees, predicate_trees};
 ghost use Rattle.declarations.specs.Reading.{Reads};
 ghost use Rattle.declarations.specs.Signs.{BeginsWith};
-ghost use Rattle.declarations.specs.declared.class.SignClass.TheVariants as classes;
+ghost use Rattle.item_tables.specs.declared.class.SignClass.TheVariants as classes;
 ghost use Rattle.declarations.specs.declared.generics.ParamKind.{ParamKind as Kind};
 
-use crate::class::{Keyword, SignClass};
 use crate::generics::{Param, ParamKind, Predicate};
 use crate::part_splitting::{split_attributes, split_bounds, split_type};
 use crate::signs::first_sign;
+use item_tables::class::{Keyword, SignClass};
 use pm_stream::TokenTree;
 
 pub(crate) fn param_of<'a>(

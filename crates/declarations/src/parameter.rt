@@ -10,7 +10,7 @@ ghost use Rattle.declarations.specs.Parameter.{IsParameterAt, ReadsEnd, ReadsFro
 ghost use Rattle.declarations.specs.Parameter.{ReadsPattern, ReadsTyped, left_of};
 ghost use Rattle.declarations.specs.Reader.{Finds, ReadsRule, classes_in};
 ghost use Rattle.declarations.specs.Reading.{FaultAt, IsOnly, Reads};
-ghost use Rattle.declarations.specs.rules.Classes.{opens};
+ghost use Rattle.item_tables.specs.Classes.{opens};
 ghost use Rattle.declarations.specs.rules.Names.{one};
 ghost use Rattle.declarations.specs.rules.Parameters.{after_and, after_and_mut, after_mut, continues, dots};
 ghost use Rattle.declarations.specs.rules.Parameters.{function_parameter, is_pattern, may_mutate, named_parameter};
@@ -20,10 +20,9 @@ ghost use Rattle.declarations.specs.rules.Parameters.{self_type, two_dots, patte
 ghost use Rattle.declarations.specs.rules.Parts.{attribute, attributes};
 ghost use Rattle.declarations.specs.rules.Pieces.{ByRule};
 ghost use Rattle.declarations.specs.rules.Types.{type};
-ghost use Rattle.declarations.specs.declared.class.SignClass.TheVariants as signs;
+ghost use Rattle.item_tables.specs.declared.class.SignClass.TheVariants as signs;
 ghost use Rattle.declarations.specs.declared.parameter.Shape.TheVariants as shapes;
 
-use crate::class::{Keyword, SignClass};
 use crate::explore::fault_by;
 use crate::fault::Fault;
 use crate::list::{fault_after, past_comma};
@@ -31,7 +30,8 @@ use crate::range::past_range;
 use crate::reader::{begins, begins_mark, is, part, past};
 use crate::signs::first_sign;
 use crate::syntax::{PARAMETER, PATTERN};
-use crate::types::TypeState;
+use item_tables::class::{Keyword, SignClass};
+use item_tables::types::TypeState;
 use pm_stream::{Group, TokenTree};
 
 /// The form of a function's parameter.

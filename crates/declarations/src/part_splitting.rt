@@ -11,9 +11,9 @@ use crate::fault::Fault;
 use crate::function::{past_generics, past_visibility, past_where};
 use crate::parameter::past_attributes;
 use crate::reader::part;
-use crate::types::TypeState;
 use crate::walk::split_from;
-use crate::walk_state::{Continuation, Item, Part, Spot, State, WalkState};
+use item_tables::types::TypeState;
+use item_tables::walk_state::{Continuation, Item, Part, Spot, State, WalkState};
 use pm_stream::TokenTree;
 
 /// Reads a part that is in no item, from a state on.

@@ -1,17 +1,17 @@
 //! The walk over a type or bounds alone.
 ghost use Rattle.std.specs.Prelude.{◌≡◌, ◌+◌, ◌≤◌, ◌<◌, ◌^◌, ◌==◌, ◌&&◌, IfNone, IfSome};
 ghost use Rattle.std.specs.Prelude.{MatchResult, None, Some, false, length, true};
-ghost use Rattle.declarations.specs.Grammar.{step, depth_after};
+ghost use Rattle.item_tables.specs.Grammar.{step, depth_after};
 ghost use Rattle.declarations.specs.Range.{in_range};
 ghost use Rattle.declarations.specs.Reading.{StopsAt};
 ghost use Rattle.declarations.specs.Signs.{BeginsWith, classes_of, signs};
-ghost use Rattle.declarations.specs.TypeStep.{may_end};
+ghost use Rattle.item_tables.specs.TypeStep.{may_end};
 ghost use Rattle.declarations.specs.Walk.{Stops};
-ghost use Rattle.declarations.specs.declared.class.SignClass.{SignClass as ClassValue};
+ghost use Rattle.item_tables.specs.declared.class.SignClass.{SignClass as ClassValue};
 
-use crate::class::SignClass;
 use crate::signs::first_sign;
-use crate::types::{Turn, TypeState, may_end, type_step};
+use item_tables::class::SignClass;
+use item_tables::types::{Turn, TypeState, may_end, type_step};
 use pm_stream::TokenTree;
 
 /// Skips a type or bounds from a state on. At an error it returns the trees after the longest prefix that can go on.

@@ -4,11 +4,11 @@ ghost use Rattle.std.specs.Prelude.{◌≡◌, ◌++◌};
 ghost use Rattle.grammars.specs.First.{heads};
 ghost use Rattle.declarations.specs.Parts.{begins_identifier, begins_mark, is_identifier, is_mark};
 ghost use Rattle.declarations.specs.Reader.{Remains, ReadsRule, classes_in};
-ghost use Rattle.declarations.specs.rules.Classes.{is};
+ghost use Rattle.item_tables.specs.Classes.{is};
 ghost use Rattle.declarations.specs.rules.Names.{one};
 
-use crate::class::{SignClass, code};
 use crate::signs::first_sign;
+use item_tables::class::{SignClass, code};
 use pm_stream::TokenTree;
 
 /// Whether a sign has this class.

@@ -11,7 +11,7 @@ ghost use Rattle.declarations.specs.Signs.{name_class, operand_class, operator_c
 ghost use Rattle.declarations.specs.Signs.{restricts, restricts_in, tree_class, type_keyword, unseen_class, word_of};
 
 use crate::bare::innermost;
-use crate::class::{Keyword, SignClass, Word};
+use item_tables::class::{Keyword, SignClass, Word};
 use pm_stream::{Group, TokenStream, TokenTree};
 use pm_token::{Delimiter, Ident, Spacing};
 

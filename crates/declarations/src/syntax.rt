@@ -3,15 +3,15 @@ ghost use Rattle.std.specs.Prelude.{◌≡◌};
 ghost use Rattle.declarations.specs.Syntax.{admits, start_of, table_of, test_of};
 ghost use Rattle.declarations.specs.rules.Entries.{is_list};
 
-use crate::class::{Keyword, SignClass, Word};
 use crate::entry::{continues as continues_value, is_literal, is_segment};
 use crate::function::{is_block, is_name, is_safe};
 use crate::generic_argument::is_constant;
 use crate::parameter::{continues, is_pattern};
 use crate::reader::is;
 use crate::type_path::{is_round, opens};
-use crate::types::TypeState;
-use crate::walk_state::{Continuation, Item, Part, Spot, State, WalkState};
+use item_tables::class::{Keyword, SignClass, Word};
+use item_tables::types::TypeState;
+use item_tables::walk_state::{Continuation, Item, Part, Spot, State, WalkState};
 
 /// A test of one sign.
 #[derive(Clone, Copy)]

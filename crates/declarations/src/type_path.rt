@@ -10,21 +10,21 @@ ghost use Rattle.declarations.specs.Signs.{BeginsWith};
 ghost use Rattle.declarations.specs.TypePath.{Goes, HasAngle, HasArguments, HasNext, HasPathParts, HasRound, IsElement};
 ghost use Rattle.declarations.specs.TypePath.{IsSegmentAt, IsTypePath, MaySeparate, ReadsLast, ReadsStep};
 ghost use Rattle.declarations.specs.Whole.{IsWhole};
-ghost use Rattle.declarations.specs.rules.Classes.{is_round, opens};
+ghost use Rattle.item_tables.specs.Classes.{is_round, opens};
 ghost use Rattle.declarations.specs.rules.Names.{AfterName, one};
 ghost use Rattle.declarations.specs.rules.Paths.{angle_rest, generic_argument, generic_arguments, is_segment, path};
 ghost use Rattle.declarations.specs.rules.Paths.{round_arguments, segment, further_segment, type_path};
 ghost use Rattle.declarations.specs.rules.Pieces.{ByRule};
-ghost use Rattle.declarations.specs.declared.class.SignClass.TheVariants as signs;
+ghost use Rattle.item_tables.specs.declared.class.SignClass.TheVariants as signs;
 
 use crate::bare::bare_trees;
-use crate::class::{Keyword, SignClass};
 use crate::fault::Fault;
 use crate::function::return_of;
 use crate::generic_argument::argument_of;
 use crate::item::{split_name, split_parentheses};
 use crate::reader::{begins, is, part};
 use crate::signs::{first_sign, name_class};
+use item_tables::class::{Keyword, SignClass};
 use pm_stream::{Group, TokenTree};
 use pm_token::Ident;
 

@@ -4,18 +4,18 @@ ghost use Rattle.std.specs.Prelude.{false, length, true};
 ghost use Rattle.declarations.specs.Expected.{Expects};
 ghost use Rattle.declarations.specs.Fault.{extent_at};
 ghost use Rattle.declarations.specs.Forms.{IsFrom};
-ghost use Rattle.declarations.specs.Grammar.{names, step};
+ghost use Rattle.item_tables.specs.Grammar.{names, step};
 ghost use Rattle.declarations.specs.Reading.{FaultAt, IsOnly, Reads, StopsAt, Walked, first_name};
 ghost use Rattle.declarations.specs.Signs.{BeginsWith, classes_of, signs};
 ghost use Rattle.declarations.specs.Walk.{Stops};
 ghost use Rattle.declarations.specs.Whole.{IsWhole, ReadsAll};
-ghost use Rattle.declarations.specs.declared.class.SignClass.{SignClass as ClassValue};
-ghost use Rattle.declarations.specs.declared.walk_state.WalkState.{WalkState as PlaceValue};
+ghost use Rattle.item_tables.specs.declared.class.SignClass.{SignClass as ClassValue};
+ghost use Rattle.item_tables.specs.declared.walk_state.WalkState.{WalkState as PlaceValue};
 
 use crate::expected::steps_from;
 use crate::fault::Fault;
 use crate::signs::first_sign;
-use crate::walk_state::{Item, WalkState};
+use item_tables::walk_state::{Item, WalkState};
 use pm_stream::TokenTree;
 
 /// The part that the walk read, and what the walk found out about it.

@@ -22,7 +22,7 @@ use Rattle.declarations.proofs.ReadingLemmas.{trees-append}
 use Rattle.declarations.proofs.SignLemmas.{after_first_sign, trees_of-signs}
 use Rattle.declarations.specs.File.{body_of, braces, in_braces, last_braces}
 use Rattle.declarations.specs.Forms.{any_item}
-use Rattle.declarations.specs.Grammar.{names, step}
+use Rattle.item_tables.specs.Grammar.{names, step}
 use Rattle.declarations.specs.Kind.{Tells}
 use Rattle.declarations.specs.Reading.{Reads, first_name, name_of, name_so_far}
 use Rattle.declarations.specs.Signs.{Sign, classes_of, group_class, is_restriction, is_written, pair_class, restricts}
@@ -30,8 +30,8 @@ use Rattle.declarations.specs.Signs.{parentheses_class, signs, signs_after, tree
 use Rattle.declarations.specs.Walk.{walk}
 use Rattle.declarations.specs.declared.any_item.ItemKind.{ItemKind}
 use Rattle.declarations.specs.declared.any_item.ItemKind.TheVariants as kinds
-use Rattle.declarations.specs.declared.class.SignClass.{SignClass}
-use Rattle.declarations.specs.declared.walk_state.WalkState.{WalkState}
+use Rattle.item_tables.specs.declared.class.SignClass.{SignClass}
+use Rattle.item_tables.specs.declared.walk_state.WalkState.{WalkState}
 use Rattle.outline.specs.Hollow.{hollow, hollow_group}
 use Rattle.outline.specs.Outline.{first_of, last_of}
 

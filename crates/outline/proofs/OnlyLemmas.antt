@@ -14,16 +14,16 @@ use Rattle.declarations.proofs.ListLemmas.{reads_fewer}
 use Rattle.declarations.proofs.ReadingLemmas.{split_only}
 use Rattle.declarations.specs.File.{body_of}
 use Rattle.declarations.specs.Forms.{AreAttributes, AreInnerAttributes, IsAnyItem, any_item, start}
-use Rattle.declarations.specs.Grammar.{step}
+use Rattle.item_tables.specs.Grammar.{step}
 use Rattle.declarations.specs.Kind.{Tells, kind_of}
 use Rattle.declarations.specs.Reading.{Reads}
 use Rattle.declarations.specs.Signs.{Sign, classes_of, signs}
 use Rattle.declarations.specs.Walk.{walk}
 use Rattle.declarations.specs.declared.any_item.ItemKind.{ItemKind}
-use Rattle.declarations.specs.declared.walk_state.WalkState.{WalkState}
-use Rattle.declarations.specs.declared.walk_state.Continuation.TheVariants as rules
-use Rattle.declarations.specs.declared.walk_state.State.TheVariants as states
-use Rattle.declarations.specs.declared.walk_state.Spot.TheVariants as spots
+use Rattle.item_tables.specs.declared.walk_state.WalkState.{WalkState}
+use Rattle.item_tables.specs.declared.walk_state.Continuation.TheVariants as rules
+use Rattle.item_tables.specs.declared.walk_state.State.TheVariants as states
+use Rattle.item_tables.specs.declared.walk_state.Spot.TheVariants as spots
 use Rattle.outline.specs.Hollow.{trees_in}
 use Rattle.outline.specs.Outline.{AreInside, AreTrees, BeginsWithItem, IsOutline, IsTreesOutline, NeverIs, Outline}
 use Rattle.outline.specs.Outline.{item, nothing}

@@ -1,12 +1,12 @@
 -- Items from their names on: generic parameters, headers, and what an item ends with.
 use Rattle.std.specs.Prelude.{not, [], ◌∷◌}
 use Rattle.grammars.specs.Grammar.{Mark, Sign, Then, Either, Many, perhaps}
-use Rattle.declarations.specs.rules.Classes.{is, is_block, is_round}
+use Rattle.item_tables.specs.Classes.{is, is_block, is_round}
 use Rattle.declarations.specs.rules.Names.{G, seq, one, word, Named, Bounds, OfType, Value, Fields, Returns, Body}
 use Rattle.declarations.specs.rules.Names.{Rest}
 use Rattle.declarations.specs.rules.Types.{type, bounds}
 use Rattle.declarations.specs.rules.Parts.{with_bounds, generics, where_clause}
-use Rattle.declarations.specs.declared.class.SignClass.TheVariants as signs
+use Rattle.item_tables.specs.declared.class.SignClass.TheVariants as signs
 
 -- ---- what an item ends with
 

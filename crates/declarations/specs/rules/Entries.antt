@@ -1,13 +1,13 @@
 -- The entries of attributes' lists.
 use Rattle.std.specs.Prelude.{Bool, ◌||◌, [], ◌∷◌}
 use Rattle.grammars.specs.Grammar.{Mark, Sign, To, Then, Either, Many, perhaps}
-use Rattle.declarations.specs.rules.Classes.{is, is_keyword, is_word, one_of}
+use Rattle.item_tables.specs.Classes.{is, is_keyword, is_word, one_of}
 use Rattle.declarations.specs.rules.Names.{G, seq, alt, one, comma_list, Named, Value, Body, Rest}
 use Rattle.declarations.specs.rules.Names.{Expression, ExpressionOpen, ExpressionWhole, Closure}
 use Rattle.declarations.specs.rules.Types.{angle}
 use Rattle.declarations.specs.rules.Expressions.{from_range, one_operand}
-use Rattle.declarations.specs.declared.class.SignClass.{SignClass}
-use Rattle.declarations.specs.declared.class.SignClass.TheVariants as signs
+use Rattle.item_tables.specs.declared.class.SignClass.{SignClass}
+use Rattle.item_tables.specs.declared.class.SignClass.TheVariants as signs
 
 -- whether the sign can be a segment of an entry's path: any identifier except `_`, `true` and `false`
 abbrev pub is_entry_segment : SignClass → Bool

@@ -1,12 +1,12 @@
 -- The expressions of discriminants. Only their ends are found.
 use Rattle.std.specs.Prelude.{Bool, not, ◌||◌, List, [], ◌∷◌}
 use Rattle.grammars.specs.Grammar.{To, Then, Either, perhaps}
-use Rattle.declarations.specs.rules.Classes.{is, is_keyword, is_word, one_of}
+use Rattle.item_tables.specs.Classes.{is, is_keyword, is_word, one_of}
 use Rattle.declarations.specs.rules.Names.{G, alt, one, Expression, ExpressionOpen, ExpressionWhole, ExpressionLess}
 use Rattle.declarations.specs.rules.Names.{ExpressionDot, Closure, Cast, CastWhole}
 use Rattle.declarations.specs.rules.Types.{angle}
-use Rattle.declarations.specs.declared.class.SignClass.{SignClass}
-use Rattle.declarations.specs.declared.class.SignClass.TheVariants as signs
+use Rattle.item_tables.specs.declared.class.SignClass.{SignClass}
+use Rattle.item_tables.specs.declared.class.SignClass.TheVariants as signs
 
 -- the classes of groups that can be operands
 abbrev pub groups : List SignClass

@@ -1,14 +1,14 @@
 -- What items begin with, up to their names.
 use Rattle.std.specs.Prelude.{Bool, not, ◌&&◌, ◌||◌, [], ◌∷◌}
 use Rattle.grammars.specs.Grammar.{Mark, Sign, To, Then, Either, perhaps}
-use Rattle.declarations.specs.rules.Classes.{is, one_of, keyword, is_word}
+use Rattle.item_tables.specs.Classes.{is, one_of, keyword, is_word}
 use Rattle.declarations.specs.rules.Names.{G, seq, alt, one, key, Function, Qualified, Async, Constant, Static, Alias}
 use Rattle.declarations.specs.rules.Names.{Trait, Impl, Module, Named, Rest}
 use Rattle.declarations.specs.rules.Bodies.{braces, semicolon, constant_rest}
-use Rattle.declarations.specs.declared.class.SignClass.{SignClass}
-use Rattle.declarations.specs.declared.class.SignClass.TheVariants as signs
-use Rattle.declarations.specs.declared.class.Keyword.TheVariants as keywords
-use Rattle.declarations.specs.declared.class.Word.TheVariants as words
+use Rattle.item_tables.specs.declared.class.SignClass.{SignClass}
+use Rattle.item_tables.specs.declared.class.SignClass.TheVariants as signs
+use Rattle.item_tables.specs.declared.class.Keyword.TheVariants as keywords
+use Rattle.item_tables.specs.declared.class.Word.TheVariants as words
 
 -- a function, from `fn` on
 abbrev pub fn : G

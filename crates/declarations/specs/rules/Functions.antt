@@ -6,9 +6,9 @@ use Rattle.declarations.specs.rules.Types.{type}
 use Rattle.declarations.specs.rules.Parts.{attributes, visibility, generics}
 use Rattle.declarations.specs.rules.Bodies.{name, function_rest}
 use Rattle.declarations.specs.rules.Fronts.{is_safe}
-use Rattle.declarations.specs.declared.class.SignClass.TheVariants as signs
-use Rattle.declarations.specs.declared.class.Keyword.TheVariants as keywords
-use Rattle.declarations.specs.declared.class.Word.TheVariants as words
+use Rattle.item_tables.specs.declared.class.SignClass.TheVariants as signs
+use Rattle.item_tables.specs.declared.class.Keyword.TheVariants as keywords
+use Rattle.item_tables.specs.declared.class.Word.TheVariants as words
 
 -- `extern`, and the literal that names its ABI, if there is one
 abbrev pub abi : G

@@ -1,12 +1,12 @@
 -- Impls, from their attributes on.
 use Rattle.std.specs.Prelude.{[], ◌∷◌}
 use Rattle.grammars.specs.Grammar.{Mark, Then, To, perhaps}
-use Rattle.declarations.specs.rules.Classes.{keyword}
+use Rattle.item_tables.specs.Classes.{keyword}
 use Rattle.declarations.specs.rules.Names.{Front, G, Impl, key, one, seq}
 use Rattle.declarations.specs.rules.Parts.{attributes, visibility}
-use Rattle.declarations.specs.declared.class.SignClass.TheVariants as signs
-use Rattle.declarations.specs.declared.class.Keyword.TheVariants as keywords
-use Rattle.declarations.specs.declared.class.Word.TheVariants as words
+use Rattle.item_tables.specs.declared.class.SignClass.TheVariants as signs
+use Rattle.item_tables.specs.declared.class.Keyword.TheVariants as keywords
+use Rattle.item_tables.specs.declared.class.Word.TheVariants as words
 
 -- the qualifiers before `impl`, in this order
 abbrev pub impl_qualifiers : G

@@ -1,16 +1,16 @@
 -- Implementations, after `impl`. Up to two signs after `<` decide whether it begins generic parameters or a type.
 use Rattle.std.specs.Prelude.{Bool, true, false, [], ◌∷◌}
 use Rattle.grammars.specs.Grammar.{Mark, Sign, To, Then, Either, further, perhaps}
-use Rattle.declarations.specs.rules.Classes.{is, opens}
+use Rattle.item_tables.specs.Classes.{is, opens}
 use Rattle.declarations.specs.rules.Names.{Inside, Target, Range, Bounds, Rest, G, seq, alt, one, key, word}
 use Rattle.declarations.specs.rules.Names.{comma}
 use Rattle.declarations.specs.rules.Types.{all_operand, bounds, named_operand, operand_but, plain_continuation, range}
 use Rattle.declarations.specs.rules.Parts.{attributes, constant_rest, default_type, parameter, parameter_rest}
 use Rattle.declarations.specs.rules.Parts.{with_bounds}
 use Rattle.declarations.specs.rules.Bodies.{where_and_body}
-use Rattle.declarations.specs.declared.class.SignClass.TheVariants as signs
-use Rattle.declarations.specs.declared.class.Keyword.TheVariants as keywords
-use Rattle.declarations.specs.declared.types.TypeState.TheVariants as types
+use Rattle.item_tables.specs.declared.class.SignClass.TheVariants as signs
+use Rattle.item_tables.specs.declared.class.Keyword.TheVariants as keywords
+use Rattle.item_tables.specs.declared.types.TypeState.TheVariants as types
 
 -- the rest of an `impl` after `!`. If no type follows, the `!` is the type
 abbrev pub negative : G

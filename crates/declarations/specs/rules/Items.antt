@@ -1,17 +1,17 @@
 -- Items, macro calls and imports.
 use Rattle.std.specs.Prelude.{Bool, ◌||◌, [], ◌∷◌}
 use Rattle.grammars.specs.Grammar.{Mark, Sign, To, Then, Either, Many, perhaps}
-use Rattle.declarations.specs.rules.Classes.{is, one_of, keyword, is_round}
+use Rattle.item_tables.specs.Classes.{is, one_of, keyword, is_round}
 use Rattle.declarations.specs.rules.Names.{G, seq, alt, one, key, Async, Constant, Static, Alias, Struct, Enum, Union}
 use Rattle.declarations.specs.rules.Names.{Trait, Impl, Module, Use, UsePath, Call, Visible, Front, Body}
 use Rattle.declarations.specs.rules.Parts.{attributes, inner_attributes, visible, visibility, generics}
 use Rattle.declarations.specs.rules.Bodies.{braces, semicolon, name, where_and_body}
 use Rattle.declarations.specs.rules.Fronts.{fn, is_segment, as_name, extern_front, auto_front, safe_front}
 use Rattle.declarations.specs.rules.Fronts.{default_front, gen_front, unsafe_front}
-use Rattle.declarations.specs.declared.class.SignClass.{SignClass}
-use Rattle.declarations.specs.declared.class.SignClass.TheVariants as signs
-use Rattle.declarations.specs.declared.class.Keyword.TheVariants as keywords
-use Rattle.declarations.specs.declared.class.Word.TheVariants as words
+use Rattle.item_tables.specs.declared.class.SignClass.{SignClass}
+use Rattle.item_tables.specs.declared.class.SignClass.TheVariants as signs
+use Rattle.item_tables.specs.declared.class.Keyword.TheVariants as keywords
+use Rattle.item_tables.specs.declared.class.Word.TheVariants as words
 
 -- ---- macros and imports
 

@@ -1,11 +1,11 @@
 -- The names of the rules of declarations, the labels of parts, and short words for grammars.
 use Rattle.std.specs.Prelude.{List, [], ◌∷◌}
 use Rattle.grammars.specs.Grammar.{Grammar, Nothing, Sign, Mark, Then, Either, Listed}
-use Rattle.declarations.specs.rules.Classes.{is, is_word}
-use Rattle.declarations.specs.declared.class.SignClass.{SignClass}
-use Rattle.declarations.specs.declared.class.SignClass.TheVariants as signs
-use Rattle.declarations.specs.declared.class.Keyword.{Keyword}
-use Rattle.declarations.specs.declared.types.TypeState.{TypeState}
+use Rattle.item_tables.specs.Classes.{is, is_word}
+use Rattle.item_tables.specs.declared.class.SignClass.{SignClass}
+use Rattle.item_tables.specs.declared.class.SignClass.TheVariants as signs
+use Rattle.item_tables.specs.declared.class.Keyword.{Keyword}
+use Rattle.item_tables.specs.declared.types.TypeState.{TypeState}
 
 -- where a type is: within angle brackets, outside of them, or after `impl`, where `for` and another type may follow
 pub data Context : Type 0 where

@@ -1,15 +1,15 @@
 -- The parameters of functions.
 use Rattle.std.specs.Prelude.{Bool, false, not, ◌&&◌, ◌||◌, [], ◌∷◌}
 use Rattle.grammars.specs.Grammar.{Mark, Sign, Then, Either, Many, perhaps}
-use Rattle.declarations.specs.rules.Classes.{is, is_word, keyword, one_of}
+use Rattle.item_tables.specs.Classes.{is, is_word, keyword, one_of}
 use Rattle.declarations.specs.rules.Names.{G, seq, alt, one, key, comma_list}
 use Rattle.declarations.specs.rules.Names.{Named, OfType, Outside, Parameter, Range, Rest}
 use Rattle.declarations.specs.rules.Types.{angle, type}
 use Rattle.declarations.specs.rules.Parts.{attributes}
-use Rattle.declarations.specs.declared.class.SignClass.{SignClass}
-use Rattle.declarations.specs.declared.class.SignClass.TheVariants as signs
-use Rattle.declarations.specs.declared.class.Keyword.TheVariants as keywords
-use Rattle.declarations.specs.declared.types.TypeState.TheVariants as types
+use Rattle.item_tables.specs.declared.class.SignClass.{SignClass}
+use Rattle.item_tables.specs.declared.class.SignClass.TheVariants as signs
+use Rattle.item_tables.specs.declared.class.Keyword.TheVariants as keywords
+use Rattle.item_tables.specs.declared.types.TypeState.TheVariants as types
 
 -- ---- patterns
 

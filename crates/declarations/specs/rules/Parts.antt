@@ -1,14 +1,14 @@
 -- Attributes, visibilities, fields, variants, generic parameters and where clauses.
 use Rattle.std.specs.Prelude.{true, [], ◌∷◌}
 use Rattle.grammars.specs.Grammar.{Mark, Sign, Then, Either, Many, perhaps}
-use Rattle.declarations.specs.rules.Classes.{is, is_block, is_round}
+use Rattle.item_tables.specs.Classes.{is, is_block, is_round}
 use Rattle.declarations.specs.rules.Names.{Outside, Attributes, Visible, Named, Generics, Parameter, Bounds, Default}
 use Rattle.declarations.specs.rules.Names.{OfType, Value, Where, Bounded, Fields, Rest, G, seq, alt, one, key, word}
 use Rattle.declarations.specs.rules.Names.{comma_list}
 use Rattle.declarations.specs.rules.Types.{bounds, named_operand, operand_but, type}
 use Rattle.declarations.specs.rules.Expressions.{expression}
-use Rattle.declarations.specs.declared.class.SignClass.TheVariants as signs
-use Rattle.declarations.specs.declared.class.Keyword.TheVariants as keywords
+use Rattle.item_tables.specs.declared.class.SignClass.TheVariants as signs
+use Rattle.item_tables.specs.declared.class.Keyword.TheVariants as keywords
 
 -- ---- attributes and visibilities
 

@@ -1,14 +1,14 @@
 -- The paths of types, and their generic arguments.
 use Rattle.std.specs.Prelude.{Bool, ◌||◌, [], ◌∷◌}
 use Rattle.grammars.specs.Grammar.{Mark, Sign, To, Then, Either, perhaps}
-use Rattle.declarations.specs.rules.Classes.{is, is_round, is_word, one_of, opens}
+use Rattle.item_tables.specs.Classes.{is, is_round, is_word, one_of, opens}
 use Rattle.declarations.specs.rules.Names.{Bounds, Named, OfType, Outside, Path, PathState, Range, Rest, Value}
 use Rattle.declarations.specs.rules.Names.{AfterArguments, AfterName, AfterSeparator, G, seq, alt, one, comma_list}
 use Rattle.declarations.specs.rules.Functions.{with_arrow}
 use Rattle.declarations.specs.rules.Types.{bounds, other_operand, type}
-use Rattle.declarations.specs.declared.class.SignClass.{SignClass}
-use Rattle.declarations.specs.declared.class.SignClass.TheVariants as signs
-use Rattle.declarations.specs.declared.types.TypeState.TheVariants as types
+use Rattle.item_tables.specs.declared.class.SignClass.{SignClass}
+use Rattle.item_tables.specs.declared.class.SignClass.TheVariants as signs
+use Rattle.item_tables.specs.declared.types.TypeState.TheVariants as types
 
 -- ---- generic arguments
 

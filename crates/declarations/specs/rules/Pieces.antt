@@ -3,7 +3,7 @@ use Rattle.std.specs.Prelude.{◌↔◌, List, [], ◌∷◌}
 use Rattle.grammars.specs.Reading.{IsPiece}
 use Rattle.declarations.specs.rules.Names.{G}
 use Rattle.declarations.specs.rules.Rules.{rules}
-use Rattle.declarations.specs.declared.class.SignClass.{SignClass}
+use Rattle.item_tables.specs.declared.class.SignClass.{SignClass}
 
 -- the form has exactly the pieces of the rule, at the start of any signs
 abbrev pub ReadsBy : G → (List SignClass → List SignClass → Type 0) → Type 0

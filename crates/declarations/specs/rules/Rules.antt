@@ -1,7 +1,7 @@
 -- The grammar of each named rule, and the signs that may follow it.
 use Rattle.std.specs.Prelude.{Bool, false, true, ◌||◌, [], ◌∷◌}
 use Rattle.grammars.specs.Grammar.{To, Then, Either, perhaps}
-use Rattle.declarations.specs.rules.Classes.{is, keyword, one_of}
+use Rattle.item_tables.specs.Classes.{is, keyword, one_of}
 use Rattle.declarations.specs.rules.Names.{Inside, Outside, Target, Name, Range, Expression, ExpressionOpen}
 use Rattle.declarations.specs.rules.Names.{ExpressionWhole, ExpressionLess, ExpressionDot, Closure, Cast, CastWhole}
 use Rattle.declarations.specs.rules.Names.{Function, Qualified, Async, Constant, Static, Alias, Struct, Enum, Union}
@@ -16,9 +16,9 @@ use Rattle.declarations.specs.rules.Fronts.{async_front, const_front, function_f
 use Rattle.declarations.specs.rules.Items.{call, use_path}
 use Rattle.declarations.specs.rules.Impls.{impl_front}
 use Rattle.declarations.specs.rules.Paths.{path}
-use Rattle.declarations.specs.declared.class.SignClass.{SignClass}
-use Rattle.declarations.specs.declared.class.SignClass.TheVariants as signs
-use Rattle.declarations.specs.declared.class.Keyword.TheVariants as keywords
+use Rattle.item_tables.specs.declared.class.SignClass.{SignClass}
+use Rattle.item_tables.specs.declared.class.SignClass.TheVariants as signs
+use Rattle.item_tables.specs.declared.class.Keyword.TheVariants as keywords
 
 -- the grammar of each named rule
 abbrev pub rules : Name → G

@@ -1,13 +1,13 @@
 -- Types and bounds: what may follow in each state of the walk over them.
 use Rattle.std.specs.Prelude.{Bool, true, false, not, ◌&&◌, ◌||◌, [], ◌∷◌, if◌then◌else◌}
 use Rattle.grammars.specs.Grammar.{To, Then, Either, perhaps}
-use Rattle.declarations.specs.rules.Classes.{one_of, is, is_round, is_word, keyword, opens}
+use Rattle.item_tables.specs.Classes.{one_of, is, is_round, is_word, keyword, opens}
 use Rattle.declarations.specs.rules.Names.{Context, Inside, Outside, Target, Name, Range, G, alt}
-use Rattle.declarations.specs.declared.class.SignClass.{SignClass}
-use Rattle.declarations.specs.declared.class.SignClass.TheVariants as signs
-use Rattle.declarations.specs.declared.class.Keyword.TheVariants as keywords
-use Rattle.declarations.specs.declared.types.TypeState.{TypeState}
-use Rattle.declarations.specs.declared.types.TypeState.TheVariants as types
+use Rattle.item_tables.specs.declared.class.SignClass.{SignClass}
+use Rattle.item_tables.specs.declared.class.SignClass.TheVariants as signs
+use Rattle.item_tables.specs.declared.class.Keyword.TheVariants as keywords
+use Rattle.item_tables.specs.declared.types.TypeState.{TypeState}
+use Rattle.item_tables.specs.declared.types.TypeState.TheVariants as types
 
 -- whether the sign is an operand in every type, except words and lifetimes
 abbrev pub plain_operand : SignClass → Bool

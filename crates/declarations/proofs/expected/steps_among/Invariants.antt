@@ -1,7 +1,7 @@
 use Rattle.std.proofs.Common.{false, ◌&&◌, take, is_some}
-use Rattle.declarations.specs.Grammar.{step}
+use Rattle.item_tables.specs.Grammar.{step}
 use Rattle.declarations.specs.Expected.{HasSigns}
-use Rattle.declarations.specs.rules.Classes.{any_of, is}
+use Rattle.item_tables.specs.Classes.{any_of, is}
 use Rattle.declarations.proofs.expected.steps_among.Given as goal
 
 -- the set has the classes so far for which there is a step

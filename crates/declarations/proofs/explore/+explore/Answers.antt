@@ -3,7 +3,7 @@ use Rattle.declarations.specs.Syntax.{grammar_of}
 use Rattle.declarations.proofs.ExploreLemmas.{lists_element, lists_end, lists_more, lists_none, lists_stuck}
 use Rattle.declarations.proofs.ExploreLemmas.{sees_within}
 use Rattle.declarations.proofs.ExploreLemmas.{repeats_end, repeats_more, repeats_none, repeats_stuck}
-use Rattle.declarations.specs.declared.class.SignClass.TheVariants as classes
+use Rattle.item_tables.specs.declared.class.SignClass.TheVariants as classes
 use Rattle.declarations.proofs.ReaderLemmas.{remains_sign, remains_within}
 use Rattle.declarations.proofs.explore.+explore.Goals as goal
 

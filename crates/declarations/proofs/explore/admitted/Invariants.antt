@@ -1,7 +1,7 @@
 use Rattle.std.proofs.Common.{false, ◌&&◌, take}
 use Rattle.declarations.specs.Expected.{HasSigns, holds}
 use Rattle.declarations.specs.Syntax.{admits}
-use Rattle.declarations.specs.rules.Classes.{any_of, is}
+use Rattle.item_tables.specs.Classes.{any_of, is}
 use Rattle.declarations.proofs.explore.admitted.Given as goal
 
 -- the set has the classes so far that are in the given set, and with which the rule can begin

@@ -1,7 +1,7 @@
 use Rattle.std.proofs.Common.{false, ◌&&◌, take}
 use Rattle.declarations.specs.Expected.{HasSigns}
 use Rattle.declarations.specs.Syntax.{test_of}
-use Rattle.declarations.specs.rules.Classes.{any_of, is}
+use Rattle.item_tables.specs.Classes.{any_of, is}
 use Rattle.declarations.proofs.explore.passing.Given as goal
 
 -- the set has the classes so far that pass the test

@@ -1,6 +1,6 @@
 use Rattle.std.proofs.Common.{◌∙◌, subst, sym}
 use Rattle.declarations.specs.Signs.{BeginsWith}
-use Rattle.declarations.specs.declared.class.SignClass.TheVariants as signs
+use Rattle.item_tables.specs.declared.class.SignClass.TheVariants as signs
 use Rattle.declarations.specs.rules.Names.{one}
 use Rattle.declarations.proofs.ClassLemmas.{same_class}
 use Rattle.declarations.proofs.ReaderLemmas.{heads_none, heads_sign}

@@ -1,7 +1,7 @@
 use Rattle.grammars.specs.Grammar.{Nothing}
 use Rattle.grammars.proofs.NextWordLemmas as laws
 use Rattle.declarations.specs.Reader.{classes_in}
-use Rattle.declarations.specs.declared.class.SignClass.{SignClass}
+use Rattle.item_tables.specs.declared.class.SignClass.{SignClass}
 use Rattle.declarations.specs.rules.Names.{Label, Name}
 use Rattle.declarations.specs.rules.Rules.{rules}
 use Rattle.declarations.proofs.ExploreLemmas.{nothing_seen}

@@ -1,6 +1,6 @@
 use Rattle.declarations.proofs.FieldLemmas.{reads_alone}
 use Rattle.declarations.proofs.PartLemmas.{at, before, field}
-use Rattle.declarations.specs.declared.walk_state.Item.TheVariants as items
+use Rattle.item_tables.specs.declared.walk_state.Item.TheVariants as items
 use Rattle.declarations.proofs.field.parse_field.Goals as goal
 
 pub named_field-requires : goal.named_field-requires

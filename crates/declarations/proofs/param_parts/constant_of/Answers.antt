@@ -2,7 +2,7 @@ use Rattle.std.proofs.Common.{◌≡◌, true, false, subst}
 use Rattle.declarations.proofs.ParamLemmas.{back_more, back_sign, minus_fails, type_found}
 use Rattle.declarations.specs.Param.{is_constant, negative, one_sign}
 use Rattle.declarations.specs.Signs.{BeginsWith}
-use Rattle.declarations.specs.declared.class.SignClass.TheVariants as classes
+use Rattle.item_tables.specs.declared.class.SignClass.TheVariants as classes
 use Rattle.declarations.proofs.param_parts.constant_of.Goals as goal
 
 pub before-requires-in-Some-past_literal : goal.before-requires-in-Some-past_literal

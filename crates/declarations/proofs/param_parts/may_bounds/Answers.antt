@@ -1,7 +1,7 @@
 use Rattle.declarations.proofs.ParamLemmas.{may_found}
 use Rattle.declarations.specs.Forms.{AreBounds}
 use Rattle.declarations.specs.Reading.{Reads}
-use Rattle.declarations.specs.declared.class.SignClass.TheVariants as classes
+use Rattle.item_tables.specs.declared.class.SignClass.TheVariants as classes
 use Rattle.declarations.proofs.param_parts.may_bounds.Goals as goal
 
 pub returns-in-Some : goal.returns-in-Some

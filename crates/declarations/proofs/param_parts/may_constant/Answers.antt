@@ -1,6 +1,6 @@
 use Rattle.declarations.proofs.ParamLemmas.{may_found}
 use Rattle.declarations.specs.Param.{ReadsConstant}
-use Rattle.declarations.specs.declared.class.SignClass.TheVariants as classes
+use Rattle.item_tables.specs.declared.class.SignClass.TheVariants as classes
 use Rattle.declarations.proofs.param_parts.may_constant.Goals as goal
 
 pub returns-in-Some : goal.returns-in-Some

@@ -1,7 +1,7 @@
 use Rattle.declarations.proofs.ParamLemmas.{must_found, must_none}
 use Rattle.declarations.specs.Forms.{IsType}
 use Rattle.declarations.specs.Reading.{Reads}
-use Rattle.declarations.specs.declared.class.SignClass.TheVariants as classes
+use Rattle.item_tables.specs.declared.class.SignClass.TheVariants as classes
 use Rattle.declarations.proofs.param_parts.must_type.Goals as goal
 
 pub returns-in-Some : goal.returns-in-Some

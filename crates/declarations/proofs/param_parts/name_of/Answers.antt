@@ -3,8 +3,8 @@ use Rattle.std.proofs.lemmas.Grind.{common_steps}
 use Rattle.std.proofs.lemmas.Result.{err_from_is_err_and}
 use Rattle.declarations.proofs.ParamLemmas.{const_fails}
 use Rattle.declarations.specs.Signs.{BeginsWith}
-use Rattle.declarations.specs.declared.class.SignClass.TheVariants as classes
-use Rattle.declarations.specs.declared.class.Keyword.TheVariants as keywords
+use Rattle.item_tables.specs.declared.class.SignClass.TheVariants as classes
+use Rattle.item_tables.specs.declared.class.Keyword.TheVariants as keywords
 use Rattle.declarations.proofs.param_parts.name_of.Goals as goal
 
 pub returns-in_err-name-in-Keyword-Const-clause-nothing : goal.returns-in_err-name-in-Keyword-Const-clause-nothing

@@ -1,6 +1,6 @@
 use Rattle.declarations.proofs.FieldLemmas.{reads_alone}
 use Rattle.declarations.proofs.PartLemmas.{at, before, variant}
-use Rattle.declarations.specs.declared.walk_state.Item.TheVariants as items
+use Rattle.item_tables.specs.declared.walk_state.Item.TheVariants as items
 use Rattle.declarations.proofs.variant.parse_variant.Goals as goal
 
 pub variant_of-requires : goal.variant_of-requires

@@ -2,7 +2,7 @@ use Rattle.std.proofs.Common.{◌≡◌, ◌∙◌, ap, ◌==◌, true, false, l
 use Rattle.declarations.specs.Expected.{Expects}
 use Rattle.declarations.specs.Forms.{IsFrom}
 use Rattle.declarations.proofs.ExpectsLemmas.{walk_expects}
-use Rattle.declarations.specs.Grammar.{ends}
+use Rattle.item_tables.specs.Grammar.{ends}
 use Rattle.declarations.proofs.WholeLemmas.{span_at, whole_fault}
 use Rattle.declarations.proofs.walk.read_whole.Goals as goal
 use Rattle.declarations.proofs.walk.read_whole.Goals.{else-is_empty-via-then-is_empty+else-may_end}

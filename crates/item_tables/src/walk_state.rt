@@ -1,7 +1,7 @@
 //! The states of the walk over a declaration, and the moves from one state to another.
 ghost use Rattle.std.specs.Prelude.{◌≡◌};
-ghost use Rattle.declarations.specs.Moves.{at_spot, close_to, move_to, open_angle, to_bounds, to_front, to_spot};
-ghost use Rattle.declarations.specs.Moves.{to_type, turn_to, type_from};
+ghost use Rattle.item_tables.specs.Moves.{at_spot, close_to, move_to, open_angle, to_bounds, to_front, to_spot};
+ghost use Rattle.item_tables.specs.Moves.{to_type, turn_to, type_from};
 
 use crate::class::Word;
 use crate::types::{Turn, TypeState};

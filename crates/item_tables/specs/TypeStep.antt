@@ -1,20 +1,20 @@
 -- The steps of the walk over a type or bounds, up to their end.
 use Rattle.std.specs.Prelude.{Bool, true, false, Option, Some, None}
-use Rattle.declarations.specs.declared.class.SignClass.{SignClass}
-use Rattle.declarations.specs.declared.class.SignClass.TheVariants.{Word, SelfValue, SelfType, Super, Crate, Underscore}
-use Rattle.declarations.specs.declared.class.SignClass.TheVariants.{As, Truth, Literal, Lifetime, PathSeparator, Arrow}
-use Rattle.declarations.specs.declared.class.SignClass.TheVariants.{Restriction, Parentheses, Brackets, Braces, Block}
-use Rattle.declarations.specs.declared.class.SignClass.TheVariants.{Invisible, Less, LessJoint, Greater, Comma, Colon}
-use Rattle.declarations.specs.declared.class.SignClass.TheVariants.{Equals, Plus, Minus, Star, And, Question}
-use Rattle.declarations.specs.declared.class.SignClass.TheVariants.{Exclamation, Tilde}
-use Rattle.declarations.specs.declared.class.SignClass.TheVariants as signs
-use Rattle.declarations.specs.declared.class.Keyword.{Keyword}
-use Rattle.declarations.specs.declared.class.Keyword.TheVariants as keywords
-use Rattle.declarations.specs.declared.types.Turn.{Turn}
-use Rattle.declarations.specs.declared.types.Turn.TheVariants as turns
-use Rattle.declarations.specs.declared.types.TypeState.{TypeState}
-use Rattle.declarations.specs.declared.types.TypeState.TheVariants as states
-use Rattle.declarations.specs.declared.types.TypeStep.{TypeStep}
+use Rattle.item_tables.specs.declared.class.SignClass.{SignClass}
+use Rattle.item_tables.specs.declared.class.SignClass.TheVariants.{Word, SelfValue, SelfType, Super, Crate, Underscore}
+use Rattle.item_tables.specs.declared.class.SignClass.TheVariants.{As, Truth, Literal, Lifetime, PathSeparator, Arrow}
+use Rattle.item_tables.specs.declared.class.SignClass.TheVariants.{Restriction, Parentheses, Brackets, Braces, Block}
+use Rattle.item_tables.specs.declared.class.SignClass.TheVariants.{Invisible, Less, LessJoint, Greater, Comma, Colon}
+use Rattle.item_tables.specs.declared.class.SignClass.TheVariants.{Equals, Plus, Minus, Star, And, Question}
+use Rattle.item_tables.specs.declared.class.SignClass.TheVariants.{Exclamation, Tilde}
+use Rattle.item_tables.specs.declared.class.SignClass.TheVariants as signs
+use Rattle.item_tables.specs.declared.class.Keyword.{Keyword}
+use Rattle.item_tables.specs.declared.class.Keyword.TheVariants as keywords
+use Rattle.item_tables.specs.declared.types.Turn.{Turn}
+use Rattle.item_tables.specs.declared.types.Turn.TheVariants as turns
+use Rattle.item_tables.specs.declared.types.TypeState.{TypeState}
+use Rattle.item_tables.specs.declared.types.TypeState.TheVariants as states
+use Rattle.item_tables.specs.declared.types.TypeStep.{TypeStep}
 
 abbrev pub go : TypeState → Turn → Option TypeStep
 go state turn = Some (record { state = state; turn = turn })

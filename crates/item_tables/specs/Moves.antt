@@ -1,19 +1,19 @@
 -- The moves from one state of the walk to another.
 use Rattle.std.specs.Prelude.{Bool, true, false, Option, Some, None}
-use Rattle.declarations.specs.declared.walk_state.Front.{Front}
-use Rattle.declarations.specs.declared.walk_state.Item.{Item}
-use Rattle.declarations.specs.declared.walk_state.Continuation.{Continuation}
-use Rattle.declarations.specs.declared.walk_state.Continuation.TheVariants as rules
-use Rattle.declarations.specs.declared.walk_state.Shift.{Shift}
-use Rattle.declarations.specs.declared.walk_state.Spot.{Spot}
-use Rattle.declarations.specs.declared.walk_state.Spot.TheVariants as spots
-use Rattle.declarations.specs.declared.walk_state.State.{State}
-use Rattle.declarations.specs.declared.walk_state.State.TheVariants as states
-use Rattle.declarations.specs.declared.walk_state.TypeStart.{TypeStart}
-use Rattle.declarations.specs.declared.types.Turn.{Turn}
-use Rattle.declarations.specs.declared.types.Turn.TheVariants as turns
-use Rattle.declarations.specs.declared.types.TypeState.{TypeState}
-use Rattle.declarations.specs.declared.types.TypeState.TheVariants as types
+use Rattle.item_tables.specs.declared.walk_state.Front.{Front}
+use Rattle.item_tables.specs.declared.walk_state.Item.{Item}
+use Rattle.item_tables.specs.declared.walk_state.Continuation.{Continuation}
+use Rattle.item_tables.specs.declared.walk_state.Continuation.TheVariants as rules
+use Rattle.item_tables.specs.declared.walk_state.Shift.{Shift}
+use Rattle.item_tables.specs.declared.walk_state.Spot.{Spot}
+use Rattle.item_tables.specs.declared.walk_state.Spot.TheVariants as spots
+use Rattle.item_tables.specs.declared.walk_state.State.{State}
+use Rattle.item_tables.specs.declared.walk_state.State.TheVariants as states
+use Rattle.item_tables.specs.declared.walk_state.TypeStart.{TypeStart}
+use Rattle.item_tables.specs.declared.types.Turn.{Turn}
+use Rattle.item_tables.specs.declared.types.Turn.TheVariants as turns
+use Rattle.item_tables.specs.declared.types.TypeState.{TypeState}
+use Rattle.item_tables.specs.declared.types.TypeState.TheVariants as types
 
 abbrev pub turn_to : Item → Continuation → State → Turn → Option Shift
 turn_to item rule state turn = Some (record { item = item; rule = rule; state = state; turn = turn })

@@ -1,13 +1,13 @@
 //! The steps of the walk over an item, up to its name. A step says where a sign leads.
 ghost use Rattle.std.specs.Prelude.{◌≡◌};
-ghost use Rattle.declarations.specs.Front.{async_front, auto_front, call_group, call_name, call_path, call_word};
-ghost use Rattle.declarations.specs.Front.{const_front, const_gen, const_safe, crate_name, declaration, default_front};
-ghost use Rattle.declarations.specs.Front.{default_unsafe, extern_abi, extern_front, front_names, front_step};
-ghost use Rattle.declarations.specs.Front.{front_type, function_extern, gen_front, impl_angle, impl_const, impl_front};
-ghost use Rattle.declarations.specs.Front.{impl_word, item_keyword, item_word, macro_parameters, before_fn, rename};
-ghost use Rattle.declarations.specs.Front.{after_renaming_name, safe_front, static_front, type_item, unmarked_item};
-ghost use Rattle.declarations.specs.Front.{unsafe_extern, unsafe_front, until, until_first, use_front, use_path};
-ghost use Rattle.declarations.specs.Front.{use_segment};
+ghost use Rattle.item_tables.specs.Front.{async_front, auto_front, call_group, call_name, call_path, call_word};
+ghost use Rattle.item_tables.specs.Front.{const_front, const_gen, const_safe, crate_name, declaration, default_front};
+ghost use Rattle.item_tables.specs.Front.{default_unsafe, extern_abi, extern_front, front_names, front_step};
+ghost use Rattle.item_tables.specs.Front.{front_type, function_extern, gen_front, impl_angle, impl_const, impl_front};
+ghost use Rattle.item_tables.specs.Front.{impl_word, item_keyword, item_word, macro_parameters, before_fn, rename};
+ghost use Rattle.item_tables.specs.Front.{after_renaming_name, safe_front, static_front, type_item, unmarked_item};
+ghost use Rattle.item_tables.specs.Front.{unsafe_extern, unsafe_front, until, until_first, use_front, use_path};
+ghost use Rattle.item_tables.specs.Front.{use_segment};
 
 use crate::class::{Keyword, SignClass, Word};
 use crate::header::{body, generics, header, impl_header};

@@ -1,6 +1,6 @@
 //! The classes of signs that the grammar tells apart.
 ghost use Rattle.std.specs.Prelude.{◌≡◌};
-ghost use Rattle.declarations.specs.rules.Classes.{code};
+ghost use Rattle.item_tables.specs.Classes.{code};
 
 /// An identifier that is no keyword, or a raw identifier.
 #[derive(Clone, Copy, Debug, PartialEq, Eq)]
@@ -158,7 +158,7 @@ pub enum SignClass {
 }
 
 /// The number of a class. No two classes have the same number.
-pub(crate) fn code(class: SignClass) -> u8
+pub fn code(class: SignClass) -> u8
     ensures { result ≡ code class }
 {
     match class {

@@ -1,11 +1,11 @@
 //! The grammar of declarations as an automaton: what may follow each state of the walk.
 ghost use Rattle.std.specs.Prelude.{◌≡◌, ◌+◌, ◌≤◌, ◌<◌, ◌^◌, IfSome};
-ghost use Rattle.declarations.specs.Grammar.{after_angle, after_attribute, before, before_first, begin, closing_type};
-ghost use Rattle.declarations.specs.Grammar.{const_default, ends, follow, has_attributes, has_visibility, is_front};
-ghost use Rattle.declarations.specs.Grammar.{is_name, names, wants_name};
-ghost use Rattle.declarations.specs.Grammar.{lifetime_name, parameter, parameter_end, part_ends, public, range_state};
-ghost use Rattle.declarations.specs.Grammar.{range_step, rule_ends, shift_state, spot_ends, spot_step, spot_type, step};
-ghost use Rattle.declarations.specs.Grammar.{type_name, after_attributes_only, variant_body, variant_value};
+ghost use Rattle.item_tables.specs.Grammar.{after_angle, after_attribute, before, before_first, begin, closing_type};
+ghost use Rattle.item_tables.specs.Grammar.{const_default, ends, follow, has_attributes, has_visibility, is_front};
+ghost use Rattle.item_tables.specs.Grammar.{is_name, names, wants_name};
+ghost use Rattle.item_tables.specs.Grammar.{lifetime_name, parameter, parameter_end, part_ends, public, range_state};
+ghost use Rattle.item_tables.specs.Grammar.{range_step, rule_ends, shift_state, spot_ends, spot_step, spot_type, step};
+ghost use Rattle.item_tables.specs.Grammar.{type_name, after_attributes_only, variant_body, variant_value};
 
 use crate::class::{Keyword, SignClass};
 use crate::expression::{

@@ -1,8 +1,8 @@
 //! The steps of the walk over an expression, up to its end. A step says where a sign leads.
 ghost use Rattle.std.specs.Prelude.{◌≡◌};
-ghost use Rattle.declarations.specs.Expression.{cast, cast_whole, closure, expression, expression_dot};
-ghost use Rattle.declarations.specs.Expression.{expression_less, expression_open, expression_whole, operator};
-ghost use Rattle.declarations.specs.Expression.{variant_end};
+ghost use Rattle.item_tables.specs.Expression.{cast, cast_whole, closure, expression, expression_dot};
+ghost use Rattle.item_tables.specs.Expression.{expression_less, expression_open, expression_whole, operator};
+ghost use Rattle.item_tables.specs.Expression.{variant_end};
 
 use crate::class::SignClass;
 use crate::walk_state::{Continuation, Item, Part, Shift, Spot, open_angle, to_spot};

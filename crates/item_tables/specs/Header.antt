@@ -1,16 +1,16 @@
 -- The steps of the walk over an item, from its name on. A step says where a sign leads.
 use Rattle.std.specs.Prelude.{Bool, true, false, Option, None}
-use Rattle.declarations.specs.Moves.{only, to_bounds, to_front, to_spot, to_type}
-use Rattle.declarations.specs.declared.class.SignClass.{SignClass}
-use Rattle.declarations.specs.declared.class.SignClass.TheVariants as signs
-use Rattle.declarations.specs.declared.class.Keyword.TheVariants as keywords
-use Rattle.declarations.specs.declared.walk_state.Front.TheVariants as fronts
-use Rattle.declarations.specs.declared.walk_state.Item.{Item}
-use Rattle.declarations.specs.declared.walk_state.Item.TheVariants as items
-use Rattle.declarations.specs.declared.walk_state.Part.TheVariants as parts
-use Rattle.declarations.specs.declared.walk_state.Continuation.TheVariants as rules
-use Rattle.declarations.specs.declared.walk_state.Shift.{Shift}
-use Rattle.declarations.specs.declared.walk_state.Spot.TheVariants as spots
+use Rattle.item_tables.specs.Moves.{only, to_bounds, to_front, to_spot, to_type}
+use Rattle.item_tables.specs.declared.class.SignClass.{SignClass}
+use Rattle.item_tables.specs.declared.class.SignClass.TheVariants as signs
+use Rattle.item_tables.specs.declared.class.Keyword.TheVariants as keywords
+use Rattle.item_tables.specs.declared.walk_state.Front.TheVariants as fronts
+use Rattle.item_tables.specs.declared.walk_state.Item.{Item}
+use Rattle.item_tables.specs.declared.walk_state.Item.TheVariants as items
+use Rattle.item_tables.specs.declared.walk_state.Part.TheVariants as parts
+use Rattle.item_tables.specs.declared.walk_state.Continuation.TheVariants as rules
+use Rattle.item_tables.specs.declared.walk_state.Shift.{Shift}
+use Rattle.item_tables.specs.declared.walk_state.Spot.TheVariants as spots
 
 -- whether the item may end with a body in braces
 abbrev pub in_braces : Item → Bool

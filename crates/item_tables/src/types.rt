@@ -1,8 +1,8 @@
 //! The steps of the walk over a type or bounds, up to their end.
 ghost use Rattle.std.specs.Prelude.{◌≡◌};
-ghost use Rattle.declarations.specs.TypeStep.{abi, after_lifetime, argument, binder, bound, close_bracket};
-ghost use Rattle.declarations.specs.TypeStep.{continuation, for_binder, front, macro_group, may_end, minus};
-ghost use Rattle.declarations.specs.TypeStep.{open_bracket, operand, pointer, stay, step_of, tilde};
+ghost use Rattle.item_tables.specs.TypeStep.{abi, after_lifetime, argument, binder, bound, close_bracket};
+ghost use Rattle.item_tables.specs.TypeStep.{continuation, for_binder, front, macro_group, may_end, minus};
+ghost use Rattle.item_tables.specs.TypeStep.{open_bracket, operand, pointer, stay, step_of, tilde};
 
 use crate::class::{Keyword, SignClass};
 
@@ -54,7 +54,7 @@ pub struct TypeStep {
 }
 
 /// Whether a type may end in this state, outside of angle brackets.
-pub(crate) fn may_end(state: TypeState) -> bool
+pub fn may_end(state: TypeState) -> bool
     ensures { result ≡ may_end state }
 {
     match state {
@@ -266,7 +266,7 @@ fn binder(class: SignClass) -> Option<TypeStep>
 }
 
 /// The step from a state. `outside` says that no angle bracket is open.
-pub(crate) fn type_step(state: TypeState, class: SignClass, outside: bool) -> Option<TypeStep>
+pub fn type_step(state: TypeState, class: SignClass, outside: bool) -> Option<TypeStep>
     ensures { result ≡ step_of state class outside }
 {
     match state {

@@ -1,32 +1,32 @@
 -- The grammar of declarations as an automaton: what may follow each state of the walk.
 use Rattle.std.specs.Prelude.{ℕ, ◌+◌, ◌-◌, ◌==◌, ◌&&◌, Bool, true, false, Option, Some, None, if◌then◌else◌}
-use Rattle.declarations.specs.Expression.{cast, cast_whole, closure, expression, expression_dot, expression_less}
-use Rattle.declarations.specs.Expression.{expression_open, expression_whole, variant_end}
-use Rattle.declarations.specs.Front.{declaration, front_names, front_step, front_type, type_item, unmarked_item}
-use Rattle.declarations.specs.Header.{body, closing, generics, header, is_alone}
-use Rattle.declarations.specs.Moves.{at_spot, only, to_bounds, to_spot, to_type, type_from}
-use Rattle.declarations.specs.TypeStep.{step_of, may_end}
-use Rattle.declarations.specs.declared.class.SignClass.{SignClass}
-use Rattle.declarations.specs.declared.class.SignClass.TheVariants as signs
-use Rattle.declarations.specs.declared.class.Keyword.TheVariants as keywords
-use Rattle.declarations.specs.declared.walk_state.Item.{Item}
-use Rattle.declarations.specs.declared.walk_state.Item.TheVariants as items
-use Rattle.declarations.specs.declared.walk_state.Part.{Part}
-use Rattle.declarations.specs.declared.walk_state.Part.TheVariants as parts
-use Rattle.declarations.specs.declared.walk_state.WalkState.{WalkState}
-use Rattle.declarations.specs.declared.walk_state.Continuation.{Continuation}
-use Rattle.declarations.specs.declared.walk_state.Continuation.TheVariants as rules
-use Rattle.declarations.specs.declared.walk_state.Shift.{Shift}
-use Rattle.declarations.specs.declared.walk_state.Spot.{Spot}
-use Rattle.declarations.specs.declared.walk_state.Spot.TheVariants as spots
-use Rattle.declarations.specs.declared.walk_state.State.{State}
-use Rattle.declarations.specs.declared.walk_state.State.TheVariants as states
-use Rattle.declarations.specs.declared.walk_state.TypeStart.{TypeStart}
-use Rattle.declarations.specs.declared.types.Turn.{Turn}
-use Rattle.declarations.specs.declared.types.Turn.TheVariants as turns
-use Rattle.declarations.specs.declared.types.TypeState.{TypeState}
-use Rattle.declarations.specs.declared.types.TypeState.TheVariants as types
-use Rattle.declarations.specs.declared.types.TypeStep.{TypeStep}
+use Rattle.item_tables.specs.Expression.{cast, cast_whole, closure, expression, expression_dot, expression_less}
+use Rattle.item_tables.specs.Expression.{expression_open, expression_whole, variant_end}
+use Rattle.item_tables.specs.Front.{declaration, front_names, front_step, front_type, type_item, unmarked_item}
+use Rattle.item_tables.specs.Header.{body, closing, generics, header, is_alone}
+use Rattle.item_tables.specs.Moves.{at_spot, only, to_bounds, to_spot, to_type, type_from}
+use Rattle.item_tables.specs.TypeStep.{step_of, may_end}
+use Rattle.item_tables.specs.declared.class.SignClass.{SignClass}
+use Rattle.item_tables.specs.declared.class.SignClass.TheVariants as signs
+use Rattle.item_tables.specs.declared.class.Keyword.TheVariants as keywords
+use Rattle.item_tables.specs.declared.walk_state.Item.{Item}
+use Rattle.item_tables.specs.declared.walk_state.Item.TheVariants as items
+use Rattle.item_tables.specs.declared.walk_state.Part.{Part}
+use Rattle.item_tables.specs.declared.walk_state.Part.TheVariants as parts
+use Rattle.item_tables.specs.declared.walk_state.WalkState.{WalkState}
+use Rattle.item_tables.specs.declared.walk_state.Continuation.{Continuation}
+use Rattle.item_tables.specs.declared.walk_state.Continuation.TheVariants as rules
+use Rattle.item_tables.specs.declared.walk_state.Shift.{Shift}
+use Rattle.item_tables.specs.declared.walk_state.Spot.{Spot}
+use Rattle.item_tables.specs.declared.walk_state.Spot.TheVariants as spots
+use Rattle.item_tables.specs.declared.walk_state.State.{State}
+use Rattle.item_tables.specs.declared.walk_state.State.TheVariants as states
+use Rattle.item_tables.specs.declared.walk_state.TypeStart.{TypeStart}
+use Rattle.item_tables.specs.declared.types.Turn.{Turn}
+use Rattle.item_tables.specs.declared.types.Turn.TheVariants as turns
+use Rattle.item_tables.specs.declared.types.TypeState.{TypeState}
+use Rattle.item_tables.specs.declared.types.TypeState.TheVariants as types
+use Rattle.item_tables.specs.declared.types.TypeStep.{TypeStep}
 
 -- ---- generic parameters
 

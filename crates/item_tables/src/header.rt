@@ -1,8 +1,8 @@
 //! The steps of the walk over an item, from its name on. A step says where a sign leads.
 ghost use Rattle.std.specs.Prelude.{◌≡◌};
-ghost use Rattle.declarations.specs.Header.{alias_header, body, closing, function_header, generics, has_where};
-ghost use Rattle.declarations.specs.Header.{header, impl_header, in_block, in_braces, in_semicolon, is_alone};
-ghost use Rattle.declarations.specs.Header.{return_header, struct_header, trait_header, typed_header, value};
+ghost use Rattle.item_tables.specs.Header.{alias_header, body, closing, function_header, generics, has_where};
+ghost use Rattle.item_tables.specs.Header.{header, impl_header, in_block, in_braces, in_semicolon, is_alone};
+ghost use Rattle.item_tables.specs.Header.{return_header, struct_header, trait_header, typed_header, value};
 
 use crate::class::{Keyword, SignClass};
 use crate::walk_state::{

@@ -1,10 +1,10 @@
 -- The list of all classes of signs, and tests of classes.
 use Rattle.std.specs.Prelude.{ℕ, ◌==◌, Bool, true, false, ◌&&◌, ◌||◌, List, [], ◌∷◌}
-use Rattle.declarations.specs.declared.class.SignClass.{SignClass}
-use Rattle.declarations.specs.declared.class.SignClass.TheVariants as signs
-use Rattle.declarations.specs.declared.class.Keyword.{Keyword}
-use Rattle.declarations.specs.declared.class.Keyword.TheVariants as keywords
-use Rattle.declarations.specs.declared.class.Word.TheVariants as words
+use Rattle.item_tables.specs.declared.class.SignClass.{SignClass}
+use Rattle.item_tables.specs.declared.class.SignClass.TheVariants as signs
+use Rattle.item_tables.specs.declared.class.Keyword.{Keyword}
+use Rattle.item_tables.specs.declared.class.Keyword.TheVariants as keywords
+use Rattle.item_tables.specs.declared.class.Word.TheVariants as words
 
 -- the number of a class, which is its position in the list of all classes
 abbrev pub code : SignClass → ℕ

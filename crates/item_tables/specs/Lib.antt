@@ -1,0 +1,7 @@
+pub mod Classes
+pub mod TypeStep
+pub mod Moves
+pub mod Expression
+pub mod Header
+pub mod Front
+pub mod Grammar
