@@ -1,13 +1,13 @@
 #!/usr/bin/env python3
-"""Compares the tables of crates/declarations with a grammar, on all short lists of signs.
+"""Compares the tables of crates/item_tables with a grammar, on all short lists of signs.
 
 For each part, and each list of signs over an alphabet, it looks for all readings of the list by `grammar.txt`. There
 must be one at most. The walk by the tables in `specs/` must end exactly where there is one, and go on exactly where
 the list is a front of one. The tables are read from the definitions, so a wrong row of these shows here.
 
 Entries of attributes, parameters of functions, paths and generic arguments have no table. In place of a walk by tables,
-these are read by their rules in `specs/rules`, as `dev/checks/grammar_value.py` reads this value. So are generic
-parameters, without the brackets.
+these are read by their rules in `crates/declarations/specs/rules`, as `dev/checks/grammar_value.py` reads this value.
+So are generic parameters, without the brackets.
 
 Usage: readings.py [--code] [LENGTH [PART..]]
 
@@ -24,7 +24,7 @@ import tempfile
 
 sys.dont_write_bytecode = True
 HERE = os.path.dirname(os.path.abspath(__file__))
-SPECS = os.path.join(HERE, "..", "..", "crates", "declarations", "specs")
+SPECS = os.path.join(HERE, "..", "..", "crates", "item_tables", "specs")
 sys.path.insert(0, os.path.join(HERE, ".."))
 from workspace import TOP, package, place  # noqa: E402
 

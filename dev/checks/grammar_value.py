@@ -1,9 +1,10 @@
 """Reads grammars that are written as values, in `.antt` definitions, and computes with them.
 
-`Value` has the definitions of crates/declarations/specs/rules. It evaluates them: a grammar becomes a tree of the words
-of crates/grammars (`Nothing`, `Sign`, `To`, `Mark`, `Then`, `Either`, `Many`, `Listed`), where a test of signs is the
-set of classes that pass it, and `("ref", KEY)` stands for another definition. `Machine` reads signs by such trees.
-What this reader does not know, in a file or in a definition, is an `Unknown`, which names the place.
+`Value` has the definitions of crates/declarations/specs/rules, and the tests of classes of signs that
+crates/item_tables has. It evaluates them: a grammar becomes a tree of the words of crates/grammars (`Nothing`, `Sign`,
+`To`, `Mark`, `Then`, `Either`, `Many`, `Listed`), where a test of signs is the set of classes that pass it, and
+`("ref", KEY)` stands for another definition. `Machine` reads signs by such trees. What this reader does not know, in a
+file or in a definition, is an `Unknown`, which names the place.
 """
 import dataclasses
 import functools
@@ -14,7 +15,8 @@ TOP = pathlib.Path(__file__).resolve().parents[2]
 RULES = TOP / "crates/declarations/specs/rules"
 LIST_OF_FILES = TOP / "crates/declarations/specs/rules.antt"
 WORDS_OF_GRAMMARS = TOP / "crates/grammars/specs/Grammar.antt"
-CLASSES = TOP / "crates/declarations/src/class.rt"
+CLASSES = TOP / "crates/item_tables/src/class.rt"
+TESTS_OF_CLASSES = TOP / "crates/item_tables/specs/Classes.antt"
 
 TOKEN = re.compile(r"[A-Za-z_]\w*(?:\.[A-Za-z_]\w*)*|\d+|&&|\|\||==|\[\]|::|\S")
 
@@ -272,13 +274,14 @@ def is_true(value) -> bool:
 class Value:
     """All definitions of the grammar of declarations. A key is a module, a definition's name, and its arguments."""
 
-    def __init__(self, folder: pathlib.Path = RULES):
+    def __init__(self, folder: pathlib.Path = RULES, tests: pathlib.Path = TESTS_OF_CLASSES):
         listed = re.findall(r"^pub mod (\w+)$", LIST_OF_FILES.read_text(), re.M)
         there = {path.stem for path in folder.glob("*.antt")}
         if there != set(listed):
             raise Unknown(f"rules.antt does not list the files of rules: {sorted(there ^ set(listed))}")
         self.modules = {name: Module(folder / f"{name}.antt") for name in listed}
         self.modules["Grammar"] = Module(WORDS_OF_GRAMMARS)
+        self.modules["Classes"] = Module(tests)
         self.known: dict[tuple, object] = {}
         self.arguments: dict[tuple, tuple] = {}
         self.answers: dict[tuple, object] = {}

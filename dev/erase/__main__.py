@@ -32,7 +32,7 @@ WORKLOADS = TOP / 'dev/workloads'
 # The library crates, lowest first, whose text becomes modules of the package.
 LIBRARIES = [
     'lexical', 'literal_escaper', 'pm_span', 'pm_token', 'pm_stream', 'token_buffer', 'proc_macro2', 'quoting',
-    'explain', 'layout', 'pretty_printer', 'relayout', 'declarations', 'item_headers',
+    'explain', 'layout', 'pretty_printer', 'relayout', 'item_tables', 'declarations', 'item_headers',
 ]
 # The crates that only a test of the package takes.
 TESTED = ['conformance']
@@ -144,6 +144,8 @@ def make_library(checkout, folder):
     crates, problems = [crate for crate in LIBRARIES if (checkout / 'crates' / crate).is_dir()], []
     files = erase_all(crates, [], folder / 'src', collections.Counter(), problems, top=checkout)
     reject(problems)
+    # A crate that an older checkout does not have is an empty module.
+    files.update({folder / 'src' / f'{crate}.rs': '' for crate in LIBRARIES if crate not in crates})
     made = {PACKAGE / 'src' / name for crate in LIBRARIES for name in (crate, f'{crate}.rs')}
     made |= {PACKAGE / name for name in ('target', 'Cargo.lock')}
     shutil.copytree(PACKAGE, folder, dirs_exist_ok=True,

@@ -217,7 +217,6 @@
 //! - <a id="declarations.Attribute.doc_of"></a>**doc_of**: the literal, if the trees in the brackets are `doc`,
 //!   `=` Alone and that literal
 //! - <a id="declarations.Ending.ending_at"></a>**ending_at**: the error with this span, if it has none
-//! - <a id="declarations.Grammar.ends"></a>**ends**: whether the part that is read may end in this state
 //! - <a id="declarations.rules.Entries.entry"></a>**entry**: an entry: a literal, or a path with what follows
 //!   it
 //! - <a id="declarations.Entry.entry_extent"></a>**entry_extent**: the span of the first tree of an entry that
@@ -251,8 +250,6 @@
 //!   be a name
 //! - <a id="declarations.Attribute.is_named"></a>**is_named**: whether the trees are one identifier with this
 //!   text, perhaps in groups without delimiters
-//! - <a id="declarations.Grammar.names"></a>**names**: whether a sign of this class is the name of the item, in
-//!   this state
 //! - <a id="declarations.Ending.or_extent"></a>**or_extent**: the span, or this other one if there is none
 //! - <a id="declarations.Param.param_trees"></a>**param_trees**: the parts of a generic parameter that the
 //!   library returns, as lists of trees
@@ -267,8 +264,6 @@
 //!   groups without delimiters
 //! - <a id="declarations.CompileError.span_or_call_site"></a>**span_or_call_site**: the span at which an error
 //!   is reported: that of the tree, or the call site if trees are missing
-//! - <a id="declarations.Grammar.step"></a>**step**: the state that a sign of this class leads to, or nothing
-//!   if the sign cannot come next
 //! - <a id="declarations.rules.Parts.tuple_field"></a>**tuple_field**: a field without a name: attributes, a
 //!   visibility and a type
 //! - <a id="declarations.rules.Parts.tuple_fields"></a>**tuple_fields**: fields without names
@@ -352,6 +347,20 @@
 //!   in a type
 //! - <a id="item_headers.Header.where_with"></a>**where_with**: `where`, the predicates of the item and then
 //!   more predicates, or nothing if there are none
+//!
+//! # Words of `item_tables`
+//!
+//! - <a id="item_tables.Classes.code"></a>**code**: the number of a class, which is its position in the list of
+//!   all classes
+//! - <a id="item_tables.Grammar.ends"></a>**ends**: whether the part that is read may end in this state
+//! - <a id="item_tables.TypeStep.may_end"></a>**may_end**: whether a type may end in this state, outside of
+//!   angle brackets
+//! - <a id="item_tables.Grammar.names"></a>**names**: whether a sign of this class is the name of the item, in
+//!   this state
+//! - <a id="item_tables.Grammar.step"></a>**step**: the state that a sign of this class leads to, or nothing if
+//!   the sign cannot come next
+//! - <a id="item_tables.TypeStep.step_of"></a>**step_of**: the step from a state. The last argument says that
+//!   no angle bracket is open
 //!
 //! # Words of `layout`
 //!

@@ -164,6 +164,8 @@ erased! {
     #[cfg(feature = "relayout")]
     relayout
     #[cfg(feature = "declarations")]
+    item_tables
+    #[cfg(feature = "declarations")]
     #[allow(unused_variables)]
     declarations
     #[cfg(feature = "item_headers")]

@@ -49,7 +49,9 @@ pub enum Turn {
 /// A step of the walk over a type.
 #[derive(Clone, Copy)]
 pub struct TypeStep {
+    /// What may come next.
     pub state: TypeState,
+    /// How the sign changes the number of open angle brackets.
     pub turn: Turn,
 }
 
@@ -265,7 +267,7 @@ fn binder(class: SignClass) -> Option<TypeStep>
     }
 }
 
-/// The step from a state. `outside` says that no angle bracket is open.
+/// The step from a state, or `None` if the sign cannot come next. `outside` says that no angle bracket is open.
 pub fn type_step(state: TypeState, class: SignClass, outside: bool) -> Option<TypeStep>
     ensures { result ≡ step_of state class outside }
 {

@@ -3,7 +3,7 @@
 
 use crate::declarations::fault::Fault;
 use crate::declarations::walk::split_from;
-use crate::declarations::walk_state::{Continuation, Item, Part, Spot, State, WalkState};
+use crate::item_tables::walk_state::{Continuation, Item, Part, Spot, State, WalkState};
 use crate::pm_stream::TokenTree;
 use crate::pm_token::Ident;
 

@@ -3,7 +3,6 @@
 
 use crate::declarations::attribute::is_named;
 use crate::declarations::bare::{bare_trees, has_no_delimiters, inside_of};
-use crate::declarations::class::SignClass;
 use crate::declarations::explore::fault_by;
 use crate::declarations::fault::Fault;
 use crate::declarations::item::split_group;
@@ -11,7 +10,8 @@ use crate::declarations::reader::{begins, is, part, past};
 use crate::declarations::signs::first_sign;
 use crate::declarations::syntax::ENTRY;
 use crate::declarations::walk::walk_past;
-use crate::declarations::walk_state::{Continuation, Item, Spot, State, WalkState};
+use crate::item_tables::class::SignClass;
+use crate::item_tables::walk_state::{Continuation, Item, Spot, State, WalkState};
 use crate::pm_span::Span;
 use crate::pm_stream::{Group, TokenTree};
 use crate::pm_token::Ident;

@@ -1,8 +1,8 @@
 // Made from crates/declarations/src/expected.rt by dev/erase: change that file, not this one.
 //! The signs that can come next where trees do not fit the grammar.
 
-use crate::declarations::class::{Keyword, SignClass, Word, code};
-use crate::declarations::walk_state::WalkState;
+use crate::item_tables::class::{Keyword, SignClass, Word, code};
+use crate::item_tables::walk_state::WalkState;
 
 /// A set of classes of signs, which may also have the end in it.
 ///

@@ -5,7 +5,7 @@ use crate::declarations::any_item::{AnyItem, ItemKind, split_any_item};
 use crate::declarations::fault::Fault;
 use crate::declarations::part_splitting::split_inner_attributes;
 use crate::declarations::walk::read_whole;
-use crate::declarations::walk_state::{Continuation, Item, Part, Spot, State, WalkState};
+use crate::item_tables::walk_state::{Continuation, Item, Part, Spot, State, WalkState};
 use crate::pm_stream::{Group, TokenTree};
 use crate::pm_token::Delimiter;
 

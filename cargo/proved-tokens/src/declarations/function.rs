@@ -1,7 +1,6 @@
 // Made from crates/declarations/src/function.rt by dev/erase: change that file, not this one.
 //! The parts of a function.
 
-use crate::declarations::class::{Keyword, SignClass, Word};
 use crate::declarations::explore::fault_by;
 use crate::declarations::fault::Fault;
 use crate::declarations::item::{split_group, split_name, split_parentheses};
@@ -10,7 +9,8 @@ use crate::declarations::reader::{begins_identifier, begins_mark, is, part, past
 use crate::declarations::signs::{first_sign, group_class, name_class};
 use crate::declarations::syntax::FUNCTION;
 use crate::declarations::walk::walk_past;
-use crate::declarations::walk_state::{Continuation, Item, Spot, State, WalkState};
+use crate::item_tables::class::{Keyword, SignClass, Word};
+use crate::item_tables::walk_state::{Continuation, Item, Spot, State, WalkState};
 use crate::pm_stream::{Group, TokenTree};
 use crate::pm_token::Ident;
 

@@ -1,7 +1,6 @@
 // Made from crates/declarations/src/generic_argument.rt by dev/erase: change that file, not this one.
 //! The generic arguments of a path, one at a time.
 
-use crate::declarations::class::SignClass;
 use crate::declarations::explore::fault_by;
 use crate::declarations::fault::Fault;
 use crate::declarations::list::{fault_after, past_comma};
@@ -10,7 +9,8 @@ use crate::declarations::range::past_range;
 use crate::declarations::reader::{begins, is, part, past};
 use crate::declarations::signs::first_sign;
 use crate::declarations::syntax::ARGUMENT;
-use crate::declarations::types::TypeState;
+use crate::item_tables::class::SignClass;
+use crate::item_tables::types::TypeState;
 use crate::pm_stream::TokenTree;
 
 /// The form of a generic argument.

@@ -1,7 +1,6 @@
 // Made from crates/declarations/src/implementation.rt by dev/erase: change that file, not this one.
 //! The parts of an `impl`.
 
-use crate::declarations::class::{Keyword, SignClass, Word};
 use crate::declarations::explore::fault_by;
 use crate::declarations::fault::Fault;
 use crate::declarations::function::{is_name, may, past_generics, past_visibility, past_where};
@@ -11,6 +10,7 @@ use crate::declarations::reader::{is, part};
 use crate::declarations::signs::first_sign;
 use crate::declarations::syntax::IMPL;
 use crate::declarations::type_path::opens;
+use crate::item_tables::class::{Keyword, SignClass, Word};
 use crate::pm_stream::{Group, TokenTree};
 
 /// An `impl`, with its parts in reading order.

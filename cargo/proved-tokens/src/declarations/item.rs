@@ -1,12 +1,12 @@
 // Made from crates/declarations/src/item.rt by dev/erase: change that file, not this one.
 //! Structs, enums and unions, as a derive macro gets them.
 
-use crate::declarations::class::{Keyword, SignClass};
 use crate::declarations::fault::Fault;
 use crate::declarations::part_splitting::{split_attributes, split_generics, split_visibility, split_where};
 use crate::declarations::signs::name_class;
 use crate::declarations::walk::read_whole;
-use crate::declarations::walk_state::{Continuation, Item, Part, Spot, State, WalkState};
+use crate::item_tables::class::{Keyword, SignClass};
+use crate::item_tables::walk_state::{Continuation, Item, Part, Spot, State, WalkState};
 use crate::pm_stream::{Group, TokenTree};
 use crate::pm_token::{Delimiter, Ident};
 

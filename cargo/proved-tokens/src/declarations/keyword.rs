@@ -1,8 +1,8 @@
 // Made from crates/declarations/src/keyword.rt by dev/erase: change that file, not this one.
 //! Which identifiers are keywords of the grammar.
 
-use crate::declarations::class::SignClass;
 use crate::declarations::signs::name_class;
+use crate::item_tables::class::SignClass;
 use crate::pm_token::Ident;
 
 /// Returns whether the identifier is a keyword of the grammar, and so cannot be a name.

@@ -4,10 +4,10 @@
 //! A function here returns the part at the start of the trees, and the trees after it. At an error it returns the trees
 //! from the error on.
 
-use crate::declarations::class::{Keyword, SignClass};
 use crate::declarations::generics::{Param, ParamKind, Predicate};
 use crate::declarations::part_splitting::{split_attributes, split_bounds, split_type};
 use crate::declarations::signs::first_sign;
+use crate::item_tables::class::{Keyword, SignClass};
 use crate::pm_stream::TokenTree;
 
 pub(crate) fn param_of<'a>(

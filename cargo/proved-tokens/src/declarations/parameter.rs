@@ -1,7 +1,6 @@
 // Made from crates/declarations/src/parameter.rt by dev/erase: change that file, not this one.
 //! The parameters of functions, one at a time.
 
-use crate::declarations::class::{Keyword, SignClass};
 use crate::declarations::explore::fault_by;
 use crate::declarations::fault::Fault;
 use crate::declarations::list::{fault_after, past_comma};
@@ -9,7 +8,8 @@ use crate::declarations::range::past_range;
 use crate::declarations::reader::{begins, begins_mark, is, part, past};
 use crate::declarations::signs::first_sign;
 use crate::declarations::syntax::{PARAMETER, PATTERN};
-use crate::declarations::types::TypeState;
+use crate::item_tables::class::{Keyword, SignClass};
+use crate::item_tables::types::TypeState;
 use crate::pm_stream::{Group, TokenTree};
 
 /// The form of a function's parameter.

@@ -5,9 +5,9 @@ use crate::declarations::fault::Fault;
 use crate::declarations::function::{past_generics, past_visibility, past_where};
 use crate::declarations::parameter::past_attributes;
 use crate::declarations::reader::part;
-use crate::declarations::types::TypeState;
 use crate::declarations::walk::split_from;
-use crate::declarations::walk_state::{Continuation, Item, Part, Spot, State, WalkState};
+use crate::item_tables::types::TypeState;
+use crate::item_tables::walk_state::{Continuation, Item, Part, Spot, State, WalkState};
 use crate::pm_stream::TokenTree;
 
 /// Reads a part that is in no item, from a state on.

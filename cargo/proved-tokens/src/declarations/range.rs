@@ -1,9 +1,9 @@
 // Made from crates/declarations/src/range.rt by dev/erase: change that file, not this one.
 //! The walk over a type or bounds alone.
 
-use crate::declarations::class::SignClass;
 use crate::declarations::signs::first_sign;
-use crate::declarations::types::{Turn, TypeState, may_end, type_step};
+use crate::item_tables::class::SignClass;
+use crate::item_tables::types::{Turn, TypeState, may_end, type_step};
 use crate::pm_stream::TokenTree;
 
 /// Skips a type or bounds from a state on. At an error it returns the trees after the longest prefix that can go on.

@@ -2,8 +2,8 @@
 //! Functions that read by one rule of the grammar. Each returns the trees after what its rule reads at the start of the
 //! trees, or the trees from the error on.
 
-use crate::declarations::class::{SignClass, code};
 use crate::declarations::signs::first_sign;
+use crate::item_tables::class::{SignClass, code};
 use crate::pm_stream::TokenTree;
 
 /// Whether a sign has this class.

@@ -2,7 +2,7 @@
 //! The signs of trees. A sign is one tree, or two trees that are read as one.
 
 use crate::declarations::bare::innermost;
-use crate::declarations::class::{Keyword, SignClass, Word};
+use crate::item_tables::class::{Keyword, SignClass, Word};
 use crate::pm_stream::{Group, TokenStream, TokenTree};
 use crate::pm_token::{Delimiter, Ident, Spacing};
 

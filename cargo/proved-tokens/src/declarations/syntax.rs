@@ -1,15 +1,15 @@
 // Made from crates/declarations/src/syntax.rt by dev/erase: change that file, not this one.
 //! Rules of the grammar as data, for the signs that can come next at an error.
 
-use crate::declarations::class::{Keyword, SignClass, Word};
 use crate::declarations::entry::{continues as continues_value, is_literal, is_segment};
 use crate::declarations::function::{is_block, is_name, is_safe};
 use crate::declarations::generic_argument::is_constant;
 use crate::declarations::parameter::{continues, is_pattern};
 use crate::declarations::reader::is;
 use crate::declarations::type_path::{is_round, opens};
-use crate::declarations::types::TypeState;
-use crate::declarations::walk_state::{Continuation, Item, Part, Spot, State, WalkState};
+use crate::item_tables::class::{Keyword, SignClass, Word};
+use crate::item_tables::types::TypeState;
+use crate::item_tables::walk_state::{Continuation, Item, Part, Spot, State, WalkState};
 
 /// A test of one sign.
 #[derive(Clone, Copy)]

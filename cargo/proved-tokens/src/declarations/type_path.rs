@@ -2,13 +2,13 @@
 //! The path of a type, with the name and the arguments of its last segment.
 
 use crate::declarations::bare::bare_trees;
-use crate::declarations::class::{Keyword, SignClass};
 use crate::declarations::fault::Fault;
 use crate::declarations::function::return_of;
 use crate::declarations::generic_argument::argument_of;
 use crate::declarations::item::{split_name, split_parentheses};
 use crate::declarations::reader::{begins, is, part};
 use crate::declarations::signs::{first_sign, name_class};
+use crate::item_tables::class::{Keyword, SignClass};
 use crate::pm_stream::{Group, TokenTree};
 use crate::pm_token::Ident;
 

@@ -4,7 +4,7 @@
 use crate::declarations::expected::steps_from;
 use crate::declarations::fault::Fault;
 use crate::declarations::signs::first_sign;
-use crate::declarations::walk_state::{Item, WalkState};
+use crate::item_tables::walk_state::{Item, WalkState};
 use crate::pm_stream::TokenTree;
 
 /// The part that the walk read, and what the walk found out about it.

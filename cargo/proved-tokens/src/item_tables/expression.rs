@@ -1,8 +1,8 @@
-// Made from crates/declarations/src/expression.rt by dev/erase: change that file, not this one.
+// Made from crates/item_tables/src/expression.rt by dev/erase: change that file, not this one.
 //! The steps of the walk over an expression, up to its end. A step says where a sign leads.
 
-use crate::declarations::class::SignClass;
-use crate::declarations::walk_state::{Continuation, Item, Part, Shift, Spot, open_angle, to_spot};
+use crate::item_tables::class::SignClass;
+use crate::item_tables::walk_state::{Continuation, Item, Part, Shift, Spot, open_angle, to_spot};
 
 /// The step where an operand must come.
 pub(crate) fn expression(item: Item, class: SignClass) -> Option<Shift>

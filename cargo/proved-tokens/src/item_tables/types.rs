@@ -1,7 +1,7 @@
-// Made from crates/declarations/src/types.rt by dev/erase: change that file, not this one.
+// Made from crates/item_tables/src/types.rt by dev/erase: change that file, not this one.
 //! The steps of the walk over a type or bounds, up to their end.
 
-use crate::declarations::class::{Keyword, SignClass};
+use crate::item_tables::class::{Keyword, SignClass};
 
 /// What may come next within a type.
 #[derive(Clone, Copy)]
@@ -46,12 +46,20 @@ pub enum Turn {
 /// A step of the walk over a type.
 #[derive(Clone, Copy)]
 pub struct TypeStep {
+    /// What may come next.
     pub state: TypeState,
+    /// How the sign changes the number of open angle brackets.
     pub turn: Turn,
 }
 
 /// Whether a type may end in this state, outside of angle brackets.
-pub(crate) fn may_end(state: TypeState) -> bool
+///
+/// # Contract
+///
+/// - `ensures`: <code>result ≡ [may_end] state</code>
+///
+/// [may_end]: crate::contracts#item_tables.TypeStep.may_end
+pub fn may_end(state: TypeState) -> bool
 {
     match state {
         TypeState::Whole | TypeState::Lifetime | TypeState::Bound => true,
@@ -245,8 +253,14 @@ fn binder(class: SignClass) -> Option<TypeStep>
     }
 }
 
-/// The step from a state. `outside` says that no angle bracket is open.
-pub(crate) fn type_step(state: TypeState, class: SignClass, outside: bool) -> Option<TypeStep>
+/// The step from a state, or `None` if the sign cannot come next. `outside` says that no angle bracket is open.
+///
+/// # Contract
+///
+/// - `ensures`: <code>result ≡ [step_of] state class outside</code>
+///
+/// [step_of]: crate::contracts#item_tables.TypeStep.step_of
+pub fn type_step(state: TypeState, class: SignClass, outside: bool) -> Option<TypeStep>
 {
     match state {
         TypeState::Wanted => operand(class, outside),

@@ -1,8 +1,8 @@
-// Made from crates/declarations/src/walk_state.rt by dev/erase: change that file, not this one.
+// Made from crates/item_tables/src/walk_state.rt by dev/erase: change that file, not this one.
 //! The states of the walk over a declaration, and the moves from one state to another.
 
-use crate::declarations::class::Word;
-use crate::declarations::types::{Turn, TypeState};
+use crate::item_tables::class::Word;
+use crate::item_tables::types::{Turn, TypeState};
 
 /// The item that the walk is in.
 #[derive(Clone, Copy)]
@@ -229,12 +229,19 @@ pub enum Spot {
     CastWhole,
     /// Before `<` and generic parameters, which may be left out.
     Generics,
+    /// After a lifetime that is a generic parameter.
     LifetimeName,
+    /// After the name of a type parameter.
     TypeName,
+    /// Before the name of a constant parameter.
     ConstName,
+    /// Before the `:` of a constant parameter.
     ConstColon,
+    /// Before the default of a constant parameter.
     ConstDefault,
+    /// After the `-` of the default of a constant parameter.
     ConstMinus,
+    /// After the default of a constant parameter, if the default is no type.
     ConstEnd,
     /// After generic parameters, or after the fields of a tuple struct.
     AfterGenerics,
@@ -266,8 +273,11 @@ pub enum State {
 /// A state of the walk over a declaration.
 #[derive(Clone, Copy)]
 pub struct WalkState {
+    /// The item that the walk is in.
     pub item: Item,
+    /// What may follow the type or the bounds that the walk is in.
     pub rule: Continuation,
+    /// What may come next.
     pub state: State,
     /// The number of angle brackets of a type that are open.
     pub depth: usize,
@@ -276,16 +286,22 @@ pub struct WalkState {
 /// A move to another state, outside of types and bounds.
 #[derive(Clone, Copy)]
 pub struct Shift {
+    /// The item that the walk is in then.
     pub item: Item,
+    /// What may follow the type or the bounds that the walk is in then.
     pub rule: Continuation,
+    /// What may come then.
     pub state: State,
+    /// How the sign changes the number of open angle brackets.
     pub turn: Turn,
 }
 
 /// A type that can begin in a state.
 #[derive(Clone, Copy)]
 pub struct TypeStart {
+    /// What may follow the type.
     pub rule: Continuation,
+    /// What may come first within the type.
     pub state: TypeState,
 }
 

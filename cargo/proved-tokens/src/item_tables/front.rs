@@ -1,10 +1,10 @@
-// Made from crates/declarations/src/front.rt by dev/erase: change that file, not this one.
+// Made from crates/item_tables/src/front.rt by dev/erase: change that file, not this one.
 //! The steps of the walk over an item, up to its name. A step says where a sign leads.
 
-use crate::declarations::class::{Keyword, SignClass, Word};
-use crate::declarations::header::{body, generics, header, impl_header};
-use crate::declarations::types::{Turn, TypeState};
-use crate::declarations::walk_state::{
+use crate::item_tables::class::{Keyword, SignClass, Word};
+use crate::item_tables::header::{body, generics, header, impl_header};
+use crate::item_tables::types::{Turn, TypeState};
+use crate::item_tables::walk_state::{
     Continuation, Front, Item, Part, Shift, Spot, State, TypeStart, close_to, to_front, to_spot,
     turn_to, type_from,
 };

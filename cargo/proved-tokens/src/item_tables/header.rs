@@ -1,8 +1,8 @@
-// Made from crates/declarations/src/header.rt by dev/erase: change that file, not this one.
+// Made from crates/item_tables/src/header.rt by dev/erase: change that file, not this one.
 //! The steps of the walk over an item, from its name on. A step says where a sign leads.
 
-use crate::declarations::class::{Keyword, SignClass};
-use crate::declarations::walk_state::{
+use crate::item_tables::class::{Keyword, SignClass};
+use crate::item_tables::walk_state::{
     Continuation, Front, Item, Part, Shift, Spot, to_bounds, to_front, to_spot, to_type,
 };
 

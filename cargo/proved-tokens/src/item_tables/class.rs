@@ -1,4 +1,4 @@
-// Made from crates/declarations/src/class.rt by dev/erase: change that file, not this one.
+// Made from crates/item_tables/src/class.rt by dev/erase: change that file, not this one.
 //! The classes of signs that the grammar tells apart.
 
 /// An identifier that is no keyword, or a raw identifier.
@@ -157,7 +157,13 @@ pub enum SignClass {
 }
 
 /// The number of a class. No two classes have the same number.
-pub(crate) fn code(class: SignClass) -> u8
+///
+/// # Contract
+///
+/// - `ensures`: <code>result ≡ [code] class</code>
+///
+/// [code]: crate::contracts#item_tables.Classes.code
+pub fn code(class: SignClass) -> u8
 {
     match class {
         SignClass::Word(Word::Auto) => 0,

@@ -1,15 +1,15 @@
-// Made from crates/declarations/src/grammar.rt by dev/erase: change that file, not this one.
+// Made from crates/item_tables/src/grammar.rt by dev/erase: change that file, not this one.
 //! The grammar of declarations as an automaton: what may follow each state of the walk.
 
-use crate::declarations::class::{Keyword, SignClass};
-use crate::declarations::expression::{
+use crate::item_tables::class::{Keyword, SignClass};
+use crate::item_tables::expression::{
     cast, cast_whole, closure, expression, expression_dot, expression_less, expression_open,
     expression_whole, variant_end,
 };
-use crate::declarations::front::{declaration, front_names, front_step, front_type, type_item, unmarked_item};
-use crate::declarations::header::{body, closing, generics, header, is_alone};
-use crate::declarations::types::{Turn, TypeState, may_end, type_step};
-use crate::declarations::walk_state::{
+use crate::item_tables::front::{declaration, front_names, front_step, front_type, type_item, unmarked_item};
+use crate::item_tables::header::{body, closing, generics, header, is_alone};
+use crate::item_tables::types::{Turn, TypeState, may_end, type_step};
+use crate::item_tables::walk_state::{
     Continuation, Item, Part, Shift, Spot, State, TypeStart, WalkState, at_spot, to_bounds,
     to_spot, to_type, type_from,
 };
@@ -23,7 +23,7 @@ impl WalkState {
     /// - `ensures value`: <code>result ≡ [step] self class</code>
     /// - `ensures depth`: <code>[IfSome] result (λ next. next.depth ≤ self.depth + 1)</code>
     ///
-    /// [step]: crate::contracts#declarations.Grammar.step
+    /// [step]: crate::contracts#item_tables.Grammar.step
     /// [IfSome]: crate::contracts#std.IfSome
     pub fn step(self, class: SignClass) -> Option<WalkState>
     {
@@ -60,7 +60,7 @@ impl WalkState {
     ///
     /// - `ensures`: <code>result ≡ [ends] self</code>
     ///
-    /// [ends]: crate::contracts#declarations.Grammar.ends
+    /// [ends]: crate::contracts#item_tables.Grammar.ends
     pub fn may_end(self) -> bool
     {
         match self.state {
@@ -77,7 +77,7 @@ impl WalkState {
     ///
     /// - `ensures`: <code>result ≡ [names] self class</code>
     ///
-    /// [names]: crate::contracts#declarations.Grammar.names
+    /// [names]: crate::contracts#item_tables.Grammar.names
     pub fn names(self, class: SignClass) -> bool
     {
         wants_name(self.state) && is_name(class)
