@@ -7,11 +7,13 @@ use Rattle.std.proofs.lemmas.List.{length-append}
 use Rattle.pm_stream.specs.declared.stream.TokenTree.{TokenTree}
 use Rattle.declarations.proofs.ListLemmas.{reads_fewer}
 use Rattle.declarations.proofs.ReadingLemmas.{split_only}
+use Rattle.declarations.specs.Expected.{Expects}
 use Rattle.declarations.specs.Fault.{first_extent, extent_at}
 use Rattle.declarations.specs.File.{AreItems, AreItemsBefore, FileFaultAt, IsFile, braces, last_braces}
 use Rattle.declarations.specs.Forms.{AreInnerAttributes, IsAnyItem, any_item}
 use Rattle.declarations.specs.Reading.{FaultAt, Reads}
 use Rattle.declarations.specs.Whole.{ReadsAll}
+use Rattle.declarations.specs.declared.expected.Expected.{Expected}
 
 -- an item has at least one tree
 pub item_fewer : (trees part rest : List TokenTree) → Reads IsAnyItem trees part rest → length rest < length trees
@@ -100,9 +102,9 @@ left_fits trees items left up =
     omega arith
 
 pub file_fault : (trees inner items left : List TokenTree) (within at : ℕ) → Reads AreInnerAttributes trees inner items
-    → ReadUpTo trees items left → 0 < length left → FaultAt IsAnyItem left within
-    → at + length left ≡ length trees + within → FileFaultAt trees at
-file_fault trees inner items left within at reads up more fault counted =
+    → ReadUpTo trees items left → 0 < length left → FaultAt IsAnyItem left within → (set : Expected)
+    → Expects IsAnyItem left within set → at + length left ≡ length trees + within → FileFaultAt trees at set
+file_fault trees inner items left within at reads up more fault set expected counted =
     let sum : length trees ≡ length up.front + length left = ap length up.whole ∙ length-append up.front left in
     inr (record {
       inner = inner;
@@ -116,6 +118,7 @@ file_fault trees inner items left within at reads up more fault counted =
       more = some_left left more;
       within = within;
       fault = fault;
+      expected = expected;
       counted = omega arith;
     })
 

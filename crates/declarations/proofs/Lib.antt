@@ -24,6 +24,7 @@ pub mod ExpectedTextLemmas
 pub mod ExploreLemmas
 pub mod SyntaxLemmas
 pub mod RuleExpectsLemmas
+pub mod CommaLemmas
 pub mod RuleLemmas
 pub mod StackLemmas
 pub mod AgreeLemmas

@@ -11,13 +11,12 @@ use Rattle.declarations.proofs.SignLemmas.{pair_signs, signs-cons}
 use Rattle.declarations.specs.Fault.{extent_at, first_extent}
 use Rattle.declarations.specs.Forms.{IsFrom, start}
 use Rattle.item_tables.specs.Grammar.{step, ends}
-use Rattle.declarations.specs.List.{IsPastComma, IsFieldOf, IsListFault, field_form}
+use Rattle.declarations.specs.List.{IsPastComma, IsFieldOf, field_form}
 use Rattle.declarations.specs.Reading.{Reads}
 use Rattle.declarations.specs.Signs.{Sign, signs, classes_of, trees_of, tree_class, pair_class}
 use Rattle.declarations.specs.Variant.{IsVariantAt}
 use Rattle.declarations.specs.Walk.{walk}
 use Rattle.item_tables.specs.declared.class.SignClass.{SignClass}
-use Rattle.declarations.specs.declared.fault.Fault.{Fault}
 use Rattle.declarations.specs.declared.field.Field.{Field}
 use Rattle.item_tables.specs.declared.walk_state.Part.TheVariants as parts
 use Rattle.item_tables.specs.declared.walk_state.WalkState.{WalkState}
@@ -110,22 +109,11 @@ variant_fewer trees rest left variant at past =
 
 -- ---- a part without a comma after it
 
-part_span : (trees part rest : List TokenTree) (at : ℕ) (span : Option Extent) → trees ≡ part ++ rest
+pub part_span : (trees part rest : List TokenTree) (at : ℕ) (span : Option Extent) → trees ≡ part ++ rest
     → at ≡ length part → span ≡ first_extent rest → span ≡ extent_at trees at
 part_span trees part rest at span whole counted first =
     first ∙ ap first_extent (sym (drop-append_seam part rest) ∙ ap (λ n. drop n (part ++ rest)) (sym counted)
     ∙ ap (drop at) (sym whole))
-
-pub lacks_comma : (form : List SignClass → List SignClass → Type 0) (trees part rest : List TokenTree) (fault : Fault)
-    → Reads form trees part rest → ((left : List TokenTree) → IsPastComma rest left → ⊥)
-    → fault.at ≡ length trees - length rest → fault.span ≡ first_extent rest → IsListFault form trees fault
-lacks_comma form trees part rest fault reads none at span =
-    let all = ap length reads.whole ∙ length-append part rest in
-    let counted : fault.at ≡ length part = omega arith in
-    record {
-      place = inr (record { part = part; rest = rest; reads = reads; counted = counted; none = none });
-      span = part_span trees part rest fault.at fault.span reads.whole counted span;
-    }
 
 pub rest_within : (form : List SignClass → List SignClass → Type 0) (trees part rest : List TokenTree)
     → Reads form trees part rest → length rest ≤ length trees

@@ -1,15 +1,17 @@
 -- How far a rule reads, and with what signs it can go on.
-use Rattle.std.specs.Prelude.{◌≡◌, ◌<◌, true, false, List, [], ◌∷◌, ℕ, length}
+use Rattle.std.specs.Prelude.{◌≡◌, ◌<◌, ◌||◌, true, false, List, [], ◌∷◌, ℕ, length}
 use Rattle.grammars.specs.Deterministic.{IsStart}
 use Rattle.grammars.specs.Grammar.{Then, Either}
 use Rattle.grammars.specs.Next as machine
 use Rattle.pm_stream.specs.declared.stream.TokenTree.{TokenTree}
-use Rattle.declarations.specs.Expected.{Expects, holds, holds_end}
+use Rattle.declarations.specs.Expected.{Expects, HasSigns, holds, holds_end}
 use Rattle.declarations.specs.Reader.{Remains, classes_in}
 use Rattle.declarations.specs.Reading.{FaultAt}
 use Rattle.declarations.specs.Whole.{IsWhole}
+use Rattle.item_tables.specs.declared.class.SignClass.TheVariants as classes
 use Rattle.declarations.specs.declared.expected.Expected.{Expected}
 use Rattle.declarations.specs.declared.explore.Seen.{Seen}
+use Rattle.item_tables.specs.Classes.{is}
 use Rattle.declarations.specs.rules.Names.{G}
 use Rattle.declarations.specs.rules.Pieces.{ByRule}
 use Rattle.declarations.specs.rules.Rules.{follows, rules}
@@ -53,3 +55,10 @@ Chooses first second seen =
 abbrev pub ExpectsWhole : G → List TokenTree → Expected → Type 0
 ExpectsWhole g trees set =
     IsStart rules follows (g ∷ []) → (at : ℕ) → FaultAt (IsWhole (ByRule g)) trees at → Expects (ByRule g) trees at set
+
+-- if the trees begin with a part by the rule, and other trees come after it, the set has exactly `,` and the signs with
+-- which the part could go on, and the end
+pub record ExpectsComma (g : G) (trees : List TokenTree) (set : Expected) : Type 0 where
+  pub onward : Expected
+  pub goes_on : ExpectsWhole g trees onward
+  pub signs : HasSigns set (λ class. is classes.Comma class || holds onward class) true

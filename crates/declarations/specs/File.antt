@@ -7,6 +7,7 @@ use Rattle.pm_token.specs.declared.delimiters.Delimiter.TheVariants as delimiter
 use Rattle.pm_stream.specs.declared.stream.Group.{Group as Grouped}
 use Rattle.pm_stream.specs.declared.stream.TokenTree.{TokenTree}
 use Rattle.pm_stream.specs.declared.stream.TokenTree.TheVariants.{Group}
+use Rattle.declarations.specs.Expected.{Expects}
 use Rattle.declarations.specs.Fault.{extent_at}
 use Rattle.declarations.specs.Forms.{AreInnerAttributes, IsAnyItem}
 use Rattle.declarations.specs.Kind.{Tells}
@@ -14,6 +15,7 @@ use Rattle.declarations.specs.Reading.{FaultAt, Reads}
 use Rattle.declarations.specs.declared.any_item.AnyItem.{AnyItem}
 use Rattle.declarations.specs.declared.any_item.ItemKind.{ItemKind}
 use Rattle.declarations.specs.declared.any_item.ItemKind.TheVariants as kinds
+use Rattle.declarations.specs.declared.expected.Expected.{Expected}
 use Rattle.declarations.specs.declared.fault.Fault.{Fault}
 use Rattle.declarations.specs.declared.file.Items.{Items}
 
@@ -32,8 +34,9 @@ pub record IsFile (trees inner items : List TokenTree) : Type 0 where
   pub inner_read : Reads AreInnerAttributes trees inner items
   pub are_items : AreItems items
 
--- after inner attributes and some items the trees go on with no item. The error there is after `at` trees
-pub record ItemFaultAt (trees : List TokenTree) (at : ℕ) : Type 0 where
+-- after inner attributes and some items the trees go on with no item. The error there is after `at` trees, and the set
+-- has exactly the signs that could come there in the item
+pub record ItemFaultAt (trees : List TokenTree) (at : ℕ) (set : Expected) : Type 0 where
   pub inner : List TokenTree
   pub items : List TokenTree
   pub inner_read : Reads AreInnerAttributes trees inner items
@@ -45,11 +48,14 @@ pub record ItemFaultAt (trees : List TokenTree) (at : ℕ) : Type 0 where
   pub more : left ≡ [] → ⊥
   pub within : ℕ
   pub fault : FaultAt IsAnyItem left within
+  pub expected : Expects IsAnyItem left within set
   pub counted : at ≡ length front + within
 
--- the trees are no file. The error is in the inner attributes, or in the first item that cannot be read
-abbrev pub FileFaultAt : List TokenTree → ℕ → Type 0
-FileFaultAt trees at = FaultAt AreInnerAttributes trees at ⊎ ItemFaultAt trees at
+-- the trees are no file. The error is in the inner attributes, or in the first item that cannot be read. The set has
+-- exactly the signs that could come there in the attributes or in the item
+abbrev pub FileFaultAt : List TokenTree → ℕ → Expected → Type 0
+FileFaultAt trees at set =
+    (FaultAt AreInnerAttributes trees at × Expects AreInnerAttributes trees at set) ⊎ ItemFaultAt trees at set
 
 -- the item has the kind and the name that the walk over its signs finds
 abbrev pub TellsOf : List TokenTree → List TokenTree → AnyItem → Type 0
@@ -64,7 +70,7 @@ GivesItem old given new =
     (λ found. MatchResult found
     (λ item. Reads IsAnyItem old.left.now item.trees.now new.left.now × TellsOf old.left.now new.left.now item)
     (λ fault. FaultAt IsAnyItem old.left.now fault.at × (fault.span ≡ extent_at old.left.now fault.at)
-    × (new.left.now ≡ [])))
+    × Expects IsAnyItem old.left.now fault.at fault.expected × (new.left.now ≡ [])))
 
 -- ---- the braces that an item ends with
 

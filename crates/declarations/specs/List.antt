@@ -1,16 +1,19 @@
 -- Lists of parts, one part at a time.
-use Rattle.std.specs.Prelude.{◌≡◌, ℕ, ◌⊎◌, Bool, true, false, List, [], ◌∷◌, Option, Result}
+use Rattle.std.specs.Prelude.{◌≡◌, ◌⊎◌, ◌||◌, Bool, true, false, List, [], ◌∷◌, Option, Result}
 use Rattle.std.specs.Prelude.{MatchOption, MatchResult, length}
 use Rattle.pm_stream.specs.Trees.{forest}
 use Rattle.pm_stream.specs.declared.stream.Group.{Group as Grouped}
 use Rattle.pm_stream.specs.declared.stream.TokenTree.{TokenTree}
 use Rattle.pm_stream.specs.declared.stream.TokenTree.TheVariants.{Punct}
+use Rattle.declarations.specs.Expected.{Expects, HasSigns, holds}
 use Rattle.declarations.specs.Fault.{extent_at}
 use Rattle.declarations.specs.Field.{IsFieldAt, HasFieldParts, HasTypeParts}
 use Rattle.declarations.specs.Forms.{IsField, IsTupleField, IsVariant}
 use Rattle.declarations.specs.Reading.{Reads, FaultAt}
 use Rattle.declarations.specs.Variant.{IsVariantAt}
 use Rattle.item_tables.specs.declared.class.SignClass.{SignClass}
+use Rattle.item_tables.specs.declared.class.SignClass.TheVariants as classes
+use Rattle.declarations.specs.declared.expected.Expected.{Expected}
 use Rattle.declarations.specs.declared.fault.Fault.{Fault}
 use Rattle.declarations.specs.declared.field.Field.{Field}
 use Rattle.declarations.specs.declared.item.Fields.{Fields}
@@ -18,6 +21,9 @@ use Rattle.declarations.specs.declared.item.Fields.TheVariants as fields
 use Rattle.declarations.specs.declared.list.FieldList.{FieldList}
 use Rattle.declarations.specs.declared.list.VariantList.{VariantList}
 use Rattle.declarations.specs.declared.variant.Variant.{Variant}
+use Rattle.item_tables.specs.Classes.{is}
+use Rattle.declarations.specs.rules.Names.{G}
+use Rattle.declarations.specs.rules.Parts as rule
 
 -- the trees are `,` (44) and then the left trees, or both are empty
 abbrev pub IsPastComma : List TokenTree → List TokenTree → Type 0
@@ -25,18 +31,29 @@ IsPastComma [] left = left ≡ []
 IsPastComma (Punct mark ∷ rest) left = (mark.mark ≡ 44) × (left ≡ rest)
 IsPastComma (tree ∷ rest) left = ⊥
 
--- a part is read, and neither `,` nor the end comes after it
-pub record LacksComma (form : List SignClass → List SignClass → Type 0) (trees : List TokenTree) (at : ℕ) : Type 0 where
+-- no part can be read, and the error has exactly the signs that could come there in a part
+pub record LacksPart (form : List SignClass → List SignClass → Type 0) (trees : List TokenTree) (fault : Fault)
+    : Type 0 where
+  pub place : FaultAt form trees fault.at
+  pub expected : Expects form trees fault.at fault.expected
+
+-- a part is read, and neither `,` nor the end comes after it. The error has exactly `,` and the signs with which the
+-- part could go on, and the end
+pub record LacksComma (form : List SignClass → List SignClass → Type 0) (trees : List TokenTree) (fault : Fault)
+    : Type 0 where
   pub part : List TokenTree
   pub rest : List TokenTree
   pub reads : Reads form trees part rest
-  pub counted : at ≡ length part
+  pub counted : fault.at ≡ length part
   pub none : (left : List TokenTree) → IsPastComma rest left → ⊥
+  pub onward : Expected
+  pub goes_on : Expects form trees fault.at onward
+  pub expected : HasSigns fault.expected (λ class. is classes.Comma class || holds onward class) true
 
 -- the error of a list: its next part cannot be read, or neither `,` nor the end comes after that part
 pub record IsListFault (form : List SignClass → List SignClass → Type 0) (trees : List TokenTree) (fault : Fault)
     : Type 0 where
-  pub place : FaultAt form trees fault.at ⊎ LacksComma form trees fault.at
+  pub place : LacksPart form trees fault ⊎ LacksComma form trees fault
   pub span : fault.span ≡ extent_at trees fault.at
 
 -- the list begins with this part, and the left trees are those after its comma
@@ -65,6 +82,10 @@ IsFieldOf false = IsFieldAt IsTupleField HasTypeParts
 abbrev pub field_form : Bool → List SignClass → List SignClass → Type 0
 field_form true = IsField
 field_form false = IsTupleField
+
+abbrev pub field_rule : Bool → G
+field_rule true = rule.field
+field_rule false = rule.tuple_field
 
 -- a call of `next` gives the next field or an error, and nothing if no trees are left
 abbrev pub GivesField : FieldList → Option (Result Field Fault) → FieldList → Type 0

@@ -13,7 +13,7 @@ ghost use Rattle.declarations.specs.Entry.{IsNearFault, IsNoEntry, IsOnlyPlainRe
 ghost use Rattle.declarations.specs.Entry.{IsPlainEntryFault, IsPlainFault, ReadsEntry};
 ghost use Rattle.declarations.specs.Entry.{entry_extent, entry_spot, only_name, sole_name, span_or};
 ghost use Rattle.declarations.specs.Expected.{Expects};
-ghost use Rattle.declarations.specs.Explore.{ExpectsWhole};
+ghost use Rattle.declarations.specs.Explore.{ExpectsComma, ExpectsWhole};
 ghost use Rattle.declarations.specs.Fault.{extent_at, first_extent};
 ghost use Rattle.declarations.specs.Reader.{Finds, ReadsRule, Sticks, classes_in};
 ghost use Rattle.declarations.specs.rules.Entries.{continues, entry, entry_list, entry_literal, entry_path};
@@ -26,7 +26,7 @@ ghost use Rattle.item_tables.specs.declared.class.SignClass.TheVariants as signs
 
 use crate::attribute::is_named;
 use crate::bare::{bare_trees, has_no_delimiters, inside_of};
-use crate::explore::fault_by;
+use crate::explore::{fault_at_comma, fault_by};
 use crate::fault::Fault;
 use crate::item::split_group;
 use crate::reader::{begins, is, part, past};
@@ -291,6 +291,21 @@ fn fault_after_entry(trees: &[TokenTree], rest: &[TokenTree]) -> Fault
     match split_bare(trees) {
         Some(_) => Fault::ahead_of(trees.len() - rest.len(), rest),
         None => fault_by(&ENTRY, trees, rest),
+    }
+}
+
+/// The error after an entry in a list that neither `,` nor the end follows. It does not say what was expected after a
+/// group without delimiters.
+#[cold]
+pub(crate) fn fault_without_comma(trees: &[TokenTree], rest: &[TokenTree]) -> Fault
+    requires { length rest.now ≤ length trees.now }
+    ensures at { result.at ≡ length trees.now - length rest.now }
+    ensures span { result.span ≡ first_extent rest.now }
+    ensures expected { bare_first trees.now ≡ None → ExpectsComma entry trees.now result.expected }
+{
+    match split_bare(trees) {
+        Some(_) => Fault::ahead_of(trees.len() - rest.len(), rest),
+        None => fault_at_comma(&ENTRY, trees, rest),
     }
 }
 

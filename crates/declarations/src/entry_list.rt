@@ -1,11 +1,12 @@
 //! The entries of an attribute's list, one at a time.
-ghost use Rattle.std.specs.Prelude.{◌≡◌, ◌<◌, IfOk, MatchResult, length};
+ghost use Rattle.std.specs.Prelude.{◌≡◌, ◌<◌, IfErr, IfOk, MatchResult, length};
 ghost use Rattle.declarations.specs.Entry.{IsEntryAt, IsEntryListFault};
+ghost use Rattle.declarations.specs.EntryList.{IsPlainListFault};
 ghost use Rattle.declarations.specs.List.{AreInside, IsFirst};
 
-use crate::entry::{Entry, parse_entry};
+use crate::entry::{Entry, fault_without_comma, parse_entry};
 use crate::fault::Fault;
-use crate::list::{fault_after, past_comma};
+use crate::list::past_comma;
 use pm_stream::{Group, TokenTree};
 
 /// The entries in a group of an attribute, in order. A `,` is between two entries, and may be after the last.
@@ -69,12 +70,13 @@ impl<'a> Iterator for Entries<'a> {
 pub(crate) fn first_entry(trees: &[TokenTree]) -> Result<(Entry<'_>, &[TokenTree]), Fault>
     ensures given { MatchResult result (λ found. IsFirst IsEntryAt trees.now found.0 found.1.now)
         (λ fault. IsEntryListFault trees.now fault) }
+    ensures expected { IfErr result (λ fault. IsPlainListFault trees.now fault) }
     ensures fewer { IfOk result (λ found. length found.1.now < length trees.now) }
 {
     match parse_entry(trees) {
         Ok((entry, rest)) => match past_comma(rest) {
             Some(left) => Ok((entry, left)),
-            None => Err(fault_after(trees, rest)),
+            None => Err(fault_without_comma(trees, rest)),
         },
         Err(fault) => Err(fault),
     }

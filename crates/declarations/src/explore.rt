@@ -3,7 +3,7 @@ ghost use Rattle.std.specs.Prelude.{◌≡◌, ◌-◌, ◌≤◌, ◌&&◌, IfN
 ghost use Rattle.grammars.specs.First.{heads, may_begin};
 ghost use Rattle.grammars.specs.Grammar.{Many, Mark, Nothing, Sign};
 ghost use Rattle.declarations.specs.Expected.{HasSigns, holds};
-ghost use Rattle.declarations.specs.Explore.{BeginsFirst, Chooses, ExpectsWhole, Joins, Sees, StopsFirst};
+ghost use Rattle.declarations.specs.Explore.{BeginsFirst, Chooses, ExpectsComma, ExpectsWhole, Joins, Sees, StopsFirst};
 ghost use Rattle.declarations.specs.Fault.{first_extent};
 ghost use Rattle.declarations.specs.Reader.{classes_in};
 ghost use Rattle.declarations.specs.Signs.{BeginsWith};
@@ -308,4 +308,17 @@ pub(crate) fn fault_by(syntax: &Syntax<'_>, trees: &[TokenTree], left: &[TokenTr
     ensures expected { ExpectsWhole (grammar_of syntax.now) trees.now result.expected }
 {
     Fault::ahead_of(trees.len() - left.len(), left).expecting(expected_by(syntax, trees))
+}
+
+/// The error of trees that begin with a part by the rule, after which neither `,` nor the end comes.
+#[cold]
+pub(crate) fn fault_at_comma(syntax: &Syntax<'_>, trees: &[TokenTree], rest: &[TokenTree]) -> Fault
+    requires { length rest.now ≤ length trees.now }
+    ensures at { result.at ≡ length trees.now - length rest.now }
+    ensures span { result.span ≡ first_extent rest.now }
+    ensures expected { ExpectsComma (grammar_of syntax.now) trees.now result.expected }
+{
+    let onward = expected_by(syntax, trees);
+    let fault = Fault::ahead_of(trees.len() - rest.len(), rest);
+    fault.expecting(onward.with(SignClass::Comma).with_end())
 }

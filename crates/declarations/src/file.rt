@@ -47,7 +47,7 @@ pub struct Items<'a> {
 /// and there are two items.
 pub fn parse_file(trees: &[TokenTree]) -> Result<File<'_>, Fault>
     ensures ok { IfOk result (λ file. IsFile trees.now file.inner.now file.items.left.now) }
-    ensures fault { IfErr result (λ fault. FileFaultAt trees.now fault.at) }
+    ensures fault { IfErr result (λ fault. FileFaultAt trees.now fault.at fault.expected) }
     ensures span { IfErr result (λ fault. fault.span ≡ extent_at trees.now fault.at) }
     ensures none { IfErr result (λ fault. (inner : List Tree) → (items : List Tree) → IsFile trees.now inner items
         → ⊥) }

@@ -17,9 +17,9 @@ ghost use Rattle.declarations.specs.rules.Names.{one};
 ghost use Rattle.declarations.specs.rules.Types.{bounds, type};
 ghost use Rattle.item_tables.specs.declared.class.SignClass.TheVariants as signs;
 
-use crate::explore::fault_by;
+use crate::explore::{fault_at_comma, fault_by};
 use crate::fault::Fault;
-use crate::list::{fault_after, past_comma};
+use crate::list::past_comma;
 use crate::parameter::past_type;
 use crate::range::past_range;
 use crate::reader::{begins, is, part, past};
@@ -144,7 +144,7 @@ fn first_argument(trees: &[TokenTree]) -> Result<(GenericArgument<'_>, &[TokenTr
     match parse_generic_argument(trees) {
         Ok((argument, rest)) => match past_comma(rest) {
             Some(left) => Ok((argument, left)),
-            None => Err(fault_after(trees, rest)),
+            None => Err(fault_at_comma(&ARGUMENT, trees, rest)),
         },
         Err(fault) => Err(fault),
     }

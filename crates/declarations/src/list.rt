@@ -1,16 +1,20 @@
 //! Lists of fields and of variants, one element at a time.
 ghost use Rattle.std.specs.Prelude.{◌≡◌, ◌-◌, ◌≤◌, ◌<◌, IfErr, IfNone, IfOk, IfSome, List, MatchResult, length, true};
 ghost use Rattle.pm_stream.specs.declared.stream.TokenTree.{TokenTree as Tree};
+ghost use Rattle.declarations.specs.Expected.{Expects};
+ghost use Rattle.declarations.specs.Explore.{ExpectsComma};
 ghost use Rattle.declarations.specs.Fault.{extent_at, first_extent};
 ghost use Rattle.declarations.specs.Forms.{IsVariant};
 ghost use Rattle.declarations.specs.List.{AreInside, IsFirst, IsFieldOf, IsListFault, IsPastComma, ListsFields};
-ghost use Rattle.declarations.specs.List.{field_form};
+ghost use Rattle.declarations.specs.List.{field_form, field_rule};
 ghost use Rattle.declarations.specs.Reading.{FaultAt};
 ghost use Rattle.declarations.specs.Variant.{IsVariantAt};
 
+use crate::explore::fault_at_comma;
 use crate::fault::Fault;
 use crate::field::{Field, parse_field, parse_tuple_field};
 use crate::item::Fields;
+use crate::syntax::{FIELD, TUPLE_FIELD, VARIANT};
 use crate::variant::{Variant, parse_variant};
 use pm_stream::{Group, TokenTree};
 
@@ -152,7 +156,7 @@ fn first_field(named: bool, trees: &[TokenTree]) -> Result<(Field<'_>, &[TokenTr
     match field_at(named, trees) {
         Ok((field, rest)) => match past_comma(rest) {
             Some(left) => Ok((field, left)),
-            None => Err(fault_after(trees, rest)),
+            None => Err(fault_after_field(named, trees, rest)),
         },
         Err(fault) => Err(fault),
     }
@@ -163,11 +167,27 @@ fn field_at(named: bool, trees: &[TokenTree]) -> Result<(Field<'_>, &[TokenTree]
     ensures ok { IfOk result (λ found. IsFieldOf named trees.now found.0 found.1.now) }
     ensures fault { IfErr result (λ fault. FaultAt (field_form named) trees.now fault.at) }
     ensures span { IfErr result (λ fault. fault.span ≡ extent_at trees.now fault.at) }
+    ensures expected { IfErr result (λ fault. Expects (field_form named) trees.now fault.at fault.expected) }
 {
     if named {
         parse_field(trees)
     } else {
         parse_tuple_field(trees)
+    }
+}
+
+/// The error after a field that neither `,` nor the end follows.
+#[cold]
+fn fault_after_field(named: bool, trees: &[TokenTree], rest: &[TokenTree]) -> Fault
+    requires { length rest.now ≤ length trees.now }
+    ensures at { result.at ≡ length trees.now - length rest.now }
+    ensures span { result.span ≡ first_extent rest.now }
+    ensures expected { ExpectsComma (field_rule named) trees.now result.expected }
+{
+    if named {
+        fault_at_comma(&FIELD, trees, rest)
+    } else {
+        fault_at_comma(&TUPLE_FIELD, trees, rest)
     }
 }
 
@@ -180,19 +200,10 @@ fn first_variant(trees: &[TokenTree]) -> Result<(Variant<'_>, &[TokenTree]), Fau
     match parse_variant(trees) {
         Ok((variant, rest)) => match past_comma(rest) {
             Some(left) => Ok((variant, left)),
-            None => Err(fault_after(trees, rest)),
+            None => Err(fault_at_comma(&VARIANT, trees, rest)),
         },
         Err(fault) => Err(fault),
     }
-}
-
-/// The error before `rest`, which are the last of the trees.
-pub(crate) fn fault_after(trees: &[TokenTree], rest: &[TokenTree]) -> Fault
-    requires { length rest.now ≤ length trees.now }
-    ensures at { result.at ≡ length trees.now - length rest.now }
-    ensures span { result.span ≡ first_extent rest.now }
-{
-    Fault::ahead_of(trees.len() - rest.len(), rest)
 }
 
 /// The trees after the comma that they begin with, or no trees if there are none.

@@ -23,9 +23,9 @@ ghost use Rattle.declarations.specs.rules.Types.{type};
 ghost use Rattle.item_tables.specs.declared.class.SignClass.TheVariants as signs;
 ghost use Rattle.declarations.specs.declared.parameter.Shape.TheVariants as shapes;
 
-use crate::explore::fault_by;
+use crate::explore::{fault_at_comma, fault_by};
 use crate::fault::Fault;
-use crate::list::{fault_after, past_comma};
+use crate::list::past_comma;
 use crate::range::past_range;
 use crate::reader::{begins, begins_mark, is, part, past};
 use crate::signs::first_sign;
@@ -632,7 +632,7 @@ fn first_parameter(trees: &[TokenTree]) -> Result<(Parameter<'_>, &[TokenTree]),
     match parse_parameter(trees) {
         Ok((parameter, rest)) => match past_comma(rest) {
             Some(left) => Ok((parameter, left)),
-            None => Err(fault_after(trees, rest)),
+            None => Err(fault_at_comma(&PARAMETER, trees, rest)),
         },
         Err(fault) => Err(fault),
     }

@@ -222,6 +222,17 @@ pub(crate) fn admits(guard: Guard, class: SignClass) -> bool
     }
 }
 
+// ---- the rules of tables, for lists
+
+/// A named field.
+pub(crate) const FIELD: Syntax<'static> = Syntax::Table(Table::Field);
+
+/// A field without a name.
+pub(crate) const TUPLE_FIELD: Syntax<'static> = Syntax::Table(Table::TupleField);
+
+/// A variant.
+pub(crate) const VARIANT: Syntax<'static> = Syntax::Table(Table::Variant);
+
 // ---- the rules of functions
 
 /// The path of an entry.

@@ -1,5 +1,6 @@
 use Rattle.std.proofs.Common.{inl, inr, arith}
 use Rattle.declarations.specs.Entry.{IsNearEntryAt}
+use Rattle.declarations.proofs.CommaLemmas.{entry_lacks_comma, entry_lacks_part}
 use Rattle.declarations.proofs.HeldLemmas.{after_entry, rest_less}
 use Rattle.declarations.proofs.ListLemmas.{past_fewer}
 use Rattle.declarations.proofs.entry_list.first_entry.Goals as goal
@@ -21,10 +22,20 @@ returns-in-None-clause-given c =
     inr (
       c.in-Ok.rest.now,
       after_entry IsNearEntryAt c.args.trees.now c.in-Ok.rest.now c.in-Ok.entry c.in-Ok.ensures.ok _
-          c.fault_after.ensures.at c.fault_after.ensures.span,
+          c.fault_without_comma.ensures.at c.fault_without_comma.ensures.span,
       c.in-None.ensures.none,
     )
 
-pub fault_after-requires : goal.fault_after-requires
-fault_after-requires c =
+pub returns-in-Err-clause-expected : goal.returns-in-Err-clause-expected
+returns-in-Err-clause-expected c =
+    entry_lacks_part c.args.trees.now c.in-Err.fault c.in-Err.ensures.fault c.in-Err.ensures.expected
+
+pub returns-in-None-clause-expected : goal.returns-in-None-clause-expected
+returns-in-None-clause-expected c =
+    entry_lacks_comma c.args.trees.now c.in-Ok.rest.now c.in-Ok.entry c.fault_without_comma.result c.in-Ok.ensures.ok
+    c.in-None.ensures.none c.fault_without_comma.ensures.at c.fault_without_comma.ensures.span
+    c.fault_without_comma.ensures.expected
+
+pub fault_without_comma-requires : goal.fault_without_comma-requires
+fault_without_comma-requires c =
     rest_less IsNearEntryAt c.args.trees.now c.in-Ok.rest.now c.in-Ok.entry c.in-Ok.ensures.ok

@@ -1,12 +1,14 @@
 use Rattle.std.proofs.Common.{inl, arith}
 use Rattle.declarations.specs.rules.Parameters.{function_parameter}
 use Rattle.declarations.specs.rules.Pieces.{ByRule}
-use Rattle.declarations.proofs.ListLemmas.{lacks_comma, past_fewer, rest_within}
+use Rattle.declarations.proofs.CommaLemmas.{by_rule, lacks_comma}
+use Rattle.declarations.proofs.ListLemmas.{past_fewer, rest_within}
+use Rattle.declarations.proofs.ParameterLemmas.{starts_parameter}
 use Rattle.declarations.proofs.parameter.first_parameter.Goals as goal
 
 pub returns-in-Err-clause-given : goal.returns-in-Err-clause-given
 returns-in-Err-clause-given c = record {
-  place = inl c.in-Err.ensures.fault;
+  place = inl (record { place = c.in-Err.ensures.fault; expected = c.in-Err.ensures.expected });
   span = c.in-Err.ensures.span;
 }
 
@@ -22,10 +24,11 @@ returns-in-Some-clause-fewer c =
 pub returns-in-None-clause-given : goal.returns-in-None-clause-given
 returns-in-None-clause-given c =
     let at = c.in-Ok.ensures.ok in
-    lacks_comma (ByRule function_parameter) c.args.trees.now at.part c.in-Ok.rest.now _ at.reads c.in-None.ensures.none
-    c.fault_after.ensures.at c.fault_after.ensures.span
+    lacks_comma function_parameter starts_parameter (ByRule function_parameter) (by_rule function_parameter) c.args.trees.now at.part
+    c.in-Ok.rest.now _ at.reads c.in-None.ensures.none c.fault_at_comma.ensures.at c.fault_at_comma.ensures.span
+    c.fault_at_comma.ensures.expected
 
-pub fault_after-requires : goal.fault_after-requires
-fault_after-requires c =
+pub fault_at_comma-requires : goal.fault_at_comma-requires
+fault_at_comma-requires c =
     let at = c.in-Ok.ensures.ok in
     rest_within (ByRule function_parameter) c.args.trees.now at.part c.in-Ok.rest.now at.reads

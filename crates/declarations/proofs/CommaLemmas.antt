@@ -1,0 +1,102 @@
+-- The errors of lists.
+use Rattle.std.proofs.Common.{◌≡◌, refl, ◌∙◌, ap, subst, ◌-◌, Bool, true, false, List, [], ◌∷◌, length, None, inl, inr}
+use Rattle.std.proofs.Common.{arith}
+use Rattle.std.proofs.lemmas.List.{length-append}
+use Rattle.std.specs.Prelude.{◌⊎◌, MatchOption}
+use Rattle.grammars.specs.Deterministic.{IsStart}
+use Rattle.pm_stream.specs.declared.stream.TokenTree.{TokenTree}
+use Rattle.declarations.specs.Bare.{bare_first, inside_of}
+use Rattle.declarations.specs.Entry.{IsEntryAt, IsFaultAfter, IsFaultWithin, IsHeldEntryAt}
+use Rattle.declarations.specs.Entry.{IsNearEntryAt, IsNearFault, IsNoEntry, IsPlainEntryAt, IsPlainFault}
+use Rattle.declarations.specs.EntryList.{IsPlainListFault}
+use Rattle.declarations.specs.Expected.{Expects}
+use Rattle.declarations.specs.Explore.{ExpectsComma}
+use Rattle.declarations.specs.Fault.{first_extent}
+use Rattle.declarations.specs.Forms.{IsVariant}
+use Rattle.declarations.specs.List.{IsListFault, IsPastComma, field_form, field_rule}
+use Rattle.declarations.specs.Reading.{Reads}
+use Rattle.item_tables.specs.declared.class.SignClass.{SignClass}
+use Rattle.declarations.specs.declared.entry.Entry.{Entry}
+use Rattle.declarations.specs.declared.fault.Fault.{Fault}
+use Rattle.declarations.specs.rules.Entries as entries
+use Rattle.declarations.specs.rules.Names.{G}
+use Rattle.declarations.specs.rules.Parts as parts
+use Rattle.declarations.specs.rules.Pieces.{ByRule, ReadsBy}
+use Rattle.declarations.specs.rules.Rules.{follows, rules}
+use Rattle.declarations.proofs.EntryLemmas.{starts_entry}
+use Rattle.declarations.proofs.FormLemmas.{one_field, one_tuple_field, one_variant}
+use Rattle.declarations.proofs.ListLemmas.{none_past, part_span}
+use Rattle.declarations.proofs.RuleExpectsLemmas.{reads_expects}
+use Rattle.declarations.proofs.RuleLemmas.{starts}
+use Rattle.declarations.proofs.TransferLemmas.{expects_to, reads_back}
+
+-- a part is read, and neither `,` nor the end comes after it
+pub lacks_comma : (g : G) → IsStart rules follows (g ∷ []) → (form : List SignClass → List SignClass → Type 0)
+    → ReadsBy g form → (trees part rest : List TokenTree) (fault : Fault) → Reads form trees part rest
+    → ((left : List TokenTree) → IsPastComma rest left → ⊥) → fault.at ≡ length trees - length rest
+    → fault.span ≡ first_extent rest → ExpectsComma g trees fault.expected → IsListFault form trees fault
+lacks_comma g start form by trees part rest fault reads none at span e =
+    let all = ap length reads.whole ∙ length-append part rest in
+    let counted : fault.at ≡ length part = omega arith in
+    record {
+      place = inr (record {
+        part = part;
+        rest = rest;
+        reads = reads;
+        counted = counted;
+        none = none;
+        onward = e.onward;
+        goes_on = expects_to (ByRule g) form by trees fault.at e.onward
+            (reads_expects g start trees part rest fault.at e.onward (reads_back (ByRule g) form by trees part rest reads)
+            (λ none_left. none rest (none_past rest none_left)) at e.goes_on);
+        expected = e.signs;
+      });
+      span = part_span trees part rest fault.at fault.span reads.whole counted span;
+    }
+
+-- the form of a rule has its pieces
+pub by_rule : (g : G) → ReadsBy g (ByRule g)
+by_rule g piece rest = (λ p. p, λ p. p)
+
+field_reads : (named : Bool) → ReadsBy (field_rule named) (field_form named)
+field_reads true = one_field
+field_reads false = one_tuple_field
+
+field_starts : (named : Bool) → IsStart rules follows (field_rule named ∷ [])
+field_starts true = starts parts.field refl refl
+field_starts false = starts parts.tuple_field refl refl
+
+pub field_lacks_comma : (named : Bool) (trees part rest : List TokenTree) (fault : Fault)
+    → Reads (field_form named) trees part rest → ((left : List TokenTree) → IsPastComma rest left → ⊥)
+    → fault.at ≡ length trees - length rest → fault.span ≡ first_extent rest
+    → ExpectsComma (field_rule named) trees fault.expected → IsListFault (field_form named) trees fault
+field_lacks_comma named =
+    lacks_comma (field_rule named) (field_starts named) (field_form named) (field_reads named)
+
+pub variant_lacks_comma : (trees part rest : List TokenTree) (fault : Fault) → Reads IsVariant trees part rest
+    → ((left : List TokenTree) → IsPastComma rest left → ⊥) → fault.at ≡ length trees - length rest
+    → fault.span ≡ first_extent rest → ExpectsComma parts.variant trees fault.expected
+    → IsListFault IsVariant trees fault
+variant_lacks_comma = lacks_comma parts.variant (starts parts.variant refl refl) IsVariant one_variant
+
+-- ---- entries
+
+pub entry_lacks_comma : (trees rest : List TokenTree) (entry : Entry) (fault : Fault) → IsEntryAt trees entry rest
+    → ((left : List TokenTree) → IsPastComma rest left → ⊥) → fault.at ≡ length trees - length rest
+    → fault.span ≡ first_extent rest → (bare_first trees ≡ None → ExpectsComma entries.entry trees fault.expected)
+    → IsPlainListFault trees fault
+entry_lacks_comma trees rest entry fault is none at span e = λ plain.
+    let found : IsPlainEntryAt trees entry rest =
+    subst (λ o. MatchOption o (IsPlainEntryAt trees entry rest)
+    (λ f. IsHeldEntryAt IsNearEntryAt (inside_of f.0) f.1 entry rest)) plain is in
+    lacks_comma entries.entry starts_entry (ByRule entries.entry) (by_rule entries.entry) trees found.part rest fault
+    found.reads none at span (e plain)
+
+pub entry_lacks_part : (trees : List TokenTree) (fault : Fault) → IsNoEntry trees fault
+    → (bare_first trees ≡ None → Expects (ByRule entries.entry) trees fault.at fault.expected)
+    → IsPlainListFault trees fault
+entry_lacks_part trees fault is e = λ plain.
+    let found : IsPlainFault trees fault =
+    subst (λ o. MatchOption o (IsPlainFault trees fault)
+    (λ f. IsFaultWithin IsNearFault f.0 fault ⊎ IsFaultAfter IsNearEntryAt f.0 f.1 fault)) plain is in
+    record { place = inl (record { place = found.place; expected = e plain }); span = found.span }
