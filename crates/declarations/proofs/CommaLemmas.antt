@@ -47,7 +47,8 @@ lacks_comma g start form by trees part rest fault reads none at span e =
         none = none;
         onward = e.onward;
         goes_on = expects_to (ByRule g) form by trees fault.at e.onward
-            (reads_expects g start trees part rest fault.at e.onward (reads_back (ByRule g) form by trees part rest reads)
+            (reads_expects g start trees part rest fault.at e.onward
+            (reads_back (ByRule g) form by trees part rest reads)
             (λ none_left. none rest (none_past rest none_left)) at e.goes_on);
         expected = e.signs;
       });

@@ -59,3 +59,4 @@ pub mod ImplTypeLemmas
 pub mod ImplFormLemmas
 pub mod ImplHeaderLemmas
 pub mod ImplLemmas
+pub mod ParamRuleLemmas

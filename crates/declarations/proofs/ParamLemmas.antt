@@ -10,7 +10,8 @@ use Rattle.declarations.proofs.WalkLemmas.{after, walk-cons}
 use Rattle.declarations.specs.Fault.{first_extent, extent_at}
 use Rattle.declarations.specs.Forms.{IsFrom, AreAttributes, AreBounds, IsType}
 use Rattle.item_tables.specs.Grammar.{step, ends}
-use Rattle.declarations.specs.Param.{EndsElement, Fails, HasBounds, HasDefault, HasName, HasNo, HasSign, IsBack}
+use Rattle.declarations.specs.Param.{EndsElement, Fails, HasBounds, HasDefault, HasName, HasNo, HasParam, HasPredicate}
+use Rattle.declarations.specs.Param.{HasSign, IsBack}
 use Rattle.declarations.specs.Param.{is_constant, IsParamAt, IsPredicateAt, IsWord, MayHave, MustHave, ParamTrees}
 use Rattle.declarations.specs.Param.{PredicateTrees, ReadsConstant, stands, left_out, comma, last, one_sign}
 use Rattle.declarations.specs.Param.{negative, of_type}
@@ -352,6 +353,28 @@ param_at trees param from_end rest so_far ends = record {
   name = so_far.bounded.named.name_read;
   bounds = so_far.bounded.bounds_read;
   default = so_far.default_read;
+  ends = ends;
+}
+
+pub param_defaulted : (trees : List TokenTree) (param : ParamTrees) (rest : List TokenTree)
+    → HasParam trees param rest → Defaulted trees param rest
+param_defaulted trees param rest has = record {
+  from_default = has.from_default;
+  bounded = record {
+    from_bounds = has.from_bounds;
+    named = record { from_name = has.from_name; attributes_read = has.attributes; name_read = has.name };
+    bounds_read = has.bounds;
+  };
+  default_read = has.default;
+}
+
+pub predicate_at : (trees : List TokenTree) (predicate : PredicateTrees) (from_end rest : List TokenTree)
+    → HasPredicate trees predicate from_end → EndsElement from_end rest → IsPredicateAt trees predicate rest
+predicate_at trees predicate from_end rest has ends = record {
+  from_colon = has.from_colon;
+  from_end = from_end;
+  bounded = has.bounded;
+  bounds = has.bounds;
   ends = ends;
 }
 

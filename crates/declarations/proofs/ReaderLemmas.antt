@@ -160,7 +160,7 @@ then_reads a b trees mid (Err left) h j = then_fails a b trees mid left.now h j
 
 -- ---- marks
 
-mark_finds_here : (l : Label) (trees : List TokenTree) → Finds (Mark l) trees trees
+pub mark_finds_here : (l : Label) (trees : List TokenTree) → Finds (Mark l) trees trees
 mark_finds_here l trees = record {
   events = Marked l ∷ [];
   found = find_mark rules l (classes_in trees);

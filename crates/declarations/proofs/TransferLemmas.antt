@@ -1,6 +1,6 @@
 -- What is read by a rule is what is read by the form with the same pieces.
 use Rattle.std.specs.Prelude.{◌↔◌}
-use Rattle.std.proofs.Common.{ℕ, List, [], ◌∷◌, ◌++◌}
+use Rattle.std.proofs.Common.{ℕ, List, []}
 use Rattle.pm_stream.specs.declared.stream.TokenTree.{TokenTree}
 use Rattle.declarations.specs.Expected.{Expects}
 use Rattle.declarations.specs.Reading.{IsOnly, Reads}

@@ -1,8 +1,12 @@
 -- The parts of generic parameters and of the predicates of where clauses, in reading order.
-use Rattle.std.specs.Prelude.{◌≡◌, ℕ, ◌==◌, Bool, true, false, List, [], ◌∷◌, ◌++◌, codes}
+use Rattle.std.specs.Prelude.{◌≡◌, ℕ, ◌==◌, Bool, true, false, List, [], ◌∷◌, ◌++◌, codes, MatchResult, Result}
+use Rattle.std.specs.Borrow.{Bor}
+use Rattle.grammars.specs.Grammar.{Mark, Nothing, Then, perhaps}
 use Rattle.pm_stream.specs.declared.stream.TokenTree.{TokenTree}
 use Rattle.pm_stream.specs.declared.stream.TokenTree.TheVariants.{Ident, Punct}
 use Rattle.declarations.specs.Forms.{AreAttributes, AreBounds, IsType}
+use Rattle.declarations.specs.Parameter.{LeadsTo}
+use Rattle.declarations.specs.Reader.{Finds, Sticks}
 use Rattle.declarations.specs.Reading.{Reads}
 use Rattle.declarations.specs.Signs.{BeginsWith, is_written}
 use Rattle.item_tables.specs.declared.class.SignClass.{SignClass}
@@ -13,6 +17,10 @@ use Rattle.declarations.specs.declared.generics.Param.{Param}
 use Rattle.declarations.specs.declared.generics.ParamKind.{ParamKind}
 use Rattle.declarations.specs.declared.generics.ParamKind.TheVariants as kinds
 use Rattle.declarations.specs.declared.generics.Predicate.{Predicate}
+use Rattle.declarations.specs.rules.Names.{Bounds, G, Rest, one, seq}
+use Rattle.declarations.specs.rules.Parts as rule
+use Rattle.declarations.specs.rules.Pieces.{ByRule}
+use Rattle.declarations.specs.rules.Types.{type}
 
 -- ---- single signs
 
@@ -116,11 +124,28 @@ pub record IsParamAt (trees : List TokenTree) (param : ParamTrees) (rest : List 
   pub default : HasDefault param.kind from_default param.default from_end
   pub ends : EndsElement from_end rest
 
+-- the trees begin with a generic parameter that has these parts, and the rest comes after it
+pub record HasParam (trees : List TokenTree) (param : ParamTrees) (rest : List TokenTree) : Type 0 where
+  pub from_name : List TokenTree
+  pub from_bounds : List TokenTree
+  pub from_default : List TokenTree
+  pub attributes : Reads AreAttributes trees param.attributes from_name
+  pub name : HasName param.kind from_name param.name from_bounds
+  pub bounds : HasBounds param.kind from_bounds param.bounds from_default
+  pub default : HasDefault param.kind from_default param.default rest
+
 -- no other parameter, and none with another rest, is at the start of the trees
 abbrev pub IsOnlyParam : List TokenTree → ParamTrees → List TokenTree → Type 0
 IsOnlyParam trees param rest =
     (param2 : ParamTrees) (rest2 : List TokenTree) → IsParamAt trees param2 rest2
     → (param2 ≡ param) × (rest2 ≡ rest)
+
+-- the trees begin with what the rule reads. Then comes a `,` and the rest, or nothing
+pub record ReadsElement (g : G) (trees rest : List TokenTree) : Type 0 where
+  pub part : List TokenTree
+  pub from_end : List TokenTree
+  pub reads : Reads (ByRule g) trees part from_end
+  pub ends : EndsElement from_end rest
 
 -- ---- predicates
 
@@ -141,6 +166,12 @@ pub record IsPredicateAt (trees : List TokenTree) (predicate : PredicateTrees) (
   pub bounded : Reads IsType trees predicate.bounded from_colon
   pub bounds : MustHave classes.Colon (Reads AreBounds) from_colon predicate.bounds from_end
   pub ends : EndsElement from_end rest
+
+-- the trees begin with a predicate that has these parts, and the rest comes after it
+pub record HasPredicate (trees : List TokenTree) (predicate : PredicateTrees) (rest : List TokenTree) : Type 0 where
+  pub from_colon : List TokenTree
+  pub bounded : Reads IsType trees predicate.bounded from_colon
+  pub bounds : MustHave classes.Colon (Reads AreBounds) from_colon predicate.bounds rest
 
 -- no other predicate, and none with another rest, is at the start of the trees
 abbrev pub IsOnlyPredicate : List TokenTree → PredicateTrees → List TokenTree → Type 0
@@ -178,3 +209,28 @@ pub record Fails (form : List TokenTree → List TokenTree → List TokenTree �
     : Type 0 where
   pub back : IsBack left trees
   pub nothing : (part rest : List TokenTree) → form trees part rest → ⊥
+
+-- the result of a function that reads a part: the part and the trees after it, or the trees from the error on
+abbrev pub FoundPart : Type 0
+FoundPart = Result (Bor (List TokenTree) × Bor (List TokenTree)) (Bor (List TokenTree))
+
+-- the result is the trees after what the rule finds, or the trees from the error on
+abbrev pub ReadsPart : G → List TokenTree → FoundPart → Type 0
+ReadsPart g trees result = MatchResult result (λ found. Finds g trees found.1.now) (λ left. Sticks g trees left.now)
+
+-- the result is the trees to which the first rule leads, where the second rule goes on, or the trees from the error on
+abbrev pub Leads : G → G → List TokenTree → FoundPart → Type 0
+Leads g h trees result = MatchResult result (λ found. LeadsTo g trees h found.1.now) (λ left. Sticks g trees left.now)
+
+-- the rule that reads what may come after the name of a parameter of this kind
+abbrev pub after_name : ParamKind → G
+after_name kinds.Lifetime = rule.with_bounds
+after_name kinds.Type = Then rule.with_bounds (perhaps rule.default_type)
+after_name kinds.Const = seq (
+    Mark Rest ∷ one classes.Colon ∷ Mark Bounds ∷ type ∷ rule.with_constant ∷ [])
+
+-- the rule that reads what may come after the bounds of a parameter of this kind
+abbrev pub after_bounds : ParamKind → G
+after_bounds kinds.Lifetime = Nothing
+after_bounds kinds.Type = perhaps rule.default_type
+after_bounds kinds.Const = rule.with_constant

@@ -152,7 +152,7 @@ fn first_argument(trees: &[TokenTree]) -> Result<(GenericArgument<'_>, &[TokenTr
 
 /// Skips bounds.
 #[tactic(auto, using(crate::proofs::GenericArgumentLemmas::bounds_read))]
-fn past_bounds(trees: &[TokenTree]) -> Result<&[TokenTree], &[TokenTree]>
+pub(crate) fn past_bounds(trees: &[TokenTree]) -> Result<&[TokenTree], &[TokenTree]>
     ensures { ReadsRule bounds trees.now result }
 {
     past_range(trees, TypeState::Bound)

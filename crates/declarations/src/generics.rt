@@ -2,12 +2,17 @@
 ghost use Rattle.std.specs.Prelude.{◌≡◌, ◌<◌, ◌≤◌, IfErr, IfOk, List, length};
 ghost use Rattle.pm_stream.specs.declared.stream.TokenTree.{TokenTree as Tree};
 ghost use Rattle.declarations.specs.Fault.{extent_at};
+ghost use Rattle.declarations.specs.List.{IsListFault};
 ghost use Rattle.declarations.specs.Param.{IsAfterWhere, IsOnlyParam, IsOnlyPredicate, IsParamAt, IsPredicateAt};
-ghost use Rattle.declarations.specs.Param.{IsWithin, ParamTrees, PredicateTrees, is_mark_of, param_trees};
+ghost use Rattle.declarations.specs.Param.{IsWithin, ParamTrees, PredicateTrees, ReadsElement, is_mark_of, param_trees};
 ghost use Rattle.declarations.specs.Param.{predicate_trees};
+ghost use Rattle.declarations.specs.rules.Parts.{parameter, predicate};
+ghost use Rattle.declarations.specs.rules.Pieces.{ByRule};
 
+use crate::explore::{fault_at_comma, fault_by};
 use crate::fault::Fault;
-use crate::param_parts::{param_of, predicate_of};
+use crate::param_parts::{param_of, past_end, predicate_of};
+use crate::syntax::{GENERIC, PREDICATE};
 use pm_stream::TokenTree;
 
 /// The kind of a generic parameter.
@@ -89,21 +94,25 @@ pub fn after_where(where_clause: &[TokenTree]) -> Result<&[TokenTree], Fault>
 /// default is `D`, and the rest is `const N: usize`.
 ///
 /// If the trees begin with no parameter, or neither `,` nor the end comes after it, the call returns a `Fault`: where
-/// one of the parts has its error, or at the first sign that belongs to no part. It is proved that no parameter is
-/// there then, by the definition in `specs/Param.antt`. Two things are only tested: where the error is, and that
-/// [`split_generics`](crate::split_generics) reads the same lists.
+/// one of the parts has its error, or at the first sign that belongs to no part. The rule `parameter`, of which the
+/// lists of [`split_generics`](crate::split_generics) are made, is in crates/declarations/README.md.
 pub fn parse_param(trees: &[TokenTree]) -> Result<(Param<'_>, &[TokenTree]), Fault>
     ensures ok { IfOk result (λ found. IsParamAt trees.now (param_trees found.0) found.1.now) }
     ensures only { IfOk result (λ found. IsOnlyParam trees.now (param_trees found.0) found.1.now) }
+    ensures reads { IfOk result (λ found. ReadsElement parameter trees.now found.1.now) }
     ensures fewer { IfOk result (λ found. length found.1.now < length trees.now) }
     ensures fault { IfErr result (λ fault. (param : ParamTrees) → (rest : List Tree)
         → IsParamAt trees.now param rest → ⊥) }
+    ensures place { IfErr result (λ fault. IsListFault (ByRule parameter) trees.now fault) }
     ensures within { IfErr result (λ fault. fault.at ≤ length trees.now) }
     ensures span { IfErr result (λ fault. fault.span ≡ extent_at trees.now fault.at) }
 {
     match param_of(trees) {
-        Ok(found) => Ok(found),
-        Err(left) => Err(Fault::ahead_of(trees.len() - left.len(), left)),
+        Ok((param, from_end)) => match past_end(from_end) {
+            Some(rest) => Ok((param, rest)),
+            None => Err(fault_at_comma(&GENERIC, trees, from_end)),
+        },
+        Err(left) => Err(fault_by(&GENERIC, trees, left)),
     }
 }
 
@@ -115,15 +124,20 @@ pub fn parse_param(trees: &[TokenTree]) -> Result<(Param<'_>, &[TokenTree]), Fau
 pub fn parse_predicate(trees: &[TokenTree]) -> Result<(Predicate<'_>, &[TokenTree]), Fault>
     ensures ok { IfOk result (λ found. IsPredicateAt trees.now (predicate_trees found.0) found.1.now) }
     ensures only { IfOk result (λ found. IsOnlyPredicate trees.now (predicate_trees found.0) found.1.now) }
+    ensures reads { IfOk result (λ found. ReadsElement predicate trees.now found.1.now) }
     ensures fewer { IfOk result (λ found. length found.1.now < length trees.now) }
     ensures fault { IfErr result (λ fault. (predicate : PredicateTrees) → (rest : List Tree)
         → IsPredicateAt trees.now predicate rest → ⊥) }
+    ensures place { IfErr result (λ fault. IsListFault (ByRule predicate) trees.now fault) }
     ensures within { IfErr result (λ fault. fault.at ≤ length trees.now) }
     ensures span { IfErr result (λ fault. fault.span ≡ extent_at trees.now fault.at) }
 {
     match predicate_of(trees) {
-        Ok(found) => Ok(found),
-        Err(left) => Err(Fault::ahead_of(trees.len() - left.len(), left)),
+        Ok((predicate, from_end)) => match past_end(from_end) {
+            Some(rest) => Ok((predicate, rest)),
+            None => Err(fault_at_comma(&PREDICATE, trees, from_end)),
+        },
+        Err(left) => Err(fault_by(&PREDICATE, trees, left)),
     }
 }
 

@@ -2,75 +2,76 @@
 //!
 //! A function here returns the part at the start of the trees, and the trees after it. At an error it returns the trees
 //! from the error on.
-ghost use Rattle.std.specs.Prelude.{◌≡◌, ◌≤◌, ◌++◌, IfErr, IfOk, List, [], MatchOption, MatchResult, length};
+ghost use Rattle.std.specs.Prelude.{◌≡◌, ◌++◌, IfErr, IfNone, IfOk, IfSome, List, [], MatchOption, MatchResult, false};
+ghost use Rattle.grammars.specs.First.{heads};
+ghost use Rattle.grammars.specs.Grammar.{perhaps};
 ghost use Rattle.pm_stream.specs.declared.stream.TokenTree.{TokenTree as Tree};
 ghost use Rattle.declarations.specs.Forms.{AreAttributes, AreBounds, IsType};
-ghost use Rattle.declarations.specs.Param.{EndsElement, Fails, HasBounds, HasDefault, HasName, HasNo, IsBack};
-ghost use Rattle.declarations.specs.Param.{IsParamAt, IsPredicateAt, IsWord, MayHave, MustHave, ParamTrees};
-ghost use Rattle.declarations.specs.Param.{PredicateTrees, ReadsConstant, is_constant, param_trees, predicate_trees};
+ghost use Rattle.declarations.specs.Param.{EndsElement, Fails, HasBounds, HasDefault, HasName, HasNo, HasParam};
+ghost use Rattle.declarations.specs.Param.{HasPredicate, IsBack, IsParamAt, IsPredicateAt, IsWord, Leads, MayHave};
+ghost use Rattle.declarations.specs.Param.{MustHave, ParamTrees, PredicateTrees, ReadsConstant, ReadsPart};
+ghost use Rattle.declarations.specs.Param.{after_bounds, after_name, is_constant, param_trees, predicate_trees};
+ghost use Rattle.declarations.specs.Parameter.{LeadsTo};
+ghost use Rattle.declarations.specs.Reader.{Finds, Sticks, classes_in};
 ghost use Rattle.declarations.specs.Reading.{Reads};
 ghost use Rattle.declarations.specs.Signs.{BeginsWith};
+ghost use Rattle.declarations.specs.rules.Names.{one, word};
+ghost use Rattle.declarations.specs.rules.Parts.{attributes, constant_default, default_type, parameter, parameter_rest};
+ghost use Rattle.declarations.specs.rules.Parts.{predicate, with_bounds, with_constant};
+ghost use Rattle.declarations.specs.rules.Paths.{colon_bounds};
+ghost use Rattle.declarations.specs.rules.Types.{bounds, type};
 ghost use Rattle.item_tables.specs.declared.class.SignClass.TheVariants as classes;
 ghost use Rattle.declarations.specs.declared.generics.ParamKind.{ParamKind as Kind};
+ghost use Rattle.declarations.specs.declared.generics.ParamKind.TheVariants as kinds;
 
+use crate::generic_argument::past_bounds;
 use crate::generics::{Param, ParamKind, Predicate};
-use crate::part_splitting::{split_attributes, split_bounds, split_type};
+use crate::parameter::{past_attributes, past_type};
+use crate::reader::{is, part};
 use crate::signs::first_sign;
 use item_tables::class::{Keyword, SignClass};
 use pm_stream::TokenTree;
 
+/// The generic parameter at the start of the trees, and the trees after it.
 pub(crate) fn param_of<'a>(
     trees: &'a [TokenTree],
 ) -> Result<(Param<'a>, &'a [TokenTree]), &'a [TokenTree]>
-    ensures ok { IfOk result (λ found. IsParamAt trees.now (param_trees found.0) found.1.now) }
-    ensures back { IfErr result (λ left. IsBack left.now trees.now) }
+    ensures ok { IfOk result (λ found. HasParam trees.now (param_trees found.0) found.1.now) }
     ensures nothing { IfErr result (λ left. (param : ParamTrees) → (rest : List Tree)
         → IsParamAt trees.now param rest → ⊥) }
+    ensures rule { MatchResult result (λ found. Finds parameter trees.now found.1.now)
+        (λ left. Sticks parameter trees.now left.now) }
 {
     let (attributes, from_name) = attributes_of(trees)?;
     let (kind, name, from_bounds) = name_of(from_name)?;
     let (bounds, from_default) = bounds_of(kind, from_bounds)?;
     let (default, from_end) = default_of(kind, from_default)?;
-    match past_end(from_end) {
-        Some(rest) => Ok((
-            Param {
-                attributes,
-                kind,
-                name,
-                bounds,
-                default,
-            },
-            rest,
-        )),
-        None => Err(from_end),
-    }
+    let param = Param {
+        attributes,
+        kind,
+        name,
+        bounds,
+        default,
+    };
+    Ok((param, from_end))
 }
 
+/// The predicate at the start of the trees, and the trees after it.
 pub(crate) fn predicate_of<'a>(
     trees: &'a [TokenTree],
 ) -> Result<(Predicate<'a>, &'a [TokenTree]), &'a [TokenTree]>
-    ensures ok { IfOk result (λ found. IsPredicateAt trees.now (predicate_trees found.0) found.1.now) }
-    ensures back { IfErr result (λ left. IsBack left.now trees.now) }
+    ensures ok { IfOk result (λ found. HasPredicate trees.now (predicate_trees found.0) found.1.now) }
     ensures nothing { IfErr result (λ left. (predicate : PredicateTrees) → (rest : List Tree)
         → IsPredicateAt trees.now predicate rest → ⊥) }
+    ensures rule { MatchResult result (λ found. Finds predicate trees.now found.1.now)
+        (λ left. Sticks predicate trees.now left.now) }
 {
     let (bounded, from_colon) = type_of(trees)?;
     let (bounds, from_end) = must_bounds(from_colon)?;
-    match past_end(from_end) {
-        Some(rest) => Ok((Predicate { bounded, bounds }, rest)),
-        None => Err(from_end),
-    }
+    Ok((Predicate { bounded, bounds }, from_end))
 }
 
 // ---- parts that the tables read
-
-/// The trees after the first `at` ones.
-fn left_at(trees: &[TokenTree], at: usize) -> &[TokenTree]
-    requires { at ≤ length trees.now }
-    ensures { IsBack result.now trees.now }
-{
-    trees.split_at(at).1
-}
 
 /// The trees before `rest`, with which they end.
 fn before<'a>(trees: &'a [TokenTree], rest: &[TokenTree]) -> &'a [TokenTree]
@@ -80,99 +81,71 @@ fn before<'a>(trees: &'a [TokenTree], rest: &[TokenTree]) -> &'a [TokenTree]
     trees.split_at(trees.len() - rest.len()).0
 }
 
+#[tactic(auto, using(crate::proofs::ParamRuleLemmas::attribute_parts))]
 fn attributes_of<'a>(
     trees: &'a [TokenTree],
 ) -> Result<(&'a [TokenTree], &'a [TokenTree]), &'a [TokenTree]>
-    ensures { MatchResult result (λ found. Reads AreAttributes trees.now found.0.now found.1.now)
+    ensures parts { MatchResult result (λ found. Reads AreAttributes trees.now found.0.now found.1.now)
         (λ left. Fails (Reads AreAttributes) trees.now left.now) }
+    ensures rule { ReadsPart attributes trees.now result }
 {
-    match split_attributes(trees) {
-        Ok(found) => Ok(found),
-        Err(fault) => Err(left_at(trees, fault.at)),
+    match past_attributes(trees) {
+        Ok(rest) => Ok((part(trees, rest), rest)),
+        Err(left) => Err(left),
     }
 }
 
+#[tactic(auto, using(crate::proofs::ParamRuleLemmas::bound_parts))]
 fn plain_bounds<'a>(
     trees: &'a [TokenTree],
 ) -> Result<(&'a [TokenTree], &'a [TokenTree]), &'a [TokenTree]>
-    ensures { MatchResult result (λ found. Reads AreBounds trees.now found.0.now found.1.now)
+    ensures parts { MatchResult result (λ found. Reads AreBounds trees.now found.0.now found.1.now)
         (λ left. Fails (Reads AreBounds) trees.now left.now) }
+    ensures rule { ReadsPart bounds trees.now result }
 {
-    match split_bounds(trees) {
-        Ok(found) => Ok(found),
-        Err(fault) => Err(left_at(trees, fault.at)),
+    match past_bounds(trees) {
+        Ok(rest) => Ok((part(trees, rest), rest)),
+        Err(left) => Err(left),
     }
 }
 
+#[tactic(auto, using(crate::proofs::ParamRuleLemmas::type_parts))]
 fn type_of<'a>(
     trees: &'a [TokenTree],
 ) -> Result<(&'a [TokenTree], &'a [TokenTree]), &'a [TokenTree]>
-    ensures { MatchResult result (λ found. Reads IsType trees.now found.0.now found.1.now)
+    ensures parts { MatchResult result (λ found. Reads IsType trees.now found.0.now found.1.now)
         (λ left. Fails (Reads IsType) trees.now left.now) }
+    ensures rule { ReadsPart type trees.now result }
 {
-    match split_type(trees) {
-        Ok(found) => Ok(found),
-        Err(fault) => Err(left_at(trees, fault.at)),
+    match past_type(trees) {
+        Ok(rest) => Ok((part(trees, rest), rest)),
+        Err(left) => Err(left),
     }
 }
 
 // ---- single signs
 
-/// The trees after the `:` that they begin with.
-fn past_colon(trees: &[TokenTree]) -> Option<&[TokenTree]>
-    ensures { MatchOption result (HasNo classes.Colon trees.now) (λ rest. BeginsWith trees.now classes.Colon rest.now) }
+/// The trees after the sign of this class that they begin with.
+fn past_sign(trees: &[TokenTree], class: SignClass) -> Option<&[TokenTree]>
+    ensures found { IfSome result (λ rest. BeginsWith trees.now class rest.now) }
+    ensures none { IfNone result (HasNo class trees.now) }
+    ensures heads { IfNone result (heads (one class) (classes_in trees.now) ≡ false) }
 {
-    let (class, rest) = first_sign(trees)?;
-    match class {
-        SignClass::Colon => Some(rest),
-        _ => None,
-    }
-}
-
-/// The trees after the `=` that they begin with.
-fn past_equals(trees: &[TokenTree]) -> Option<&[TokenTree]>
-    ensures { MatchOption result (HasNo classes.Equals trees.now)
-        (λ rest. BeginsWith trees.now classes.Equals rest.now) }
-{
-    let (class, rest) = first_sign(trees)?;
-    match class {
-        SignClass::Equals => Some(rest),
-        _ => None,
-    }
-}
-
-/// The trees after the `,` that they begin with.
-fn past_comma(trees: &[TokenTree]) -> Option<&[TokenTree]>
-    ensures { MatchOption result (HasNo classes.Comma trees.now) (λ rest. BeginsWith trees.now classes.Comma rest.now) }
-{
-    let (class, rest) = first_sign(trees)?;
-    match class {
-        SignClass::Comma => Some(rest),
-        _ => None,
-    }
-}
-
-/// The trees after the literal that they begin with.
-fn past_literal(trees: &[TokenTree]) -> Option<&[TokenTree]>
-    ensures { MatchOption result (HasNo classes.Literal trees.now)
-        (λ rest. BeginsWith trees.now classes.Literal rest.now) }
-{
-    let (class, rest) = first_sign(trees)?;
-    match class {
-        SignClass::Literal => Some(rest),
-        _ => None,
+    match first_sign(trees) {
+        Some((found, rest)) => { if is(class, found) { Some(rest) } else { None } }
+        None => None,
     }
 }
 
 /// The trees after the end of a list's element, which is a `,` or the end of the trees.
-fn past_end(trees: &[TokenTree]) -> Option<&[TokenTree]>
+pub(crate) fn past_end(trees: &[TokenTree]) -> Option<&[TokenTree]>
     ensures { MatchOption result ((rest : List Tree) → EndsElement trees.now rest → ⊥)
         (λ rest. EndsElement trees.now rest.now) }
 {
     if trees.is_empty() {
         return Some(trees);
     }
-    match past_comma(trees) {
+    match past_sign(trees, SignClass::Comma) {
         Some(rest) => Some(rest),
         None => None,
     }
@@ -184,8 +157,9 @@ fn past_end(trees: &[TokenTree]) -> Option<&[TokenTree]>
 fn word_of<'a>(
     trees: &'a [TokenTree],
 ) -> Result<(&'a [TokenTree], &'a [TokenTree]), &'a [TokenTree]>
-    ensures { MatchResult result (λ found. IsWord trees.now found.0.now found.1.now)
+    ensures parts { MatchResult result (λ found. IsWord trees.now found.0.now found.1.now)
         (λ left. Fails IsWord trees.now left.now) }
+    ensures rule { ReadsPart word trees.now result }
 {
     let Some((class, rest)) = first_sign(trees) else {
         return Err(trees);
@@ -202,6 +176,8 @@ fn name_of<'a>(
 ) -> Result<(ParamKind, &'a [TokenTree], &'a [TokenTree]), &'a [TokenTree]>
     ensures ok { IfOk result (λ found. HasName found.0 trees.now found.1.now found.2.now) }
     ensures nothing { IfErr result (λ left. (kind : Kind) → Fails (HasName kind) trees.now left.now) }
+    ensures rule { MatchResult result (λ found. LeadsTo parameter_rest trees.now (after_name found.0) found.2.now)
+        (λ left. Sticks parameter_rest trees.now left.now) }
 {
     let Some((class, rest)) = first_sign(trees) else {
         return Err(trees);
@@ -221,11 +197,12 @@ fn name_of<'a>(
 fn may_bounds<'a>(
     trees: &'a [TokenTree],
 ) -> Result<(&'a [TokenTree], &'a [TokenTree]), &'a [TokenTree]>
-    ensures { MatchResult result
+    ensures parts { MatchResult result
         (λ found. MayHave classes.Colon (Reads AreBounds) trees.now found.0.now found.1.now)
         (λ left. Fails (MayHave classes.Colon (Reads AreBounds)) trees.now left.now) }
+    ensures rule { ReadsPart with_bounds trees.now result }
 {
-    match past_colon(trees) {
+    match past_sign(trees, SignClass::Colon) {
         Some(left) => plain_bounds(left),
         None => Ok((none_of(trees), trees)),
     }
@@ -235,11 +212,12 @@ fn may_bounds<'a>(
 fn must_bounds<'a>(
     trees: &'a [TokenTree],
 ) -> Result<(&'a [TokenTree], &'a [TokenTree]), &'a [TokenTree]>
-    ensures { MatchResult result
+    ensures parts { MatchResult result
         (λ found. MustHave classes.Colon (Reads AreBounds) trees.now found.0.now found.1.now)
         (λ left. Fails (MustHave classes.Colon (Reads AreBounds)) trees.now left.now) }
+    ensures rule { ReadsPart colon_bounds trees.now result }
 {
-    match past_colon(trees) {
+    match past_sign(trees, SignClass::Colon) {
         Some(left) => plain_bounds(left),
         None => Err(trees),
     }
@@ -249,11 +227,12 @@ fn must_bounds<'a>(
 fn must_type<'a>(
     trees: &'a [TokenTree],
 ) -> Result<(&'a [TokenTree], &'a [TokenTree]), &'a [TokenTree]>
-    ensures { MatchResult result
+    ensures parts { MatchResult result
         (λ found. MustHave classes.Colon (Reads IsType) trees.now found.0.now found.1.now)
         (λ left. Fails (MustHave classes.Colon (Reads IsType)) trees.now left.now) }
+    ensures rule { Leads (after_name kinds.Const) (after_bounds kinds.Const) trees.now result }
 {
-    match past_colon(trees) {
+    match past_sign(trees, SignClass::Colon) {
         Some(left) => type_of(left),
         None => Err(trees),
     }
@@ -264,8 +243,9 @@ fn bounds_of<'a>(
     kind: ParamKind,
     trees: &'a [TokenTree],
 ) -> Result<(&'a [TokenTree], &'a [TokenTree]), &'a [TokenTree]>
-    ensures { MatchResult result (λ found. HasBounds kind trees.now found.0.now found.1.now)
+    ensures parts { MatchResult result (λ found. HasBounds kind trees.now found.0.now found.1.now)
         (λ left. Fails (HasBounds kind) trees.now left.now) }
+    ensures rule { Leads (after_name kind) (after_bounds kind) trees.now result }
 {
     match kind {
         ParamKind::Lifetime => may_bounds(trees),
@@ -294,8 +274,9 @@ fn is_constant(class: SignClass) -> bool
 fn constant_of<'a>(
     trees: &'a [TokenTree],
 ) -> Result<(&'a [TokenTree], &'a [TokenTree]), &'a [TokenTree]>
-    ensures { MatchResult result (λ found. ReadsConstant trees.now found.0.now found.1.now)
+    ensures parts { MatchResult result (λ found. ReadsConstant trees.now found.0.now found.1.now)
         (λ left. Fails ReadsConstant trees.now left.now) }
+    ensures rule { ReadsPart constant_default trees.now result }
 {
     let Some((class, rest)) = first_sign(trees) else {
         return type_of(trees);
@@ -304,7 +285,7 @@ fn constant_of<'a>(
         return Ok((before(trees, rest), rest));
     }
     match class {
-        SignClass::Minus => match past_literal(rest) {
+        SignClass::Minus => match past_sign(rest, SignClass::Literal) {
             Some(after) => Ok((before(trees, after), after)),
             None => Err(rest),
         },
@@ -316,11 +297,12 @@ fn constant_of<'a>(
 fn may_type<'a>(
     trees: &'a [TokenTree],
 ) -> Result<(&'a [TokenTree], &'a [TokenTree]), &'a [TokenTree]>
-    ensures { MatchResult result
+    ensures parts { MatchResult result
         (λ found. MayHave classes.Equals (Reads IsType) trees.now found.0.now found.1.now)
         (λ left. Fails (MayHave classes.Equals (Reads IsType)) trees.now left.now) }
+    ensures rule { ReadsPart (perhaps default_type) trees.now result }
 {
-    match past_equals(trees) {
+    match past_sign(trees, SignClass::Equals) {
         Some(left) => type_of(left),
         None => Ok((none_of(trees), trees)),
     }
@@ -330,11 +312,12 @@ fn may_type<'a>(
 fn may_constant<'a>(
     trees: &'a [TokenTree],
 ) -> Result<(&'a [TokenTree], &'a [TokenTree]), &'a [TokenTree]>
-    ensures { MatchResult result
+    ensures parts { MatchResult result
         (λ found. MayHave classes.Equals ReadsConstant trees.now found.0.now found.1.now)
         (λ left. Fails (MayHave classes.Equals ReadsConstant) trees.now left.now) }
+    ensures rule { ReadsPart with_constant trees.now result }
 {
-    match past_equals(trees) {
+    match past_sign(trees, SignClass::Equals) {
         Some(left) => constant_of(left),
         None => Ok((none_of(trees), trees)),
     }
@@ -345,8 +328,9 @@ fn default_of<'a>(
     kind: ParamKind,
     trees: &'a [TokenTree],
 ) -> Result<(&'a [TokenTree], &'a [TokenTree]), &'a [TokenTree]>
-    ensures { MatchResult result (λ found. HasDefault kind trees.now found.0.now found.1.now)
+    ensures parts { MatchResult result (λ found. HasDefault kind trees.now found.0.now found.1.now)
         (λ left. Fails (HasDefault kind) trees.now left.now) }
+    ensures rule { ReadsPart (after_bounds kind) trees.now result }
 {
     match kind {
         ParamKind::Lifetime => Ok((none_of(trees), trees)),

@@ -24,8 +24,8 @@ returns-in-Some-clause-fewer c =
 pub returns-in-None-clause-given : goal.returns-in-None-clause-given
 returns-in-None-clause-given c =
     let at = c.in-Ok.ensures.ok in
-    lacks_comma generic_argument starts_argument (ByRule generic_argument) (by_rule generic_argument) c.args.trees.now at.part
-    c.in-Ok.rest.now _ at.reads c.in-None.ensures.none c.fault_at_comma.ensures.at c.fault_at_comma.ensures.span
+    lacks_comma generic_argument starts_argument (ByRule generic_argument) (by_rule generic_argument) c.args.trees.now
+    at.part c.in-Ok.rest.now _ at.reads c.in-None.ensures.none c.fault_at_comma.ensures.at c.fault_at_comma.ensures.span
     c.fault_at_comma.ensures.expected
 
 pub fault_at_comma-requires : goal.fault_at_comma-requires

@@ -1,9 +1,18 @@
 use Rattle.declarations.proofs.ParamLemmas.{may_found}
 use Rattle.declarations.specs.Param.{ReadsConstant}
 use Rattle.item_tables.specs.declared.class.SignClass.TheVariants as classes
+use Rattle.declarations.proofs.ParamRuleLemmas.{with_constant_reads, without_constant}
 use Rattle.declarations.proofs.param_parts.may_constant.Goals as goal
 
-pub returns-in-Some : goal.returns-in-Some
-returns-in-Some c =
+pub returns-in-Some-clause-parts : goal.returns-in-Some-clause-parts
+returns-in-Some-clause-parts c =
     may_found c.constant_of.result (λ f. f.0.now) (λ f. f.1.now) (λ e. e.now) classes.Equals ReadsConstant
-    c.args.trees.now c.in-Some.left.now c.in-Some.ensures c.constant_of.ensures
+    c.args.trees.now c.in-Some.left.now c.in-Some.ensures.found c.constant_of.ensures.parts
+
+pub returns-in-Some-clause-rule : goal.returns-in-Some-clause-rule
+returns-in-Some-clause-rule c =
+    with_constant_reads c.args.trees.now c.in-Some.left.now c.constant_of.result c.in-Some.ensures.found
+    c.constant_of.ensures.rule
+
+pub returns-in-None-clause-rule : goal.returns-in-None-clause-rule
+returns-in-None-clause-rule c = without_constant c.args.trees.now c.in-None.ensures.heads

@@ -2,12 +2,21 @@ use Rattle.declarations.proofs.ParamLemmas.{must_found, must_none}
 use Rattle.declarations.specs.Forms.{AreBounds}
 use Rattle.declarations.specs.Reading.{Reads}
 use Rattle.item_tables.specs.declared.class.SignClass.TheVariants as classes
+use Rattle.declarations.proofs.ParamRuleLemmas.{colon_reads, no_colon}
 use Rattle.declarations.proofs.param_parts.must_bounds.Goals as goal
 
-pub returns-in-Some : goal.returns-in-Some
-returns-in-Some c =
+pub returns-in-Some-clause-parts : goal.returns-in-Some-clause-parts
+returns-in-Some-clause-parts c =
     must_found c.plain_bounds.result (λ f. f.0.now) (λ f. f.1.now) (λ e. e.now) classes.Colon (Reads AreBounds)
-    c.args.trees.now c.in-Some.left.now c.in-Some.ensures c.plain_bounds.ensures
+    c.args.trees.now c.in-Some.left.now c.in-Some.ensures.found c.plain_bounds.ensures.parts
 
-pub returns-in-None : goal.returns-in-None
-returns-in-None c = must_none classes.Colon (Reads AreBounds) c.args.trees.now c.in-None.ensures
+pub returns-in-None-clause-parts : goal.returns-in-None-clause-parts
+returns-in-None-clause-parts c = must_none classes.Colon (Reads AreBounds) c.args.trees.now c.in-None.ensures.none
+
+pub returns-in-Some-clause-rule : goal.returns-in-Some-clause-rule
+returns-in-Some-clause-rule c =
+    colon_reads c.args.trees.now c.in-Some.left.now c.plain_bounds.result c.in-Some.ensures.found
+    c.plain_bounds.ensures.rule
+
+pub returns-in-None-clause-rule : goal.returns-in-None-clause-rule
+returns-in-None-clause-rule c = no_colon c.args.trees.now c.in-None.ensures.heads
