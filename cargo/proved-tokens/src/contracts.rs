@@ -114,7 +114,8 @@
 //! - <a id="declarations.Reading.FaultAt"></a>**FaultAt**: nothing of this form can be read. The error is after
 //!   `at` trees: the longest prefix that other trees could complete
 //! - <a id="declarations.File.FileFaultAt"></a>**FileFaultAt**: the trees are no file. The error is in the
-//!   inner attributes, or in the first item that cannot be read
+//!   inner attributes, or in the first item that cannot be read. The set has exactly the signs that could come
+//!   there in the attributes or in the item
 //! - <a id="declarations.Field.HasFieldParts"></a>**HasFieldParts**: the trees are a named field with these
 //!   parts: attributes, a visibility, a name, `:` and a type
 //! - <a id="declarations.EntryCheck.HasNames"></a>**HasNames**: the entries before the left trees have known
@@ -148,6 +149,8 @@
 //! - <a id="declarations.Impl.IsImpl"></a>**IsImpl**: the trees are an `impl`, and these are its parts
 //! - <a id="declarations.Forms.IsItem"></a>**IsItem**: a struct, an enum or a union: attributes, a visibility,
 //!   its keyword and name, generics, where clause and body
+//! - <a id="declarations.List.IsListFault"></a>**IsListFault**: the error of a list: its next part cannot be
+//!   read, or neither `,` nor the end comes after that part
 //! - <a id="declarations.Entry.IsNoEntry"></a>**IsNoEntry**: the trees begin with no entry, and this is the
 //!   error
 //! - <a id="declarations.Reading.IsOnly"></a>**IsOnly**: no other part and rest can be read from these trees by
@@ -195,6 +198,8 @@
 //! - <a id="declarations.Whole.ReadsAll"></a>**ReadsAll**: all of the trees are one part of the form
 //! - <a id="declarations.rules.Pieces.ReadsBy"></a>**ReadsBy**: the form has exactly the pieces of the rule, at
 //!   the start of any signs
+//! - <a id="declarations.Param.ReadsElement"></a>**ReadsElement**: the trees begin with what the rule reads.
+//!   Then comes a `,` and the rest, or nothing
 //! - <a id="declarations.Kind.Tells"></a>**Tells**: the walk over the item's signs, up to the rest, ends in an
 //!   item of this kind and finds this name
 //! - <a id="declarations.Attribute.after_path"></a>**after_path**: the trees after the path that the trees
@@ -253,10 +258,13 @@
 //! - <a id="declarations.Ending.or_extent"></a>**or_extent**: the span, or this other one if there is none
 //! - <a id="declarations.Param.param_trees"></a>**param_trees**: the parts of a generic parameter that the
 //!   library returns, as lists of trees
+//! - <a id="declarations.rules.Parts.parameter"></a>**parameter**: a generic parameter: a lifetime, a type or a
+//!   constant
 //! - <a id="declarations.Attribute.parts_of"></a>**parts_of**: the parts of an attribute: its marks and its
 //!   brackets
 //! - <a id="declarations.Attribute.path_of"></a>**path_of**: the path that the trees begin with
 //! - <a id="declarations.rules.Parameters.pattern"></a>**pattern**: a pattern
+//! - <a id="declarations.rules.Parts.predicate"></a>**predicate**: a predicate: a type, `:` and bounds
 //! - <a id="declarations.Param.predicate_trees"></a>**predicate_trees**: the parts of a predicate that the
 //!   library returns, as lists of trees
 //! - <a id="declarations.rules.Rules.rules"></a>**rules**: the grammar of each named rule
@@ -625,7 +633,6 @@
 //!   of this kind
 //! - <a id="pm_stream.Steps.Enter"></a>**Enter**: enters this group; the trees are those that follow it
 //! - <a id="pm_stream.Steps.EntersNext"></a>**EntersNext**: the first of the steps enters a group
-//! - <a id="pm_stream.Parsing.FaultAt"></a>**FaultAt**: `fault`: the one position where a source fails to parse
 //! - <a id="pm_stream.Steps.FollowedBy"></a>**FollowedBy**: the steps that follow a step: those over the trees
 //!   after it. After `Enter` those over the group's trees come first, and then its `Leave`. A token has no
 //!   trees inside
@@ -637,7 +644,6 @@
 //! - <a id="pm_stream.Trees.GoesInside"></a>**GoesInside**: the tree may be put into a stream as it is: any
 //!   tree but a literal with a `-` before it
 //! - <a id="pm_stream.Taken.HasClosed"></a>**HasClosed**: the step took the piece as the closer of this group
-//! - <a id="pm_stream.Parsing.HasNoFault"></a>**HasNoFault**: no position of the source is a fault
 //! - <a id="pm_stream.Taken.HasOpened"></a>**HasOpened**: the step took the piece as the opener of this group
 //! - <a id="pm_stream.Taken.HasPassed"></a>**HasPassed**: the step skipped the ASCII white characters at the
 //!   start of the text
@@ -654,8 +660,6 @@
 //!   or memory ran out
 //! - <a id="pm_stream.Taken.IsLexed"></a>**IsLexed**: the text begins with the piece, and the position after it
 //!   is less than 2^32
-//! - <a id="pm_stream.Parsing.IsOnlyFault"></a>**IsOnlyFault**: the source doesn't parse, and no other position
-//!   is a fault
 //! - <a id="pm_stream.Fault.IsStray"></a>**IsStray**: the piece is a closer that doesn't close the innermost of
 //!   the open groups
 //! - <a id="pm_stream.WellSpaced.IsWellSpaced"></a>**IsWellSpaced**: `well-spaced`: spacings fit what follows,
@@ -675,6 +679,8 @@
 //!   taken its events up to there
 //! - <a id="pm_stream.Building.RefusesAnItem"></a>**RefusesAnItem**: memory ran out at some item, and exactly
 //!   the items before it were put in
+//! - <a id="pm_stream.Parsing.ReportsFault"></a>**ReportsFault**: a value comes only if the source has no
+//!   fault, and a syntax error has the only fault, as an empty extent
 //! - <a id="pm_stream.Same.Same"></a>**Same**: `same`: the streams are equal but for their spans
 //! - <a id="pm_stream.Trees.alone"></a>**alone**: the stream of this tree alone
 //! - <a id="pm_stream.Forest.chain"></a>**chain**: the trees of the first stream, and then those of the second
@@ -954,8 +960,8 @@
 //!   cursor's trees comes first, and then the trees of the last cursor
 //! - <a id="token_buffer.Many.HasManyTokens"></a>**HasManyTokens**: whether some first pieces of the source
 //!   already give more events than a buffer can hold
-//! - <a id="token_buffer.Refused.IfParse"></a>**IfParse**: whether this is true of the parse error, if the
-//!   error is one
+//! - <a id="token_buffer.Refused.IfFault"></a>**IfFault**: whether this is true of the fault's extent, if the
+//!   error is a syntax error
 //! - <a id="token_buffer.Refused.IfTooLong"></a>**IfTooLong**: whether this is true, if the error is `TooLong`
 //! - <a id="token_buffer.Entries.IsWithin"></a>**IsWithin**: whether the text of the entry can be cut out, and
 //!   its token ends at a position that a span may have

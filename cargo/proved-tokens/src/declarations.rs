@@ -20,6 +20,7 @@ mod entry_list;
 mod expected;
 mod expected_text;
 mod explore;
+mod explore_path;
 mod fault;
 mod field;
 mod file;

@@ -60,3 +60,4 @@ pub mod ImplFormLemmas
 pub mod ImplHeaderLemmas
 pub mod ImplLemmas
 pub mod ParamRuleLemmas
+pub mod ExplorePathLemmas

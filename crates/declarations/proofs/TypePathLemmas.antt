@@ -60,7 +60,7 @@ use Rattle.declarations.proofs.SortLemmas.{is_identifier_sign, names, sort_of}
 
 -- ---- where a reading begins
 
-starts_path : IsStart rules follows (rule.type_path ∷ [])
+pub starts_path : IsStart rules follows (rule.type_path ∷ [])
 starts_path = starts rule.type_path refl refl
 
 starts_arguments : IsStart rules follows (rule.generic_arguments ∷ [])

@@ -11,6 +11,7 @@ pub mod Expected
 pub mod ExpectedText
 pub mod Syntax
 pub mod Explore
+pub mod ExplorePath
 pub mod Item
 pub mod Ending
 pub mod Field

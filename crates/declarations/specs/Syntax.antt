@@ -50,6 +50,8 @@ test_of tests.Pattern = λ c. parameters.is_pattern c && not false
 test_of tests.PatternAfterAnd = λ c. parameters.is_pattern c && not (keyword keywords.Mut c)
 test_of tests.PatternFirst = λ c. parameters.is_pattern c && not (parameters.is_shared c)
 test_of tests.InPattern = parameters.continues
+test_of tests.Opens = opens
+test_of tests.PathSegment = paths.is_segment
 
 -- the label in the grammar
 abbrev pub label_of : Shown → Label

@@ -69,7 +69,7 @@ fn passing(test: Test, classes: &[SignClass]) -> Expected
 }
 
 /// No sign is read, and one that passes the test could come.
-fn no_sign(test: Test, trees: &[TokenTree]) -> Seen<'_>
+pub(crate) fn no_sign(test: Test, trees: &[TokenTree]) -> Seen<'_>
     ensures left { result.left.now ≡ trees.now }
     ensures next { HasSigns result.next (test_of test) false }
 {
@@ -149,7 +149,7 @@ fn see_guarded(guard: Guard, trees: &[TokenTree]) -> Seen<'_>
 }
 
 /// What two rules see, one after the other. The first may end where the second begins.
-fn joined<'a>(first: Seen<'a>, second: Seen<'a>) -> Seen<'a>
+pub(crate) fn joined<'a>(first: Seen<'a>, second: Seen<'a>) -> Seen<'a>
     ensures { Joins first.entry second.entry result }
 {
     if second.left.len() < first.left.len() {
@@ -163,7 +163,7 @@ fn joined<'a>(first: Seen<'a>, second: Seen<'a>) -> Seen<'a>
 }
 
 /// What two rules see, one after the other. The first may not end where it goes no further.
-fn stopped(first: Seen<'_>) -> Seen<'_>
+pub(crate) fn stopped(first: Seen<'_>) -> Seen<'_>
     ensures { StopsFirst first.entry result }
 {
     first

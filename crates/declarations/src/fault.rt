@@ -128,8 +128,8 @@ impl Fault {
     /// part that they could not read. If `,` is missing after a part of a list, the set has `,`, the end and the signs
     /// with which the part could go on. For the list `a: A b: B` it has `,`, `<` and `::`, among others.
     ///
-    /// The set is empty if the call does not say what it expected. This is so for `parse_type_path`, `within_generics`
-    /// and `after_where`, and for entries in groups without delimiters.
+    /// The set is empty if the call does not say what it expected. This is so for `within_generics` and `after_where`,
+    /// and for entries in groups without delimiters.
     pub fn expected(&self) -> Expected
         ensures { result ≡ self.now.expected }
     {

@@ -8,7 +8,7 @@ use crate::function::{is_block, is_name, is_safe};
 use crate::generic_argument::is_constant;
 use crate::parameter::{continues, is_pattern};
 use crate::reader::is;
-use crate::type_path::{is_round, opens};
+use crate::type_path::{is_round, is_segment as is_path_segment, opens};
 use item_tables::class::{Keyword, SignClass, Word};
 use item_tables::types::TypeState;
 use item_tables::walk_state::{Continuation, Item, Part, Spot, State, WalkState};
@@ -42,6 +42,10 @@ pub enum Test {
     PatternFirst,
     /// What can be in a pattern after its first sign.
     InPattern,
+    /// `<`
+    Opens,
+    /// The name of a segment of a type's path.
+    PathSegment,
 }
 
 /// A label of a part.
@@ -170,6 +174,8 @@ pub(crate) fn passes(test: Test, class: SignClass) -> bool
         Test::PatternFirst => is_pattern(class)
             && !(is(SignClass::Keyword(Keyword::Mut), class) || is(SignClass::And, class)),
         Test::InPattern => continues(class),
+        Test::Opens => opens(class),
+        Test::PathSegment => is_path_segment(class),
     }
 }
 
@@ -665,6 +671,15 @@ const CONSTRAINT: Syntax<'static> = Syntax::Either(
         ),
     ),
     &Syntax::Nothing,
+);
+
+/// Generic arguments.
+pub(crate) const ARGUMENTS: Syntax<'static> = Syntax::List(&ARGUMENT);
+
+/// The type after `->`.
+pub(crate) const RETURNED: Syntax<'static> = Syntax::Then(
+    &Syntax::Mark(Label::Returns),
+    &Syntax::Table(Table::Type),
 );
 
 /// The qualifiers before `impl`.

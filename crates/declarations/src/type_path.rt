@@ -3,6 +3,7 @@ ghost use Rattle.std.specs.Prelude.{◌≡◌, ◌<◌, IfErr, IfOk, MatchResult
 ghost use Rattle.grammars.specs.First.{heads, may_begin};
 ghost use Rattle.grammars.specs.Grammar.{perhaps};
 ghost use Rattle.declarations.specs.Bare.{bare_trees};
+ghost use Rattle.declarations.specs.Expected.{Expects};
 ghost use Rattle.declarations.specs.Fault.{extent_at};
 ghost use Rattle.declarations.specs.Reader.{Finds, ReadsRule, Sticks, classes_in};
 ghost use Rattle.declarations.specs.Reading.{FaultAt};
@@ -18,6 +19,7 @@ ghost use Rattle.declarations.specs.rules.Pieces.{ByRule};
 ghost use Rattle.item_tables.specs.declared.class.SignClass.TheVariants as signs;
 
 use crate::bare::bare_trees;
+use crate::explore_path::fault_in_path;
 use crate::fault::Fault;
 use crate::function::return_of;
 use crate::generic_argument::argument_of;
@@ -104,6 +106,8 @@ pub fn parse_type_path(trees: &[TokenTree]) -> Result<TypePath<'_>, Fault>
     ensures ok { IfOk result (λ path. IsTypePath (bare_trees trees.now) path) }
     ensures fault { IfErr result (λ fault. FaultAt (IsWhole (ByRule type_path)) (bare_trees trees.now) fault.at) }
     ensures span { IfErr result (λ fault. fault.span ≡ extent_at (bare_trees trees.now) fault.at) }
+    ensures expected { IfErr result (λ fault.
+        Expects (ByRule type_path) (bare_trees trees.now) fault.at fault.expected) }
 {
     let inner = bare_trees(trees);
     match path_of(inner) {
@@ -111,10 +115,10 @@ pub fn parse_type_path(trees: &[TokenTree]) -> Result<TypePath<'_>, Fault>
             if rest.is_empty() {
                 Ok(path)
             } else {
-                Err(Fault::ahead_of(inner.len() - rest.len(), rest))
+                Err(fault_in_path(inner, rest))
             }
         }
-        Err(left) => Err(Fault::ahead_of(inner.len() - left.len(), left)),
+        Err(left) => Err(fault_in_path(inner, left)),
     }
 }
 
@@ -226,7 +230,8 @@ fn past_arguments(trees: &[TokenTree]) -> Result<&[TokenTree], &[TokenTree]>
 
 // ---- segments
 
-fn is_segment(class: SignClass) -> bool
+/// Whether the sign can be the name of a segment.
+pub(crate) fn is_segment(class: SignClass) -> bool
     ensures { result ≡ is_segment class }
 {
     match class {

@@ -3,7 +3,7 @@
 
 use crate::declarations::attribute::is_named;
 use crate::declarations::bare::{bare_trees, has_no_delimiters, inside_of};
-use crate::declarations::explore::fault_by;
+use crate::declarations::explore::{fault_at_comma, fault_by};
 use crate::declarations::fault::Fault;
 use crate::declarations::item::split_group;
 use crate::declarations::reader::{begins, is, part, past};
@@ -263,6 +263,17 @@ fn fault_after_entry(trees: &[TokenTree], rest: &[TokenTree]) -> Fault
     match split_bare(trees) {
         Some(_) => Fault::ahead_of(trees.len() - rest.len(), rest),
         None => fault_by(&ENTRY, trees, rest),
+    }
+}
+
+/// The error after an entry in a list that neither `,` nor the end follows. It does not say what was expected after a
+/// group without delimiters.
+#[cold]
+pub(crate) fn fault_without_comma(trees: &[TokenTree], rest: &[TokenTree]) -> Fault
+{
+    match split_bare(trees) {
+        Some(_) => Fault::ahead_of(trees.len() - rest.len(), rest),
+        None => fault_at_comma(&ENTRY, trees, rest),
     }
 }
 

@@ -1,9 +1,9 @@
 // Made from crates/declarations/src/entry_list.rt by dev/erase: change that file, not this one.
 //! The entries of an attribute's list, one at a time.
 
-use crate::declarations::entry::{Entry, parse_entry};
+use crate::declarations::entry::{Entry, fault_without_comma, parse_entry};
 use crate::declarations::fault::Fault;
-use crate::declarations::list::{fault_after, past_comma};
+use crate::declarations::list::past_comma;
 use crate::pm_stream::{Group, TokenTree};
 
 /// The entries in a group of an attribute, in order. A `,` is between two entries, and may be after the last.
@@ -68,7 +68,7 @@ pub(crate) fn first_entry(trees: &[TokenTree]) -> Result<(Entry<'_>, &[TokenTree
     match parse_entry(trees) {
         Ok((entry, rest)) => match past_comma(rest) {
             Some(left) => Ok((entry, left)),
-            None => Err(fault_after(trees, rest)),
+            None => Err(fault_without_comma(trees, rest)),
         },
         Err(fault) => Err(fault),
     }

@@ -53,7 +53,7 @@ fn passing(test: Test, classes: &[SignClass]) -> Expected
 }
 
 /// No sign is read, and one that passes the test could come.
-fn no_sign(test: Test, trees: &[TokenTree]) -> Seen<'_>
+pub(crate) fn no_sign(test: Test, trees: &[TokenTree]) -> Seen<'_>
 {
     Seen {
         left: trees,
@@ -126,7 +126,7 @@ fn see_guarded(guard: Guard, trees: &[TokenTree]) -> Seen<'_>
 }
 
 /// What two rules see, one after the other. The first may end where the second begins.
-fn joined<'a>(first: Seen<'a>, second: Seen<'a>) -> Seen<'a>
+pub(crate) fn joined<'a>(first: Seen<'a>, second: Seen<'a>) -> Seen<'a>
 {
     if second.left.len() < first.left.len() {
         second
@@ -139,7 +139,7 @@ fn joined<'a>(first: Seen<'a>, second: Seen<'a>) -> Seen<'a>
 }
 
 /// What two rules see, one after the other. The first may not end where it goes no further.
-fn stopped(first: Seen<'_>) -> Seen<'_>
+pub(crate) fn stopped(first: Seen<'_>) -> Seen<'_>
 {
     first
 }
@@ -268,4 +268,13 @@ pub(crate) fn expected_by(syntax: &Syntax<'_>, trees: &[TokenTree]) -> Expected
 pub(crate) fn fault_by(syntax: &Syntax<'_>, trees: &[TokenTree], left: &[TokenTree]) -> Fault
 {
     Fault::ahead_of(trees.len() - left.len(), left).expecting(expected_by(syntax, trees))
+}
+
+/// The error of trees that begin with a part by the rule, after which neither `,` nor the end comes.
+#[cold]
+pub(crate) fn fault_at_comma(syntax: &Syntax<'_>, trees: &[TokenTree], rest: &[TokenTree]) -> Fault
+{
+    let onward = expected_by(syntax, trees);
+    let fault = Fault::ahead_of(trees.len() - rest.len(), rest);
+    fault.expecting(onward.with(SignClass::Comma).with_end())
 }

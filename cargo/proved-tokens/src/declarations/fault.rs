@@ -117,9 +117,11 @@ impl Fault {
     /// of `parse_type_item` has the words, which can be names, and for `struct S; 5` it has only the end.
     ///
     /// A list, such as `FieldList`, and `parse_file` read one part after the other, and their error has the set of the
-    /// part that they could not read. The set is empty if the call does not say what it expected. This is so for
-    /// `parse_type_path`, `parse_param`, `parse_predicate`, `within_generics` and `after_where`. It is also so for a
-    /// list in which `,` is missing, and for entries in groups without delimiters.
+    /// part that they could not read. If `,` is missing after a part of a list, the set has `,`, the end and the signs
+    /// with which the part could go on. For the list `a: A b: B` it has `,`, `<` and `::`, among others.
+    ///
+    /// The set is empty if the call does not say what it expected. This is so for `within_generics` and `after_where`,
+    /// and for entries in groups without delimiters.
     ///
     /// # Contract
     ///

@@ -40,7 +40,7 @@ pub struct Items<'a> {
 /// # Contract
 ///
 /// - `ensures ok`: <code>[IfOk] result (λ file. [IsFile] trees.now file.inner.now file.items.left.now)</code>
-/// - `ensures fault`: <code>[IfErr] result (λ fault. [FileFaultAt] trees.now fault.at)</code>
+/// - `ensures fault`: <code>[IfErr] result (λ fault. [FileFaultAt] trees.now fault.at fault.expected)</code>
 /// - `ensures span`: <code>[IfErr] result (λ fault. fault.span ≡ [extent_at] trees.now fault.at)</code>
 /// - `ensures none`: <code>[IfErr] result (λ fault. (inner : [List] Tree) → (items : [List] Tree) → [IsFile]
 ///   trees.now inner items → ⊥)</code>

@@ -1,9 +1,9 @@
 // Made from crates/declarations/src/generic_argument.rt by dev/erase: change that file, not this one.
 //! The generic arguments of a path, one at a time.
 
-use crate::declarations::explore::fault_by;
+use crate::declarations::explore::{fault_at_comma, fault_by};
 use crate::declarations::fault::Fault;
-use crate::declarations::list::{fault_after, past_comma};
+use crate::declarations::list::past_comma;
 use crate::declarations::parameter::past_type;
 use crate::declarations::range::past_range;
 use crate::declarations::reader::{begins, is, part, past};
@@ -138,14 +138,14 @@ fn first_argument(trees: &[TokenTree]) -> Result<(GenericArgument<'_>, &[TokenTr
     match parse_generic_argument(trees) {
         Ok((argument, rest)) => match past_comma(rest) {
             Some(left) => Ok((argument, left)),
-            None => Err(fault_after(trees, rest)),
+            None => Err(fault_at_comma(&ARGUMENT, trees, rest)),
         },
         Err(fault) => Err(fault),
     }
 }
 
 /// Skips bounds.
-fn past_bounds(trees: &[TokenTree]) -> Result<&[TokenTree], &[TokenTree]>
+pub(crate) fn past_bounds(trees: &[TokenTree]) -> Result<&[TokenTree], &[TokenTree]>
 {
     past_range(trees, TypeState::Bound)
 }

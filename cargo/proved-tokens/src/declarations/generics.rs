@@ -1,8 +1,10 @@
 // Made from crates/declarations/src/generics.rt by dev/erase: change that file, not this one.
 //! Generic parameters and the predicates of where clauses, one at a time.
 
+use crate::declarations::explore::{fault_at_comma, fault_by};
 use crate::declarations::fault::Fault;
-use crate::declarations::param_parts::{param_of, predicate_of};
+use crate::declarations::param_parts::{param_of, past_end, predicate_of};
+use crate::declarations::syntax::{GENERIC, PREDICATE};
 use crate::pm_stream::TokenTree;
 
 /// The kind of a generic parameter.
@@ -104,9 +106,8 @@ pub fn after_where(where_clause: &[TokenTree]) -> Result<&[TokenTree], Fault>
 /// default is `D`, and the rest is `const N: usize`.
 ///
 /// If the trees begin with no parameter, or neither `,` nor the end comes after it, the call returns a `Fault`: where
-/// one of the parts has its error, or at the first sign that belongs to no part. It is proved that no parameter is
-/// there then, by the definition in `specs/Param.antt`. Two things are only tested: where the error is, and that
-/// [`split_generics`](crate::declarations::split_generics) reads the same lists.
+/// one of the parts has its error, or at the first sign that belongs to no part. The rule `parameter`, of which the
+/// lists of [`split_generics`](crate::declarations::split_generics) are made, is in crates/declarations/README.md.
 ///
 /// # Contract
 ///
@@ -114,9 +115,12 @@ pub fn after_where(where_clause: &[TokenTree]) -> Result<&[TokenTree], Fault>
 ///   found.1.now)</code>
 /// - `ensures only`: <code>[IfOk] result (λ found. [IsOnlyParam] trees.now ([param_trees] found.0)
 ///   found.1.now)</code>
+/// - `ensures reads`: <code>[IfOk] result (λ found. [ReadsElement] [parameter] trees.now found.1.now)</code>
 /// - `ensures fewer`: <code>[IfOk] result (λ found. [length] found.1.now &lt; [length] trees.now)</code>
 /// - `ensures fault`: <code>[IfErr] result (λ fault. (param : [ParamTrees]) → (rest : [List] Tree) →
 ///   [IsParamAt] trees.now param rest → ⊥)</code>
+/// - `ensures place`: <code>[IfErr] result (λ fault. [IsListFault] ([ByRule] [parameter]) trees.now
+///   fault)</code>
 /// - `ensures within`: <code>[IfErr] result (λ fault. fault.at ≤ [length] trees.now)</code>
 /// - `ensures span`: <code>[IfErr] result (λ fault. fault.span ≡ [extent_at] trees.now fault.at)</code>
 ///
@@ -124,16 +128,23 @@ pub fn after_where(where_clause: &[TokenTree]) -> Result<&[TokenTree], Fault>
 /// [IsParamAt]: crate::contracts#declarations.Param.IsParamAt
 /// [param_trees]: crate::contracts#declarations.Param.param_trees
 /// [IsOnlyParam]: crate::contracts#declarations.Param.IsOnlyParam
+/// [ReadsElement]: crate::contracts#declarations.Param.ReadsElement
+/// [parameter]: crate::contracts#declarations.rules.Parts.parameter
 /// [length]: crate::contracts#std.length
 /// [IfErr]: crate::contracts#std.IfErr
 /// [ParamTrees]: crate::contracts#declarations.Param.ParamTrees
 /// [List]: crate::contracts#std.List
+/// [IsListFault]: crate::contracts#declarations.List.IsListFault
+/// [ByRule]: crate::contracts#declarations.rules.Pieces.ByRule
 /// [extent_at]: crate::contracts#declarations.Fault.extent_at
 pub fn parse_param(trees: &[TokenTree]) -> Result<(Param<'_>, &[TokenTree]), Fault>
 {
     match param_of(trees) {
-        Ok(found) => Ok(found),
-        Err(left) => Err(Fault::ahead_of(trees.len() - left.len(), left)),
+        Ok((param, from_end)) => match past_end(from_end) {
+            Some(rest) => Ok((param, rest)),
+            None => Err(fault_at_comma(&GENERIC, trees, from_end)),
+        },
+        Err(left) => Err(fault_by(&GENERIC, trees, left)),
     }
 }
 
@@ -149,9 +160,12 @@ pub fn parse_param(trees: &[TokenTree]) -> Result<(Param<'_>, &[TokenTree]), Fau
 ///   found.1.now)</code>
 /// - `ensures only`: <code>[IfOk] result (λ found. [IsOnlyPredicate] trees.now ([predicate_trees] found.0)
 ///   found.1.now)</code>
+/// - `ensures reads`: <code>[IfOk] result (λ found. [ReadsElement] [predicate] trees.now found.1.now)</code>
 /// - `ensures fewer`: <code>[IfOk] result (λ found. [length] found.1.now &lt; [length] trees.now)</code>
 /// - `ensures fault`: <code>[IfErr] result (λ fault. (predicate : [PredicateTrees]) → (rest : [List] Tree) →
 ///   [IsPredicateAt] trees.now predicate rest → ⊥)</code>
+/// - `ensures place`: <code>[IfErr] result (λ fault. [IsListFault] ([ByRule] [predicate]) trees.now
+///   fault)</code>
 /// - `ensures within`: <code>[IfErr] result (λ fault. fault.at ≤ [length] trees.now)</code>
 /// - `ensures span`: <code>[IfErr] result (λ fault. fault.span ≡ [extent_at] trees.now fault.at)</code>
 ///
@@ -159,16 +173,23 @@ pub fn parse_param(trees: &[TokenTree]) -> Result<(Param<'_>, &[TokenTree]), Fau
 /// [IsPredicateAt]: crate::contracts#declarations.Param.IsPredicateAt
 /// [predicate_trees]: crate::contracts#declarations.Param.predicate_trees
 /// [IsOnlyPredicate]: crate::contracts#declarations.Param.IsOnlyPredicate
+/// [ReadsElement]: crate::contracts#declarations.Param.ReadsElement
+/// [predicate]: crate::contracts#declarations.rules.Parts.predicate
 /// [length]: crate::contracts#std.length
 /// [IfErr]: crate::contracts#std.IfErr
 /// [PredicateTrees]: crate::contracts#declarations.Param.PredicateTrees
 /// [List]: crate::contracts#std.List
+/// [IsListFault]: crate::contracts#declarations.List.IsListFault
+/// [ByRule]: crate::contracts#declarations.rules.Pieces.ByRule
 /// [extent_at]: crate::contracts#declarations.Fault.extent_at
 pub fn parse_predicate(trees: &[TokenTree]) -> Result<(Predicate<'_>, &[TokenTree]), Fault>
 {
     match predicate_of(trees) {
-        Ok(found) => Ok(found),
-        Err(left) => Err(Fault::ahead_of(trees.len() - left.len(), left)),
+        Ok((predicate, from_end)) => match past_end(from_end) {
+            Some(rest) => Ok((predicate, rest)),
+            None => Err(fault_at_comma(&PREDICATE, trees, from_end)),
+        },
+        Err(left) => Err(fault_by(&PREDICATE, trees, left)),
     }
 }
 

@@ -1,9 +1,11 @@
 // Made from crates/declarations/src/list.rt by dev/erase: change that file, not this one.
 //! Lists of fields and of variants, one element at a time.
 
+use crate::declarations::explore::fault_at_comma;
 use crate::declarations::fault::Fault;
 use crate::declarations::field::{Field, parse_field, parse_tuple_field};
 use crate::declarations::item::Fields;
+use crate::declarations::syntax::{FIELD, TUPLE_FIELD, VARIANT};
 use crate::declarations::variant::{Variant, parse_variant};
 use crate::pm_stream::{Group, TokenTree};
 
@@ -145,7 +147,7 @@ fn first_field(named: bool, trees: &[TokenTree]) -> Result<(Field<'_>, &[TokenTr
     match field_at(named, trees) {
         Ok((field, rest)) => match past_comma(rest) {
             Some(left) => Ok((field, left)),
-            None => Err(fault_after(trees, rest)),
+            None => Err(fault_after_field(named, trees, rest)),
         },
         Err(fault) => Err(fault),
     }
@@ -161,22 +163,27 @@ fn field_at(named: bool, trees: &[TokenTree]) -> Result<(Field<'_>, &[TokenTree]
     }
 }
 
+/// The error after a field that neither `,` nor the end follows.
+#[cold]
+fn fault_after_field(named: bool, trees: &[TokenTree], rest: &[TokenTree]) -> Fault
+{
+    if named {
+        fault_at_comma(&FIELD, trees, rest)
+    } else {
+        fault_at_comma(&TUPLE_FIELD, trees, rest)
+    }
+}
+
 /// The first variant of a list, and the trees after its comma.
 fn first_variant(trees: &[TokenTree]) -> Result<(Variant<'_>, &[TokenTree]), Fault>
 {
     match parse_variant(trees) {
         Ok((variant, rest)) => match past_comma(rest) {
             Some(left) => Ok((variant, left)),
-            None => Err(fault_after(trees, rest)),
+            None => Err(fault_at_comma(&VARIANT, trees, rest)),
         },
         Err(fault) => Err(fault),
     }
-}
-
-/// The error before `rest`, which are the last of the trees.
-pub(crate) fn fault_after(trees: &[TokenTree], rest: &[TokenTree]) -> Fault
-{
-    Fault::ahead_of(trees.len() - rest.len(), rest)
 }
 
 /// The trees after the comma that they begin with, or no trees if there are none.

@@ -4,12 +4,15 @@
 //! A function here returns the part at the start of the trees, and the trees after it. At an error it returns the trees
 //! from the error on.
 
+use crate::declarations::generic_argument::past_bounds;
 use crate::declarations::generics::{Param, ParamKind, Predicate};
-use crate::declarations::part_splitting::{split_attributes, split_bounds, split_type};
+use crate::declarations::parameter::{past_attributes, past_type};
+use crate::declarations::reader::{is, part};
 use crate::declarations::signs::first_sign;
 use crate::item_tables::class::{Keyword, SignClass};
 use crate::pm_stream::TokenTree;
 
+/// The generic parameter at the start of the trees, and the trees after it.
 pub(crate) fn param_of<'a>(
     trees: &'a [TokenTree],
 ) -> Result<(Param<'a>, &'a [TokenTree]), &'a [TokenTree]>
@@ -18,40 +21,27 @@ pub(crate) fn param_of<'a>(
     let (kind, name, from_bounds) = name_of(from_name)?;
     let (bounds, from_default) = bounds_of(kind, from_bounds)?;
     let (default, from_end) = default_of(kind, from_default)?;
-    match past_end(from_end) {
-        Some(rest) => Ok((
-            Param {
-                attributes,
-                kind,
-                name,
-                bounds,
-                default,
-            },
-            rest,
-        )),
-        None => Err(from_end),
-    }
+    let param = Param {
+        attributes,
+        kind,
+        name,
+        bounds,
+        default,
+    };
+    Ok((param, from_end))
 }
 
+/// The predicate at the start of the trees, and the trees after it.
 pub(crate) fn predicate_of<'a>(
     trees: &'a [TokenTree],
 ) -> Result<(Predicate<'a>, &'a [TokenTree]), &'a [TokenTree]>
 {
     let (bounded, from_colon) = type_of(trees)?;
     let (bounds, from_end) = must_bounds(from_colon)?;
-    match past_end(from_end) {
-        Some(rest) => Ok((Predicate { bounded, bounds }, rest)),
-        None => Err(from_end),
-    }
+    Ok((Predicate { bounded, bounds }, from_end))
 }
 
 // ---- parts that the tables read
-
-/// The trees after the first `at` ones.
-fn left_at(trees: &[TokenTree], at: usize) -> &[TokenTree]
-{
-    trees.split_at(at).1
-}
 
 /// The trees before `rest`, with which they end.
 fn before<'a>(trees: &'a [TokenTree], rest: &[TokenTree]) -> &'a [TokenTree]
@@ -63,9 +53,9 @@ fn attributes_of<'a>(
     trees: &'a [TokenTree],
 ) -> Result<(&'a [TokenTree], &'a [TokenTree]), &'a [TokenTree]>
 {
-    match split_attributes(trees) {
-        Ok(found) => Ok(found),
-        Err(fault) => Err(left_at(trees, fault.at)),
+    match past_attributes(trees) {
+        Ok(rest) => Ok((part(trees, rest), rest)),
+        Err(left) => Err(left),
     }
 }
 
@@ -73,9 +63,9 @@ fn plain_bounds<'a>(
     trees: &'a [TokenTree],
 ) -> Result<(&'a [TokenTree], &'a [TokenTree]), &'a [TokenTree]>
 {
-    match split_bounds(trees) {
-        Ok(found) => Ok(found),
-        Err(fault) => Err(left_at(trees, fault.at)),
+    match past_bounds(trees) {
+        Ok(rest) => Ok((part(trees, rest), rest)),
+        Err(left) => Err(left),
     }
 }
 
@@ -83,61 +73,30 @@ fn type_of<'a>(
     trees: &'a [TokenTree],
 ) -> Result<(&'a [TokenTree], &'a [TokenTree]), &'a [TokenTree]>
 {
-    match split_type(trees) {
-        Ok(found) => Ok(found),
-        Err(fault) => Err(left_at(trees, fault.at)),
+    match past_type(trees) {
+        Ok(rest) => Ok((part(trees, rest), rest)),
+        Err(left) => Err(left),
     }
 }
 
 // ---- single signs
 
-/// The trees after the `:` that they begin with.
-fn past_colon(trees: &[TokenTree]) -> Option<&[TokenTree]>
+/// The trees after the sign of this class that they begin with.
+fn past_sign(trees: &[TokenTree], class: SignClass) -> Option<&[TokenTree]>
 {
-    let (class, rest) = first_sign(trees)?;
-    match class {
-        SignClass::Colon => Some(rest),
-        _ => None,
-    }
-}
-
-/// The trees after the `=` that they begin with.
-fn past_equals(trees: &[TokenTree]) -> Option<&[TokenTree]>
-{
-    let (class, rest) = first_sign(trees)?;
-    match class {
-        SignClass::Equals => Some(rest),
-        _ => None,
-    }
-}
-
-/// The trees after the `,` that they begin with.
-fn past_comma(trees: &[TokenTree]) -> Option<&[TokenTree]>
-{
-    let (class, rest) = first_sign(trees)?;
-    match class {
-        SignClass::Comma => Some(rest),
-        _ => None,
-    }
-}
-
-/// The trees after the literal that they begin with.
-fn past_literal(trees: &[TokenTree]) -> Option<&[TokenTree]>
-{
-    let (class, rest) = first_sign(trees)?;
-    match class {
-        SignClass::Literal => Some(rest),
-        _ => None,
+    match first_sign(trees) {
+        Some((found, rest)) => { if is(class, found) { Some(rest) } else { None } }
+        None => None,
     }
 }
 
 /// The trees after the end of a list's element, which is a `,` or the end of the trees.
-fn past_end(trees: &[TokenTree]) -> Option<&[TokenTree]>
+pub(crate) fn past_end(trees: &[TokenTree]) -> Option<&[TokenTree]>
 {
     if trees.is_empty() {
         return Some(trees);
     }
-    match past_comma(trees) {
+    match past_sign(trees, SignClass::Comma) {
         Some(rest) => Some(rest),
         None => None,
     }
@@ -183,7 +142,7 @@ fn may_bounds<'a>(
     trees: &'a [TokenTree],
 ) -> Result<(&'a [TokenTree], &'a [TokenTree]), &'a [TokenTree]>
 {
-    match past_colon(trees) {
+    match past_sign(trees, SignClass::Colon) {
         Some(left) => plain_bounds(left),
         None => Ok((none_of(trees), trees)),
     }
@@ -194,7 +153,7 @@ fn must_bounds<'a>(
     trees: &'a [TokenTree],
 ) -> Result<(&'a [TokenTree], &'a [TokenTree]), &'a [TokenTree]>
 {
-    match past_colon(trees) {
+    match past_sign(trees, SignClass::Colon) {
         Some(left) => plain_bounds(left),
         None => Err(trees),
     }
@@ -205,7 +164,7 @@ fn must_type<'a>(
     trees: &'a [TokenTree],
 ) -> Result<(&'a [TokenTree], &'a [TokenTree]), &'a [TokenTree]>
 {
-    match past_colon(trees) {
+    match past_sign(trees, SignClass::Colon) {
         Some(left) => type_of(left),
         None => Err(trees),
     }
@@ -250,7 +209,7 @@ fn constant_of<'a>(
         return Ok((before(trees, rest), rest));
     }
     match class {
-        SignClass::Minus => match past_literal(rest) {
+        SignClass::Minus => match past_sign(rest, SignClass::Literal) {
             Some(after) => Ok((before(trees, after), after)),
             None => Err(rest),
         },
@@ -263,7 +222,7 @@ fn may_type<'a>(
     trees: &'a [TokenTree],
 ) -> Result<(&'a [TokenTree], &'a [TokenTree]), &'a [TokenTree]>
 {
-    match past_equals(trees) {
+    match past_sign(trees, SignClass::Equals) {
         Some(left) => type_of(left),
         None => Ok((none_of(trees), trees)),
     }
@@ -274,7 +233,7 @@ fn may_constant<'a>(
     trees: &'a [TokenTree],
 ) -> Result<(&'a [TokenTree], &'a [TokenTree]), &'a [TokenTree]>
 {
-    match past_equals(trees) {
+    match past_sign(trees, SignClass::Equals) {
         Some(left) => constant_of(left),
         None => Ok((none_of(trees), trees)),
     }

@@ -1,9 +1,9 @@
 // Made from crates/declarations/src/parameter.rt by dev/erase: change that file, not this one.
 //! The parameters of functions, one at a time.
 
-use crate::declarations::explore::fault_by;
+use crate::declarations::explore::{fault_at_comma, fault_by};
 use crate::declarations::fault::Fault;
-use crate::declarations::list::{fault_after, past_comma};
+use crate::declarations::list::past_comma;
 use crate::declarations::range::past_range;
 use crate::declarations::reader::{begins, begins_mark, is, part, past};
 use crate::declarations::signs::first_sign;
@@ -578,7 +578,7 @@ fn first_parameter(trees: &[TokenTree]) -> Result<(Parameter<'_>, &[TokenTree]),
     match parse_parameter(trees) {
         Ok((parameter, rest)) => match past_comma(rest) {
             Some(left) => Ok((parameter, left)),
-            None => Err(fault_after(trees, rest)),
+            None => Err(fault_at_comma(&PARAMETER, trees, rest)),
         },
         Err(fault) => Err(fault),
     }

@@ -6,7 +6,7 @@ use crate::declarations::function::{is_block, is_name, is_safe};
 use crate::declarations::generic_argument::is_constant;
 use crate::declarations::parameter::{continues, is_pattern};
 use crate::declarations::reader::is;
-use crate::declarations::type_path::{is_round, opens};
+use crate::declarations::type_path::{is_round, is_segment as is_path_segment, opens};
 use crate::item_tables::class::{Keyword, SignClass, Word};
 use crate::item_tables::types::TypeState;
 use crate::item_tables::walk_state::{Continuation, Item, Part, Spot, State, WalkState};
@@ -40,6 +40,10 @@ pub enum Test {
     PatternFirst,
     /// What can be in a pattern after its first sign.
     InPattern,
+    /// `<`
+    Opens,
+    /// The name of a segment of a type's path.
+    PathSegment,
 }
 
 /// A label of a part.
@@ -166,6 +170,8 @@ pub(crate) fn passes(test: Test, class: SignClass) -> bool
         Test::PatternFirst => is_pattern(class)
             && !(is(SignClass::Keyword(Keyword::Mut), class) || is(SignClass::And, class)),
         Test::InPattern => continues(class),
+        Test::Opens => opens(class),
+        Test::PathSegment => is_path_segment(class),
     }
 }
 
@@ -214,6 +220,17 @@ pub(crate) fn admits(guard: Guard, class: SignClass) -> bool
         Guard::Impl => is(SignClass::Keyword(Keyword::Impl), class),
     }
 }
+
+// ---- the rules of tables, for lists
+
+/// A named field.
+pub(crate) const FIELD: Syntax<'static> = Syntax::Table(Table::Field);
+
+/// A field without a name.
+pub(crate) const TUPLE_FIELD: Syntax<'static> = Syntax::Table(Table::TupleField);
+
+/// A variant.
+pub(crate) const VARIANT: Syntax<'static> = Syntax::Table(Table::Variant);
 
 // ---- the rules of functions
 
@@ -647,6 +664,15 @@ const CONSTRAINT: Syntax<'static> = Syntax::Either(
         ),
     ),
     &Syntax::Nothing,
+);
+
+/// Generic arguments.
+pub(crate) const ARGUMENTS: Syntax<'static> = Syntax::List(&ARGUMENT);
+
+/// The type after `->`.
+pub(crate) const RETURNED: Syntax<'static> = Syntax::Then(
+    &Syntax::Mark(Label::Returns),
+    &Syntax::Table(Table::Type),
 );
 
 /// The qualifiers before `impl`.

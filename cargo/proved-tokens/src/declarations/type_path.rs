@@ -2,6 +2,7 @@
 //! The path of a type, with the name and the arguments of its last segment.
 
 use crate::declarations::bare::bare_trees;
+use crate::declarations::explore_path::fault_in_path;
 use crate::declarations::fault::Fault;
 use crate::declarations::function::return_of;
 use crate::declarations::generic_argument::argument_of;
@@ -91,6 +92,8 @@ pub struct Last<'a> {
 ///   trees.now) fault.at)</code>
 /// - `ensures span`: <code>[IfErr] result (λ fault. fault.span ≡ [extent_at] ([bare_trees] trees.now)
 ///   fault.at)</code>
+/// - `ensures expected`: <code>[IfErr] result (λ fault. [Expects] ([ByRule] [type_path]) ([bare_trees]
+///   trees.now) fault.at fault.expected)</code>
 ///
 /// [IfOk]: crate::contracts#std.IfOk
 /// [IsTypePath]: crate::contracts#declarations.TypePath.IsTypePath
@@ -101,6 +104,7 @@ pub struct Last<'a> {
 /// [ByRule]: crate::contracts#declarations.rules.Pieces.ByRule
 /// [type_path]: crate::contracts#declarations.rules.Paths.type_path
 /// [extent_at]: crate::contracts#declarations.Fault.extent_at
+/// [Expects]: crate::contracts#declarations.Expected.Expects
 pub fn parse_type_path(trees: &[TokenTree]) -> Result<TypePath<'_>, Fault>
 {
     let inner = bare_trees(trees);
@@ -109,10 +113,10 @@ pub fn parse_type_path(trees: &[TokenTree]) -> Result<TypePath<'_>, Fault>
             if rest.is_empty() {
                 Ok(path)
             } else {
-                Err(Fault::ahead_of(inner.len() - rest.len(), rest))
+                Err(fault_in_path(inner, rest))
             }
         }
-        Err(left) => Err(Fault::ahead_of(inner.len() - left.len(), left)),
+        Err(left) => Err(fault_in_path(inner, left)),
     }
 }
 
@@ -214,7 +218,8 @@ fn past_arguments(trees: &[TokenTree]) -> Result<&[TokenTree], &[TokenTree]>
 
 // ---- segments
 
-fn is_segment(class: SignClass) -> bool
+/// Whether the sign can be the name of a segment.
+pub(crate) fn is_segment(class: SignClass) -> bool
 {
     match class {
         SignClass::Word(_) => true,

@@ -35,13 +35,9 @@ impl TokenStream {
     /// - `ensures ok`: <code>[IfOk] result (λ stream. [ParsesTo] ([next_lo] map.old) ([chars] text.now)
     ///   stream)</code>
     /// - `ensures built`: <code>[IfOk] result [IsBuilt]</code>
-    /// - `ensures apart`: <code>[IfOk] result (λ \_. [HasNoFault] ([next_lo] map.old) ([chars] text.now))</code>
     /// - `ensures spans`: <code>[IfOk] result ([HoldsAll] map.new)</code>
     /// - `ensures within`: <code>[IsTrue] ([was_read] result) → [Fits] map.old ([length] ([chars] text.now))</code>
-    /// - `ensures lex`: <code>[IfErr] result (λ error. [IfLex] error (λ fault. (fault.lo ≡ fault.hi) × [FaultAt]
-    ///   ([next_lo] map.old) ([chars] text.now) fault.lo))</code>
-    /// - `ensures only`: <code>[IfErr] result (λ error. [IfLex] error (λ fault. [IsOnlyFault] ([next_lo] map.old)
-    ///   ([chars] text.now) fault.lo))</code>
+    /// - `ensures fault`: <code>[ReportsFault] [IfLex] ([next_lo] map.old) ([chars] text.now) result</code>
     /// - `ensures held`: <code>[IfErr] result (λ error. [IfLex] error ([Holds] map.new))</code>
     /// - `ensures map_full`: <code>(result ≡ [Err] ParseError.MapFull) ↔ ([Fits] map.old ([length] ([chars]
     ///   text.now)) → ⊥)</code>
@@ -53,16 +49,14 @@ impl TokenStream {
     /// [next_lo]: crate::contracts#pm_span.Files.next_lo
     /// [chars]: crate::contracts#std.chars
     /// [IsBuilt]: crate::contracts#pm_stream.Forest.IsBuilt
-    /// [HasNoFault]: crate::contracts#pm_stream.Parsing.HasNoFault
     /// [HoldsAll]: crate::contracts#pm_stream.HeldSpans.HoldsAll
     /// [IsTrue]: crate::contracts#std.IsTrue
     /// [was_read]: crate::contracts#pm_token.Outcome.was_read
     /// [Fits]: crate::contracts#pm_span.Files.Fits
     /// [length]: crate::contracts#std.length
-    /// [IfErr]: crate::contracts#std.IfErr
+    /// [ReportsFault]: crate::contracts#pm_stream.Parsing.ReportsFault
     /// [IfLex]: crate::contracts#pm_token.Outcome.IfLex
-    /// [FaultAt]: crate::contracts#pm_stream.Parsing.FaultAt
-    /// [IsOnlyFault]: crate::contracts#pm_stream.Parsing.IsOnlyFault
+    /// [IfErr]: crate::contracts#std.IfErr
     /// [Holds]: crate::contracts#pm_span.Files.Holds
     /// [Err]: crate::contracts#std.Err
     /// [with_file]: crate::contracts#pm_span.Files.with_file
@@ -95,11 +89,7 @@ impl TokenStream {
     /// - `ensures ok`: <code>[IfOk] result (λ stream. [ParsesTo] ([next_lo] [new_map]) ([chars] text.now)
     ///   stream)</code>
     /// - `ensures built`: <code>[IfOk] result [IsBuilt]</code>
-    /// - `ensures apart`: <code>[IfOk] result (λ \_. [HasNoFault] ([next_lo] [new_map]) ([chars] text.now))</code>
-    /// - `ensures lex`: <code>[IfErr] result (λ error. [IfLex] error (λ fault. (fault.lo ≡ fault.hi) × [FaultAt]
-    ///   ([next_lo] [new_map]) ([chars] text.now) fault.lo))</code>
-    /// - `ensures only`: <code>[IfErr] result (λ error. [IfLex] error (λ fault. [IsOnlyFault] ([next_lo] [new_map])
-    ///   ([chars] text.now) fault.lo))</code>
+    /// - `ensures fault`: <code>[ReportsFault] [IfLex] ([next_lo] [new_map]) ([chars] text.now) result</code>
     /// - `ensures map_full`: <code>(result ≡ [Err] ParseError.MapFull) ↔ ([Fits] [new_map] ([length] ([chars]
     ///   text.now)) → ⊥)</code>
     ///
@@ -109,11 +99,8 @@ impl TokenStream {
     /// [new_map]: crate::contracts#pm_span.Files.new_map
     /// [chars]: crate::contracts#std.chars
     /// [IsBuilt]: crate::contracts#pm_stream.Forest.IsBuilt
-    /// [HasNoFault]: crate::contracts#pm_stream.Parsing.HasNoFault
-    /// [IfErr]: crate::contracts#std.IfErr
+    /// [ReportsFault]: crate::contracts#pm_stream.Parsing.ReportsFault
     /// [IfLex]: crate::contracts#pm_token.Outcome.IfLex
-    /// [FaultAt]: crate::contracts#pm_stream.Parsing.FaultAt
-    /// [IsOnlyFault]: crate::contracts#pm_stream.Parsing.IsOnlyFault
     /// [Err]: crate::contracts#std.Err
     /// [Fits]: crate::contracts#pm_span.Files.Fits
     /// [length]: crate::contracts#std.length

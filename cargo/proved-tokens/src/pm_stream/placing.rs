@@ -60,11 +60,7 @@ pub struct PlacedTree {
 ///
 /// - `ensures ok`: <code>[IfOk] result (λ trees. [ArePlaced] ([next_lo] [new_map]) ([chars] text.now)
 ///   trees.items)</code>
-/// - `ensures apart`: <code>[IfOk] result (λ \_. [HasNoFault] ([next_lo] [new_map]) ([chars] text.now))</code>
-/// - `ensures lex`: <code>[IfErr] result (λ error. [IfLex] error (λ fault. (fault.lo ≡ fault.hi) × [FaultAt]
-///   ([next_lo] [new_map]) ([chars] text.now) fault.lo))</code>
-/// - `ensures only`: <code>[IfErr] result (λ error. [IfLex] error (λ fault. [IsOnlyFault] ([next_lo] [new_map])
-///   ([chars] text.now) fault.lo))</code>
+/// - `ensures fault`: <code>[ReportsFault] [IfLex] ([next_lo] [new_map]) ([chars] text.now) result</code>
 /// - `ensures map_full`: <code>(result ≡ [Err] ParseError.MapFull) ↔ ([Fits] [new_map] ([length] ([chars]
 ///   text.now)) → ⊥)</code>
 ///
@@ -73,11 +69,8 @@ pub struct PlacedTree {
 /// [next_lo]: crate::contracts#pm_span.Files.next_lo
 /// [new_map]: crate::contracts#pm_span.Files.new_map
 /// [chars]: crate::contracts#std.chars
-/// [HasNoFault]: crate::contracts#pm_stream.Parsing.HasNoFault
-/// [IfErr]: crate::contracts#std.IfErr
+/// [ReportsFault]: crate::contracts#pm_stream.Parsing.ReportsFault
 /// [IfLex]: crate::contracts#pm_token.Outcome.IfLex
-/// [FaultAt]: crate::contracts#pm_stream.Parsing.FaultAt
-/// [IsOnlyFault]: crate::contracts#pm_stream.Parsing.IsOnlyFault
 /// [Err]: crate::contracts#std.Err
 /// [Fits]: crate::contracts#pm_span.Files.Fits
 /// [length]: crate::contracts#std.length

@@ -23,11 +23,7 @@ use crate::shim::alloc::AllocError;
 ///
 /// - `ensures ok`: <code>[IfOk] result (λ out. [PrintsText] ([next_lo] [new_map]) ([chars] text.now)
 ///   ([string_bytes] out))</code>
-/// - `ensures apart`: <code>[IfOk] result (λ \_. [HasNoFault] ([next_lo] [new_map]) ([chars] text.now))</code>
-/// - `ensures lex`: <code>[IfErr] result (λ error. [IfLex] error (λ fault. (fault.lo ≡ fault.hi) × [FaultAt]
-///   ([next_lo] [new_map]) ([chars] text.now) fault.lo))</code>
-/// - `ensures only`: <code>[IfErr] result (λ error. [IfLex] error (λ fault. [IsOnlyFault] ([next_lo] [new_map])
-///   ([chars] text.now) fault.lo))</code>
+/// - `ensures fault`: <code>[ReportsFault] [IfLex] ([next_lo] [new_map]) ([chars] text.now) result</code>
 /// - `ensures map_full`: <code>(result ≡ [Err] ParseError.MapFull) ↔ ([Fits] [new_map] ([length] ([chars]
 ///   text.now)) → ⊥)</code>
 ///
@@ -37,11 +33,8 @@ use crate::shim::alloc::AllocError;
 /// [new_map]: crate::contracts#pm_span.Files.new_map
 /// [chars]: crate::contracts#std.chars
 /// [string_bytes]: crate::contracts#std.string_bytes
-/// [HasNoFault]: crate::contracts#pm_stream.Parsing.HasNoFault
-/// [IfErr]: crate::contracts#std.IfErr
+/// [ReportsFault]: crate::contracts#pm_stream.Parsing.ReportsFault
 /// [IfLex]: crate::contracts#pm_token.Outcome.IfLex
-/// [FaultAt]: crate::contracts#pm_stream.Parsing.FaultAt
-/// [IsOnlyFault]: crate::contracts#pm_stream.Parsing.IsOnlyFault
 /// [Err]: crate::contracts#std.Err
 /// [Fits]: crate::contracts#pm_span.Files.Fits
 /// [length]: crate::contracts#std.length

@@ -36,11 +36,7 @@ impl<'a> TokenBuffer<'a> {
     ///
     /// - `ensures ok`: <code>[IfOk] result (λ buffer. [ParsesTo] ([next_lo] [new_map]) ([chars] text.now)
     ///   buffer)</code>
-    /// - `ensures apart`: <code>[IfOk] result (λ \_. [HasNoFault] ([next_lo] [new_map]) ([chars] text.now))</code>
-    /// - `ensures lex`: <code>[IfErr] result (λ error. [IfParse] error (λ parse. [IfLex] parse (λ fault. (fault.lo
-    ///   ≡ fault.hi) × [FaultAt] ([next_lo] [new_map]) ([chars] text.now) fault.lo)))</code>
-    /// - `ensures only`: <code>[IfErr] result (λ error. [IfParse] error (λ parse. [IfLex] parse (λ fault.
-    ///   [IsOnlyFault] ([next_lo] [new_map]) ([chars] text.now) fault.lo)))</code>
+    /// - `ensures fault`: <code>[ReportsFault] [IfFault] ([next_lo] [new_map]) ([chars] text.now) result</code>
     /// - `ensures map_full`: <code>(result ≡ [Err] (BufferError.Parse ParseError.MapFull)) ↔ (([length] text.now
     ///   &lt; 2 ^ 32) × ([Fits] [new_map] ([length] ([chars] text.now)) → ⊥))</code>
     /// - `ensures few`: <code>[IfOk] result (λ buffer. ([length] text.now &lt; 2 ^ 32) × ([length] ([flattening]
@@ -53,16 +49,13 @@ impl<'a> TokenBuffer<'a> {
     /// [next_lo]: crate::contracts#pm_span.Files.next_lo
     /// [new_map]: crate::contracts#pm_span.Files.new_map
     /// [chars]: crate::contracts#std.chars
-    /// [HasNoFault]: crate::contracts#pm_stream.Parsing.HasNoFault
-    /// [IfErr]: crate::contracts#std.IfErr
-    /// [IfParse]: crate::contracts#token_buffer.Refused.IfParse
-    /// [IfLex]: crate::contracts#pm_token.Outcome.IfLex
-    /// [FaultAt]: crate::contracts#pm_stream.Parsing.FaultAt
-    /// [IsOnlyFault]: crate::contracts#pm_stream.Parsing.IsOnlyFault
+    /// [ReportsFault]: crate::contracts#pm_stream.Parsing.ReportsFault
+    /// [IfFault]: crate::contracts#token_buffer.Refused.IfFault
     /// [Err]: crate::contracts#std.Err
     /// [length]: crate::contracts#std.length
     /// [Fits]: crate::contracts#pm_span.Files.Fits
     /// [flattening]: crate::contracts#pm_stream.Forest.flattening
+    /// [IfErr]: crate::contracts#std.IfErr
     /// [IfTooLong]: crate::contracts#token_buffer.Refused.IfTooLong
     /// [HasManyTokens]: crate::contracts#token_buffer.Many.HasManyTokens
     pub fn new(text: &'a str) -> Result<TokenBuffer<'a>, BufferError>

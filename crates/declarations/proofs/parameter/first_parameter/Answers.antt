@@ -24,8 +24,9 @@ returns-in-Some-clause-fewer c =
 pub returns-in-None-clause-given : goal.returns-in-None-clause-given
 returns-in-None-clause-given c =
     let at = c.in-Ok.ensures.ok in
-    lacks_comma function_parameter starts_parameter (ByRule function_parameter) (by_rule function_parameter) c.args.trees.now
-    at.part c.in-Ok.rest.now _ at.reads c.in-None.ensures.none c.fault_at_comma.ensures.at c.fault_at_comma.ensures.span
+    lacks_comma function_parameter starts_parameter (ByRule function_parameter) (by_rule function_parameter)
+    c.args.trees.now at.part c.in-Ok.rest.now _ at.reads c.in-None.ensures.none c.fault_at_comma.ensures.at
+    c.fault_at_comma.ensures.span
     c.fault_at_comma.ensures.expected
 
 pub fault_at_comma-requires : goal.fault_at_comma-requires
