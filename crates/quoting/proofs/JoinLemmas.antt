@@ -1,170 +1,28 @@
--- Streams in which some marks are joined, and the lists that are open while they are.
-use Rattle.std.proofs.Common.{◌≡◌, ◌≤◌, ℕ, Bool, true, false, ◌&&◌, ◌||◌, Option, Result, Ok, Err, IfOk, List, [], ◌∷◌}
-use Rattle.std.proofs.Common.{OnOk, ◌++◌, length, refl, sym, ap, ap₂, subst, ◌∙◌, arith}
-use Rattle.proc_macro2.specs.Forest.{Forest, nil, leaf, group, chain}
-use Rattle.proc_macro2.specs.Leaf.{is_joint}
-use Rattle.proc_macro2.specs.Token.{Token, Name, Mark, Literal}
+-- The lists that are open while marks are joined.
+use Rattle.std.proofs.Common.{◌≡◌, ◌≤◌, ◌<◌, ℕ, ◌+◌, Result, Ok, Err, IfOk, List, [], ◌∷◌, ◌++◌, length, refl, sym, ap}
+use Rattle.std.proofs.Common.{ap₂, subst, ◌∙◌, arith, drop, get_or}
+use Rattle.std.proofs.Common.{◌-◌, Option, Some, None, IfSome, zero, suc}
+use Rattle.std.proofs.lemmas.List.{drop_all, drop_more, length-drop}
+use Rattle.std.proofs.Common.{inl, inr, ◌⊎◌}
+use Rattle.std.proofs.Math.Nat.{eq-or-lt_of_le}
+use Rattle.proc_macro2.specs.Forest.{Forest, nil, chain}
 use Rattle.proc_macro2.specs.Trees.{alone, before, forest}
 use Rattle.proc_macro2.specs.WellSpaced.{next_token}
 use Rattle.proc_macro2.specs.declared.Group.{Group as Grouped}
-use Rattle.proc_macro2.specs.declared.Punct.{Punct as Marked}
-use Rattle.proc_macro2.specs.declared.Spacing.TheVariants.{Joint}
 use Rattle.proc_macro2.specs.declared.TokenTree.{TokenTree}
 use Rattle.proc_macro2.specs.declared.TokenTree.TheVariants.{Group, Ident, Punct, Literal as Text}
-use Rattle.quoting.specs.Joined.{IsJoined, Joins, joined, joined_token, may_join, past_stream}
-use Rattle.quoting.specs.Part.{Adds, Closes, IsOpen, Keeps, Linked, Part, all_kept, first_group, others, part_kept}
-use Rattle.quoting.specs.Part.{unwound}
-use Rattle.quoting.proofs.PartLemmas.{IsByTrees, IsOnTheWay, adds_result, all_done, begin_parts, close_group, is_open}
-use Rattle.quoting.proofs.PartLemmas.{joined_assoc, open_group, step_inside}
+use Rattle.quoting.specs.Joined.{joined}
+use Rattle.quoting.specs.Part.{Adds, Closes, IsOpen, IsShallow, Keeps, KeepsUpTo, Linked, Part, all_after, all_kept}
+use Rattle.quoting.specs.Part.{all_visited, first_group, joined_alone, part_kept, part_visited}
+use Rattle.quoting.specs.Visited.{join_visited, past_visits, visited_marks}
+use Rattle.quoting.specs.declared.join.Visit.{Visit}
+use Rattle.quoting.proofs.OpenListLemmas.{adds_first, part_of}
+use Rattle.quoting.proofs.PartLemmas.{IsByTrees, IsOnTheWay, adds_result, all_done, close_group, is_open, linked_push}
+use Rattle.quoting.proofs.PartLemmas.{step_inside}
+use Rattle.quoting.proofs.VisitLemmas.{all_passed, close_visits, enter_visits, join_visits, joined_by_visits}
+use Rattle.quoting.proofs.VisitLemmas.{keep_visits, not_visited, part_passed, shallow_passed}
 
--- ---- marks that are joined
-
-or_false : (b : Bool) → (b || false) ≡ b
-or_false true = refl
-or_false false = refl
-
-or_true : (b : Bool) → (b || true) ≡ true
-or_true true = refl
-or_true false = refl
-
-unwanted : (t : Token) (next : Option Token) → joined_token false t next ≡ t
-unwanted (Name raw name) next = refl
-unwanted (Mark c joint) next = ap (Mark c) (or_false joint)
-unwanted (Literal text) next = refl
-
-pub joins_same : (f : Forest) → Joins f f
-joins_same nil = refl
-joins_same (leaf t lo hi f) =
-    (false, f, ap (λ u. leaf u lo hi f) (sym (unwanted t (next_token f))), joins_same f)
-joins_same (group d lo hi f g) = (f, g, refl, joins_same f, joins_same g)
-
--- whether a mark may be joined does not depend on the spacing of the next token
-may_join_joins : (c : ℕ) (f g : Forest) → Joins f g → may_join c (next_token g) ≡ may_join c (next_token f)
-may_join_joins c nil g h = ap (λ x. may_join c (next_token x)) h
-may_join_joins c (leaf (Name raw name) lo hi f) g h = ap (λ x. may_join c (next_token x)) h.2
-may_join_joins c (leaf (Mark d joint) lo hi f) g h = ap (λ x. may_join c (next_token x)) h.2
-may_join_joins c (leaf (Literal text) lo hi f) g h = ap (λ x. may_join c (next_token x)) h.2
-may_join_joins c (group d lo hi f k) g h = ap (λ x. may_join c (next_token x)) h.2
-
-or_either : (joint want later may : Bool)
-    → ((joint || (want && may)) || (later && may)) ≡ (joint || ((want || later) && may))
-or_either true want later may = refl
-or_either false true later true = refl
-or_either false true true false = refl
-or_either false true false false = refl
-or_either false false later may = refl
-
-joined_either : (want later : Bool) (t : Token) (next after : Option Token)
-    → ((c : ℕ) → may_join c after ≡ may_join c next)
-    → joined_token later (joined_token want t next) after ≡ joined_token (want || later) t next
-joined_either want later (Name raw name) next after same = refl
-joined_either want later (Mark c joint) next after same =
-    ap (λ may. Mark c ((joint || (want && may_join c next)) || (later && may))) (same c)
-    ∙ ap (Mark c) (or_either joint want later (may_join c next))
-joined_either want later (Literal text) next after same = refl
-
-pub joins_both : (f g h : Forest) → Joins f g → Joins g h → Joins f h
-joins_both nil g h a b = subst (λ x. Joins x h) a b
-joins_both (leaf t lo hi f) g h a b =
-    let more : Joins (leaf (joined_token a.0 t (next_token f)) lo hi a.1) h = subst (λ x. Joins x h) a.2 b in (
-      a.0 || more.0,
-      more.1,
-      more.2
-          ∙ ap (λ u. leaf u lo hi more.1)
-          (joined_either a.0 more.0 t (next_token f) (next_token a.1) (λ c. may_join_joins c f a.1 a.3)),
-      joins_both f a.1 more.1 a.3 more.3,
-    )
-joins_both (group d lo hi f k) g h a b =
-    let more : Joins (group d lo hi a.0 a.1) h = subst (λ x. Joins x h) a.2 b in
-    (more.0, more.1, more.2, joins_both f a.0 more.0 a.3 more.3, joins_both k a.1 more.1 a.4 more.4)
-
--- the answers by which a stream is joined, before more answers
-wants_of : (f g : Forest) (more : List Bool) → Joins f g
-    → (ws : List Bool) × (g ≡ joined ws f) × (past_stream f ws ≡ more)
-wants_of nil g more h = (more, h, refl)
-wants_of (leaf (Name raw name) lo hi f) g more h =
-    let rest = wants_of f h.1 more h.3 in
-    (rest.0, h.2 ∙ ap (leaf (Name raw name) lo hi) rest.1, rest.2)
-wants_of (leaf (Mark c joint) lo hi f) g more h =
-    let rest = wants_of f h.1 more h.3 in
-    (h.0 ∷ rest.0, h.2 ∙ ap (leaf (joined_token h.0 (Mark c joint) (next_token f)) lo hi) rest.1, rest.2)
-wants_of (leaf (Literal text) lo hi f) g more h =
-    let rest = wants_of f h.1 more h.3 in
-    (rest.0, h.2 ∙ ap (leaf (Literal text) lo hi) rest.1, rest.2)
-wants_of (group d lo hi f k) g more h =
-    let rest = wants_of k h.1 more h.4 in
-    let inside = wants_of f h.0 rest.0 h.3 in (
-      inside.0,
-      h.2 ∙ ap₂ (group d lo hi) inside.1 (rest.1 ∙ ap (λ ws. joined ws k) (sym inside.2)),
-      ap (past_stream k) inside.2 ∙ rest.2,
-    )
-
-is_joined : (f g : Forest) → Joins f g → IsJoined f g
-is_joined f g h = let wants = wants_of f g [] h in (wants.0, wants.1)
-
--- ---- marks that are joined in a part of a stream
-
-joins_after : (d f g : Forest) → Joins f g → Joins (chain d f) (chain d g)
-joins_after nil f g h = h
-joins_after (leaf t lo hi d) f g h = (
-  false,
-  chain d g,
-  ap (λ u. leaf u lo hi (chain d g)) (sym (unwanted t (next_token (chain d f)))),
-  joins_after d f g h,
-)
-joins_after (group e lo hi d k) f g h = (d, chain k g, refl, joins_same d, joins_after k f g h)
-
-joins_first_group : (ts : List TokenTree) (rest f g : Forest) → Joins f g
-    → Joins (chain (first_group ts f) rest) (chain (first_group ts g) rest)
-joins_first_group [] rest f g h = joins_same rest
-joins_first_group (Group t ∷ after) rest f g h = (g, rest, refl, h, joins_same rest)
-joins_first_group (Ident t ∷ after) rest f g h = joins_same rest
-joins_first_group (Punct t ∷ after) rest f g h = joins_same rest
-joins_first_group (Text t ∷ after) rest f g h = joins_same rest
-
-joins_unwound : (outer : List Part) (f g : Forest) → Joins f g
-    → Joins (unwound (λ x. x) outer f) (unwound (λ x. x) outer g)
-joins_unwound [] f g h = h
-joins_unwound (p ∷ outer) f g h =
-    joins_after p.done _ _ (joins_first_group p.left _ _ _ (joins_unwound outer f g h))
-
-joins_mark : (p : Marked) (rest : Forest) → may_join p.mark (next_token rest) ≡ true
-    → Joins (chain (alone (Punct p)) rest) (chain (alone (Punct (record p { spacing = Joint }))) rest)
-joins_mark p rest may = (
-  true,
-  rest,
-  ap (λ joint. leaf (Mark p.mark joint) p.span.lo p.span.hi rest)
-      (sym (ap (λ m. is_joint p.spacing || m) may ∙ or_true (is_joint p.spacing))),
-  joins_same rest,
-)
-
--- the first mark that was left became Joint
-pub joins_next : (old new : Part) (t : TokenTree) (after : List TokenTree) (p : Marked) → old.left ≡ t ∷ after
-    → t ≡ Punct p → may_join p.mark (next_token (forest after)) ≡ true
-    → Adds old (alone (Punct (record p { spacing = Joint }))) new → Joins (part_kept old) (part_kept new)
-joins_next old new t after p left is may adds =
-    let first : old.left ≡ Punct p ∷ after = left ∙ ap (λ u. u ∷ after) is in
-    let was : part_kept old ≡ chain old.done (chain (alone (Punct p)) (forest after)) =
-    ap (λ ts. chain old.done (forest ts)) first in
-    let now : part_kept new ≡ chain old.done (chain (alone (Punct (record p { spacing = Joint }))) (forest after)) =
-    ap₂ (λ x ts. chain x (forest ts)) adds.done (adds.left ∙ ap others first)
-    ∙ joined_assoc old.done (alone (Punct (record p { spacing = Joint }))) (forest after) in
-    subst (λ x. Joins x (part_kept new)) (sym was)
-    (subst (Joins (chain old.done (chain (alone (Punct p)) (forest after)))) (sym now)
-    (joins_after old.done _ _ (joins_mark p (forest after) may)))
-
-pub joins_replaced : {E : Type 0} (r : Result (Unit {0}) E) (old new : Part) (t : TokenTree) (after : List TokenTree)
-    (p made : Marked) (c : ℕ) (may : Bool)
-    → old.left ≡ t ∷ after → t ≡ Punct p → made ≡ record p { spacing = Joint } → c ≡ p.mark
-    → may ≡ may_join c (next_token (forest after)) → may ≡ true → OnOk r (Adds old (alone (Punct made)) new)
-    → OnOk r (Joins (part_kept old) (part_kept new))
-joins_replaced (Ok u) old new t after p made c may left is same mark wanted allowed adds =
-    joins_next old new t after p left is
-    (sym (ap (λ d. may_join d (next_token (forest after))) mark) ∙ (sym wanted ∙ allowed))
-    (subst (λ q. Adds old (alone (Punct q)) new) same adds)
-joins_replaced (Err error) old new t after p made c may left is same mark wanted allowed adds = tt
-
--- ---- the state of the loops
+-- ---- trees that are kept
 
 pub by_trees_kept : IsByTrees (λ f. f)
 by_trees_kept = record { none = refl; at_group = λ d lo hi inside rest. refl }
@@ -175,85 +33,259 @@ before_alone (Ident i) rest = refl
 before_alone (Punct p) rest = refl
 before_alone (Text l) rest = refl
 
--- one more tree is kept
-pub keeps_more : (old here new : Part) (t : TokenTree) (after : List TokenTree) → here.left ≡ t ∷ after
-    → Adds here (alone t) new → Keeps old here → Keeps old new
-keeps_more old here new t after left adds was = record {
+-- trees before an index are kept
+pub record KeepsBefore (index : ℕ) (old : Part) (new : Part) : Type 0 where
+  pub whole : new.whole ≡ old.whole
+  pub kept : part_kept new ≡ part_kept old
+  pub visits : (depth : ℕ) (visit : Visit) (visits : List Visit) → visit.index ≡ index
+      → part_visited depth new (visit ∷ visits) ≡ part_visited depth old (visit ∷ visits)
+
+pub keeps_none : (index : ℕ) (part : Part) → KeepsBefore index part part
+keeps_none index part = record { whole = refl; kept = refl; visits = λ d v vs same. refl }
+
+-- one more tree before the index is kept
+pub keeps_before : (index : ℕ) (old here new : Part) (t : TokenTree) (after : List TokenTree)
+    → here.left ≡ t ∷ after → here.count < index → Adds here (alone t) new → KeepsBefore index old here
+    → KeepsBefore index old new
+keeps_before index old here new t after left less adds was = record {
   whole = adds.whole ∙ was.whole;
   kept = adds_result (λ f. f) here new t after (alone t) left (before_alone t (forest after)) adds ∙ was.kept;
+  visits =
+      λ d v vs same.
+      keep_visits d here new t after (v ∷ vs) left adds
+      (not_visited d here.count v vs (λ depth place. absurd (omega (arith, less, same, place))))
+      ∙ was.visits d v vs same;
 }
 
--- the lists are open on the way to a stream in which some marks are joined
-pub record IsJoining (stream : Forest) (here : Part) (outer : List Part) : Type 0 where
-  pub answer : Forest
-  pub on_the_way : IsOnTheWay (λ f. f) here outer answer
-  pub joins : Joins stream answer
+one_more : (index : ℕ) (old : Part) (whole : Forest) (changed : Option (Forest × ℕ)) (n : ℕ) (trees ts : List TokenTree)
+    → drop n trees ≡ ts → 0 < length ts → n < index → n ≤ length trees → IfSome changed (λ c. c.1 ≤ n)
+    → KeepsBefore index old (part_of whole changed n trees)
+    → KeepsBefore index old (part_of whole changed (n + 1) trees)
+one_more index old whole changed n trees [] is some less within copied was = absurd (omega (arith, some))
+one_more index old whole changed n trees (t ∷ after) is some less within copied was =
+    keeps_before index old (part_of whole changed n trees) (part_of whole changed (n + 1) trees) t after is less
+    (adds_first whole changed n trees (t ∷ after) is some within copied) was
 
-pub begin_joining : (here : Part) (outer : List Part) (f : Forest) → here.done ≡ nil → forest here.left ≡ f
-    → outer ≡ [] → IsJoining f here outer
-begin_joining here outer f done left none =
-    record { answer = f; on_the_way = begin_parts (λ x. x) here outer f done left none; joins = joins_same f }
+still_within : (changed : Option (Forest × ℕ)) (n k : ℕ) → IfSome changed (λ c. c.1 ≤ n)
+    → IfSome changed (λ c. c.1 ≤ n + k)
+still_within None n k h = tt
+still_within (Some c) n k h = omega (arith, h)
+
+keeps_run : (index : ℕ) (whole : Forest) (changed : Option (Forest × ℕ)) (n k : ℕ) (trees : List TokenTree)
+    → n + k ≤ length trees → (0 < k → n + k ≤ index) → IfSome changed (λ c. c.1 ≤ n)
+    → KeepsBefore index (part_of whole changed n trees) (part_of whole changed (n + k) trees)
+keeps_run index whole changed n zero trees within before copied =
+    subst (λ m. KeepsBefore index (part_of whole changed n trees) (part_of whole changed m trees)) (omega arith)
+    (keeps_none index (part_of whole changed n trees))
+keeps_run index whole changed n (suc k) trees within before copied =
+    let more : n + suc k ≤ index = before (omega arith) in
+    subst (λ m. KeepsBefore index (part_of whole changed n trees) (part_of whole changed m trees)) (omega arith)
+    (one_more index (part_of whole changed n trees) whole changed (n + k) trees (drop (n + k) trees) refl
+    (omega (arith, within, length-drop (n + k) trees)) (omega (arith, more)) (omega (arith, within))
+    (still_within changed n k copied)
+    (keeps_run index whole changed n k trees (omega (arith, within)) (λ some. omega (arith, more)) copied))
+
+kept_run : (index : ℕ) (whole : Forest) (changed : Option (Forest × ℕ)) (n m : ℕ) (trees : List TokenTree)
+    → n ≤ m → m ≤ length trees → (n < m → m ≤ index) → IfSome changed (λ c. c.1 ≤ n)
+    → KeepsBefore index (part_of whole changed n trees) (part_of whole changed m trees)
+kept_run index whole changed n m trees more within before copied =
+    let same : n + (m - n) ≡ m = omega (arith, more) in
+    subst (λ k. KeepsBefore index (part_of whole changed n trees) (part_of whole changed k trees)) same
+    (keeps_run index whole changed n (m - n) trees (omega (arith, within, more))
+    (λ some. omega (arith, more, before (omega (arith, some)))) copied)
+
+-- the trees before an index, and before the end, are kept
+pub keeps_up_to : (index : ℕ) (whole : Forest) (changed : Option (Forest × ℕ)) (n m : ℕ) (trees : List TokenTree)
+    (old : Part)
+    → part_of whole changed n trees ≡ old → n ≤ m → m ≤ length trees → (n < m → m ≤ index)
+    → (m < index → length trees ≤ m) → IfSome changed (λ c. c.1 ≤ n)
+    → KeepsUpTo index old (part_of whole changed m trees)
+keeps_up_to index whole changed n m trees old same more within before reached copied =
+    let run = kept_run index whole changed n m trees more within before copied in
+    subst (λ part. KeepsUpTo index part (part_of whole changed m trees)) same (record {
+      whole = run.whole;
+      kept = run.kept;
+      reached = λ less. drop_all m trees (reached less);
+      visits = run.visits;
+    })
+
+-- all trees are kept
+pub keeps_all : (whole : Forest) (changed : Option (Forest × ℕ)) (n : ℕ) (trees : List TokenTree) (old : Part)
+    → part_of whole changed n trees ≡ old → n ≤ length trees → IfSome changed (λ c. c.1 ≤ n)
+    → Keeps old (part_of whole changed (length trees) trees)
+keeps_all whole changed n trees old same within copied =
+    let run =
+    kept_run (length trees) whole changed n (length trees) trees within (omega arith) (λ less. omega arith) copied in
+    subst (λ part. Keeps part (part_of whole changed (length trees) trees)) same
+    (record { whole = run.whole; kept = run.kept })
+
+-- ---- the state of the loop
+
+-- the lists are open on the way to the answer, once the visits are made
+pub record IsJoining (answer : Forest) (here : Part) (outer : List Part) (visits : List Visit) : Type 0 where
+  pub answer_is : (all_visited outer here visits).0 ≡ answer
+  pub linked : Linked outer here.whole
+
+pub begin_joining : (here : Part) (outer : List Part) (f : Forest) (vs : List Visit) → here.done ≡ nil
+    → here.count ≡ 0 → forest here.left ≡ f → outer ≡ [] → IsJoining (join_visited 0 0 f vs) here outer vs
+begin_joining here outer f vs done count left none = record {
+  answer_is =
+      ap (λ o. (all_visited o here vs).0) none
+      ∙ (ap (λ x. chain x (join_visited 0 here.count (forest here.left) vs)) done
+      ∙ ap₂ (λ n g. join_visited 0 n g vs) count left);
+  linked = subst (λ o. Linked o here.whole) (sym none) tt;
+}
+
+-- no visit
+abbrev pub no_visit : Visit
+no_visit = record { depth = 0; index = 0 }
+
+-- the visits that are left begin with this one
+pub next_visit : (answer : Forest) (here : Part) (outer : List Part) (vs : List Visit) (i : ℕ) → i < length vs
+    → IsJoining answer here outer (drop i vs) → IsJoining answer here outer (get_or vs i no_visit ∷ drop (i + 1) vs)
+next_visit answer here outer vs i less was = subst (IsJoining answer here outer) (drop_more vs i no_visit less) was
 
 -- lists were closed, and trees were kept
-pub reach_visit : (stream : Forest) (here closed kept : Part) (outer more : List Part) (depth : ℕ)
-    → Closes outer here depth more closed → Keeps closed kept → IsJoining stream here outer
-    → IsJoining stream kept more
-reach_visit stream here closed kept outer more depth closes keeps was = record {
-  answer = was.answer;
-  on_the_way =
-      step_inside (λ f. f) closed kept more was.answer keeps.whole keeps.kept
-      (record { answer_is = closes.kept ∙ was.on_the_way.answer_is; linked = closes.linked });
-  joins = was.joins;
+pub reach_visit : (answer : Forest) (here closed kept : Part) (outer more : List Part) (v : Visit) (vs : List Visit)
+    → Closes outer here v.depth more closed → KeepsUpTo v.index closed kept → IsJoining answer here outer (v ∷ vs)
+    → IsJoining answer kept more (v ∷ vs)
+reach_visit answer here closed kept outer more v vs closes keeps was = record {
+  answer_is =
+      ap (λ x. (all_after 0 more x).0) (keeps.visits (length more) v vs refl)
+      ∙ (ap (λ (x : Forest × List Visit). x.0) (closes.visits (v ∷ vs) (omega arith)) ∙ was.answer_is);
+  linked = subst (Linked more) (sym keeps.whole) closes.linked;
 }
 
-pub enter_visit : (stream : Forest) (here new : Part) (outer more : List Part) (t : TokenTree)
-    (after : List TokenTree) (g : Grouped)
-    → here.left ≡ t ∷ after → t ≡ Group g → new.whole ≡ g.stream → new.done ≡ nil → forest new.left ≡ g.stream
-    → more ≡ outer ++ here ∷ [] → IsJoining stream here outer → IsJoining stream new more
-enter_visit stream here new outer more t after g left is whole done inside push was = record {
-  answer = was.answer;
-  on_the_way =
-      open_group (λ f. f) here new outer more t after g was.answer by_trees_kept left is whole done inside push
-      was.on_the_way;
-  joins = was.joins;
+pub enter_visit : (answer : Forest) (here new : Part) (outer more : List Part) (t : TokenTree)
+    (after : List TokenTree) (g : Grouped) (v : Visit) (vs : List Visit)
+    → here.left ≡ t ∷ after → t ≡ Group g → new.whole ≡ g.stream → new.done ≡ nil → new.count ≡ 0
+    → forest new.left ≡ g.stream → more ≡ outer ++ here ∷ [] → v.depth ≡ length outer → v.index ≡ here.count
+    → IsJoining answer here outer (v ∷ vs) → IsJoining answer new more vs
+enter_visit answer here new outer more t after g v vs left is whole done count inside push depth place was = record {
+  answer_is =
+      ap (λ (x : Forest × List Visit). x.0)
+      (enter_visits here new outer more t after g v vs left is done count inside push depth place)
+      ∙ was.answer_is;
+  linked =
+      subst (λ o. Linked o new.whole) (sym push)
+      (linked_push outer here new.whole was.linked
+      (subst (λ ts. IsOpen ts new.whole) (sym (left ∙ ap (λ u. u ∷ after) is)) (sym whole)));
 }
 
-pub join_visit : (stream : Forest) (here new : Part) (outer : List Part) → new.whole ≡ here.whole
-    → Joins (part_kept here) (part_kept new) → IsJoining stream here outer → IsJoining stream new outer
-join_visit stream here new outer whole joins was = record {
-  answer = all_kept outer new;
-  on_the_way = record { answer_is = refl; linked = subst (Linked outer) (sym whole) was.on_the_way.linked };
-  joins =
-      joins_both stream (all_kept outer here) (all_kept outer new)
-      (subst (Joins stream) (sym was.on_the_way.answer_is) was.joins)
-      (joins_unwound outer (part_kept here) (part_kept new) joins);
+pub join_visit : (answer : Forest) (here new : Part) (outer : List Part) (t : TokenTree) (after : List TokenTree)
+    (v : Visit) (vs : List Visit)
+    → here.left ≡ t ∷ after → ((g : Grouped) → t ≡ Group g → ⊥)
+    → Adds here (joined_alone t (next_token (forest after))) new → v.depth ≡ length outer → v.index ≡ here.count
+    → IsJoining answer here outer (v ∷ vs) → IsJoining answer new outer vs
+join_visit answer here new outer t after v vs left other adds depth place was = record {
+  answer_is =
+      ap (λ (x : Forest × List Visit). x.0) (join_visits here new outer t after v vs left other adds depth place)
+      ∙ was.answer_is;
+  linked = subst (Linked outer) (sym adds.whole) was.linked;
 }
 
-none_left : (outer : List Part) → length outer ≤ 0 → outer ≡ []
-none_left [] few = refl
-none_left (p ∷ outer) few = absurd (omega (arith, few))
+-- ---- the end of the visits
 
-pub end_joining : {E : Type 0} (r : Result Forest E) (stream : Forest) (here : Part) (outer : List Part)
-    → length outer ≤ 0 → here.left ≡ [] → IsJoining stream here outer → IfOk r (λ f. f ≡ here.done)
-    → IfOk r (λ f. IsJoined stream f)
-end_joining (Ok f) stream here outer few none was done =
-    let answer : f ≡ was.answer =
-    done ∙ all_done (λ x. x) here outer was.answer by_trees_kept none (none_left outer few) was.on_the_way in
-    is_joined stream f (subst (Joins stream) (sym answer) was.joins)
-end_joining (Err error) stream here outer few none was done = tt
+abbrev IsFilled : List TokenTree → Type 0
+IsFilled [] = ⊥
+IsFilled (t ∷ after) = Unit {0}
+
+not_empty : (t : TokenTree) (after : List TokenTree) → t ∷ after ≡ [] → ⊥
+not_empty t after e = subst IsFilled e tt
+
+no_tree : (p : Part) (t : TokenTree) (after : List TokenTree) (d j : ℕ) (v : Visit) → p.left ≡ t ∷ after
+    → (p.count < v.index → p.left ≡ []) → (v.depth ≡ d → v.index ≡ p.count → p.left ≡ [])
+    → v.depth ≡ d → v.index ≡ j → (p.count ≡ j) ⊎ (p.count < j) → ⊥
+no_tree p t after d j v is reached missed depth place (inl same) =
+    not_empty t after (sym is ∙ missed depth (place ∙ sym same))
+no_tree p t after d j v is reached missed depth place (inr less) =
+    not_empty t after (sym is ∙ reached (omega (arith, less, place)))
+
+-- the tree of a visit does not come in the list
+missed_trees : (d : ℕ) (p : Part) (ts : List TokenTree) (v : Visit) (vs : List Visit) → p.left ≡ ts
+    → (p.count < v.index → p.left ≡ []) → (v.depth ≡ d → v.index ≡ p.count → p.left ≡ [])
+    → part_visited d p (v ∷ vs) ≡ (part_kept p, v ∷ vs)
+missed_trees d p [] v vs is reached missed =
+    ap (λ ts. (chain p.done (join_visited d p.count (forest ts) (v ∷ vs)), past_visits d p.count (forest ts) (v ∷ vs)))
+    is
+    ∙ ap (λ ts. (chain p.done (forest ts), v ∷ vs)) (sym is)
+missed_trees d p (t ∷ after) v vs is reached missed =
+    part_passed d p (v ∷ vs) (λ j least. not_visited d j v vs (λ depth place.
+    no_tree p t after d j v is reached missed depth place (eq-or-lt_of_le least)))
+
+-- no visit is left
+pub visits_end : (answer : Forest) (here : Part) (outer : List Part) → IsJoining answer here outer []
+    → all_kept outer here ≡ answer
+visits_end answer here outer was =
+    sym (ap (λ x. (all_after 0 outer x).0) (part_passed (length outer) here [] (λ j least. refl))
+    ∙ ap (λ (x : Forest × List Visit). x.0) (all_passed 0 outer (part_kept here) [] (λ k less j least. refl)))
+    ∙ was.answer_is
+
+-- the tree of the next visit does not come
+pub visits_missed : (answer : Forest) (here : Part) (outer : List Part) (v : Visit) (vs : List Visit)
+    → length outer ≤ v.depth → (here.count < v.index → here.left ≡ [])
+    → (v.depth ≡ length outer → v.index ≡ here.count → here.left ≡ [])
+    → IsJoining answer here outer (v ∷ vs) → all_kept outer here ≡ answer
+visits_missed answer here outer v vs few reached missed was =
+    sym (ap (λ x. (all_after 0 outer x).0) (missed_trees (length outer) here here.left v vs refl reached missed)
+    ∙ ap (λ (x : Forest × List Visit). x.0)
+    (all_passed 0 outer (part_kept here) (v ∷ vs)
+    (λ k less j least. not_visited k j v vs (λ depth place. absurd (omega (arith, few, less, depth))))))
+    ∙ was.answer_is
+
+pub joined_result : {E : Type 0} (r : Result Forest E) (kept f : Forest) (vs : List Visit) → IfOk r (λ g. g ≡ kept)
+    → kept ≡ join_visited 0 0 f vs → IfOk r (λ g. g ≡ joined (visited_marks 0 0 f vs) f)
+joined_result (Ok g) kept f vs is same = is ∙ (same ∙ joined_by_visits 0 0 f vs)
+joined_result (Err error) kept f vs is same = tt
 
 -- ---- closing
 
-pub close_kept : (here rest part new : Part) (outer more : List Part) (answer : Forest)
-    → rest.left ≡ [] → Keeps here rest → outer ≡ more ++ part ∷ []
-    → Adds part (first_group part.left rest.done) new → IsOnTheWay (λ f. f) here outer answer
-    → IsOnTheWay (λ f. f) new more answer
-close_kept here rest part new outer more answer none keeps pop adds was =
-    close_group (λ f. f) rest part new outer more answer by_trees_kept none pop adds
-    (step_inside (λ f. f) here rest outer answer keeps.whole keeps.kept was)
+-- lists were closed. The first lists and the innermost one of them are given
+pub record IsClosing (first : List Part) (innermost : Part) (depth : ℕ) (here : Part) (outer : List Part) : Type 0 where
+  pub way : IsOnTheWay (λ f. f) here outer (all_kept first innermost)
+  pub visits : (vs : List Visit) → IsShallow depth vs → all_visited outer here vs ≡ all_visited first innermost vs
+
+pub begin_closing : (outer : List Part) (here : Part) (depth : ℕ) → Linked outer here.whole
+    → IsClosing outer here depth here outer
+begin_closing outer here depth linked =
+    record { way = record { answer_is = refl; linked = linked }; visits = λ vs shallow. refl }
+
+pub close_kept : (first : List Part) (innermost here rest part new : Part) (outer more : List Part) (depth : ℕ)
+    → rest.left ≡ [] → Keeps here rest → outer ≡ more ++ part ∷ [] → depth < length outer
+    → Adds part (first_group part.left rest.done) new → IsClosing first innermost depth here outer
+    → IsClosing first innermost depth new more
+close_kept first innermost here rest part new outer more depth none keeps pop deep adds was = record {
+  way =
+      close_group (λ f. f) rest part new outer more (all_kept first innermost) by_trees_kept none pop adds
+      (step_inside (λ f. f) here rest outer (all_kept first innermost) keeps.whole keeps.kept was.way);
+  visits =
+      λ vs shallow.
+      close_visits here rest part new outer more vs (shallow_passed vs depth (length outer) shallow deep) none keeps
+      pop adds
+      ∙ was.visits vs shallow;
+}
 
 pub open_kept : (here rest part : Part) (outer more : List Part) (answer : Forest) → Keeps here rest
     → outer ≡ more ++ part ∷ [] → IsOnTheWay (λ f. f) here outer answer → IsOpen part.left rest.whole
 open_kept here rest part outer more answer keeps pop was =
     is_open (λ f. f) rest part outer more answer pop
     (step_inside (λ f. f) here rest outer answer keeps.whole keeps.kept was)
+
+pub end_closing : (first : List Part) (innermost here : Part) (outer : List Part) (depth : ℕ) → length outer ≤ depth
+    → IsClosing first innermost depth here outer → Closes first innermost depth outer here
+end_closing first innermost here outer depth few was =
+    record { few = few; kept = was.way.answer_is; linked = was.way.linked; visits = was.visits }
+
+none_left : (outer : List Part) → length outer ≤ 0 → outer ≡ []
+none_left [] few = refl
+none_left (p ∷ outer) few = absurd (omega (arith, few))
+
+-- all lists were closed
+pub all_closed : {E : Type 0} (r : Result Forest E) (outer more : List Part) (here closed kept : Part)
+    → Closes outer here 0 more closed → Keeps closed kept → kept.left ≡ [] → IfOk r (λ f. f ≡ kept.done)
+    → IfOk r (λ f. f ≡ all_kept outer here)
+all_closed (Ok f) outer more here closed kept closes keeps none done =
+    done ∙ (all_done (λ x. x) kept more (all_kept outer here) by_trees_kept none (none_left more closes.few)
+    (step_inside (λ x. x) closed kept more (all_kept outer here) keeps.whole keeps.kept
+    (record { answer_is = closes.kept; linked = closes.linked })))
+all_closed (Err error) outer more here closed kept closes keeps none done = tt

@@ -4,6 +4,7 @@ mod SearchLemmas
 mod FaultLemmas
 mod PartLemmas
 mod OpenListLemmas
+mod VisitLemmas
 mod JoinLemmas
 mod PushLemmas
 mod Examples

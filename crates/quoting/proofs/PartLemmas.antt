@@ -56,7 +56,7 @@ first_whole-push : (outer : List Part) (part : Part) (whole : Forest)
 first_whole-push [] part whole = refl
 first_whole-push (p ∷ outer) part whole = refl
 
-linked_push : (outer : List Part) (part : Part) (whole : Forest) → Linked outer part.whole → IsOpen part.left whole
+pub linked_push : (outer : List Part) (part : Part) (whole : Forest) → Linked outer part.whole → IsOpen part.left whole
     → Linked (outer ++ part ∷ []) whole
 linked_push [] part whole h opened = (opened, tt)
 linked_push (p ∷ outer) part whole h opened = (

@@ -1,5 +1,5 @@
 -- Streams some of whose marks are written close to the next mark.
-use Rattle.std.specs.Prelude.{ℕ, Bool, false, not, ◌&&◌, ◌||◌, ◌==◌, ◌≡◌, List, [], ◌∷◌, Option, Some, None, codes}
+use Rattle.std.specs.Prelude.{ℕ, Bool, false, not, ◌&&◌, ◌||◌, ◌==◌, List, [], ◌∷◌, Option, Some, None, codes}
 use Rattle.proc_macro2.specs.Character.{single_quote}
 use Rattle.proc_macro2.specs.Forest.{Forest, nil, leaf, group}
 use Rattle.proc_macro2.specs.Front.{begins_any}
@@ -62,16 +62,3 @@ joined wants nil = nil
 joined wants (leaf token lo hi rest) =
     leaf (joined_token (first_want wants) token (next_token rest)) lo hi (joined (past_token token wants) rest)
 joined wants (group d lo hi inside rest) = group d lo hi (joined wants inside) (joined (past_stream inside wants) rest)
-
--- some marks of the stream are joined, and nothing else is changed
-abbrev pub IsJoined : Forest → Forest → Type 0
-IsJoined stream new = (wants : List Bool) × (new ≡ joined wants stream)
-
--- `IsJoined`, by the trees of both streams
-abbrev pub Joins : Forest → Forest → Type 0
-Joins nil new = new ≡ nil
-Joins (leaf token lo hi rest) new =
-    (want : Bool) × (after : Forest) × (new ≡ leaf (joined_token want token (next_token rest)) lo hi after)
-    × Joins rest after
-Joins (group d lo hi inside rest) new =
-    (within : Forest) × (after : Forest) × (new ≡ group d lo hi within after) × Joins inside within × Joins rest after

@@ -2,8 +2,9 @@ pub mod Message
 pub mod Respaced
 pub mod Fault
 pub mod Choice
-pub mod Part
 pub mod Joined
+pub mod Visited
+pub mod Part
 pub mod Put
 pub mod Laws
 pub mod Items

@@ -119,7 +119,7 @@ impl StreamBuilder {
 
     /// Adds copies of the trees at the end. About `more` trees are expected after them.
     #[inline(never)]
-    fn copy(&mut self, trees: &[TokenTree], more: usize) -> Result<(), AllocError>
+    pub(crate) fn copy(&mut self, trees: &[TokenTree], more: usize) -> Result<(), AllocError>
         requires { IsBuilt (forest trees.now) }
         ensures { OnOk result (self.new ≡ chain self.old (forest trees.now)) }
     {

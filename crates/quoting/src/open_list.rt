@@ -2,10 +2,10 @@
 //!
 //! Groups may nest as deep as memory allows. So the lists of open groups are kept in a list and not on the stack. A
 //! list in which nothing changes is not copied. It stays shared with the stream that it comes from.
-ghost use Rattle.std.specs.Prelude.{◌≡◌, ◌<◌, [], ◌∷◌, All, IfOk, MatchOption, OnOk, length, ⊤};
+ghost use Rattle.std.specs.Prelude.{◌≡◌, ◌<◌, [], ◌∷◌, IfOk, MatchOption, OnOk, length};
 ghost use Rattle.proc_macro2.specs.Forest.{chain, nil};
 ghost use Rattle.proc_macro2.specs.Trees.{alone, forest, GoesInside};
-ghost use Rattle.quoting.specs.Part.{Adds, IsOpen, Keeps, first_group, others};
+ghost use Rattle.quoting.specs.Part.{Adds, IsOpen, Keeps, KeepsUpTo, first_alone, first_group};
 
 use crate::builder::StreamBuilder;
 use crate::respace::with_contents;
@@ -21,14 +21,15 @@ pub(crate) struct OpenList<'a> {
     trees: &'a [TokenTree],
     // The number of trees that are done.
     done: usize,
-    // The done trees, if one of them was changed.
-    changed: Option<StreamBuilder>,
+    // The done trees up to the last one that was changed, and their number.
+    changed: Option<(StreamBuilder, usize)>,
 }
 
 impl<'a> Model for OpenList<'a> {
     ghost use Rattle.quoting.specs.Part.{Part, coded_part, done_of};
-    ghost use Rattle.std.specs.Prelude.{◌≡◌, ◌≤◌, All, drop, length};
-    ghost use Rattle.proc_macro2.specs.Trees.{forest, GoesInside};
+    ghost use Rattle.std.specs.Prelude.{◌≡◌, ◌≤◌, IfSome, drop, length};
+    ghost use Rattle.proc_macro2.specs.Forest.{IsBuilt};
+    ghost use Rattle.proc_macro2.specs.Trees.{forest};
 
     ghost Value = { Part };
 
@@ -37,11 +38,13 @@ impl<'a> Model for OpenList<'a> {
     ghost view = { λ open_list. record {
       whole = open_list.stream.now;
       done = done_of open_list.changed open_list.done open_list.trees.now;
+      count = open_list.done;
       left = drop open_list.done open_list.trees.now;
     } };
 
     ghost invariant = { λ open_list. (open_list.done ≤ length open_list.trees.now)
-        × All GoesInside open_list.trees.now
+        × IfSome open_list.changed (λ changed. changed.1 ≤ open_list.done)
+        × IsBuilt (forest open_list.trees.now)
         × (forest open_list.trees.now ≡ open_list.stream.now) };
 }
 
@@ -50,6 +53,7 @@ impl<'a> OpenList<'a> {
     pub(crate) fn new(stream: &'a TokenStream) -> OpenList<'a>
         ensures whole { result.whole ≡ stream.now }
         ensures done { result.done ≡ nil }
+        ensures count { result.count ≡ 0 }
         ensures left { forest result.left ≡ stream.now }
     {
         OpenList {
@@ -58,6 +62,13 @@ impl<'a> OpenList<'a> {
             done: 0,
             changed: None,
         }
+    }
+
+    /// Returns the number of trees that are done.
+    pub(crate) fn count(&self) -> usize
+        ensures { result ≡ self.now.count }
+    {
+        self.done
     }
 
     /// Returns the first tree that is left, and the trees after it.
@@ -80,73 +91,51 @@ impl<'a> OpenList<'a> {
         let TokenTree::Group(group) = tree else {
             return Ok(());
         };
-        let OpenList { changed, .. } = inner;
-        match changed {
-            None => self.keep(tree),
-            Some(changed) => {
-                let contents = changed.finish()?;
-                self.replace(alloc, TokenTree::Group(with_contents(group, contents)))
-            }
+        if inner.changed.is_none() {
+            self.keep();
+            return Ok(());
         }
+        let contents = inner.finish()?;
+        self.replace(alloc, TokenTree::Group(with_contents(group, contents)))
     }
 
     /// Keeps the first tree that is left without a change.
-    pub(crate) fn keep(&mut self, tree: &TokenTree) -> Result<(), AllocError>
-        requires { self.old.left ≡ tree.now ∷ others self.old.left }
-        ensures { OnOk result (Adds self.old (alone tree.now) self.new) }
+    pub(crate) fn keep(&mut self)
+        requires { 0 < length self.old.left }
+        ensures { Adds self.old (first_alone self.old.left) self.new }
     {
-        if let Some(changed) = &mut self.changed {
-            changed.put_copy(tree, 0)?;
-        }
         self.done += 1;
-        Ok(())
     }
 
     /// Keeps the trees that are left before this index of the list without a change.
-    pub(crate) fn keep_before(&mut self, index: usize) -> Result<(), AllocError>
-        ensures { OnOk result (Keeps self.old self.new) }
+    pub(crate) fn keep_before(&mut self, index: usize)
+        ensures { KeepsUpTo index self.old self.new }
     {
-        while let Some(tree) = self.next_before(index) {
-            self.keep(tree)?;
-        }
-        Ok(())
-    }
-
-    /// Returns the first tree that is left, if it is before this index of the list.
-    fn next_before(&self, index: usize) -> Option<&'a TokenTree>
-        ensures { MatchOption result ⊤ (λ tree. self.now.left ≡ tree.now ∷ others self.now.left) }
-    {
-        if self.done < index {
-            self.trees[self.done..].first()
-        } else {
-            None
-        }
+        self.done = self.done.max(index.min(self.trees.len()));
     }
 
     /// Keeps all trees that are left without a change.
-    pub(crate) fn keep_rest(&mut self) -> Result<(), AllocError>
-        ensures kept { OnOk result (Keeps self.old self.new) }
-        ensures all { OnOk result (self.new.left ≡ []) }
+    pub(crate) fn keep_rest(&mut self)
+        ensures kept { Keeps self.old self.new }
+        ensures all { self.new.left ≡ [] }
     {
-        while let Some((tree, _)) = self.next() {
-            self.keep(tree)?;
-        }
-        Ok(())
+        self.done = self.trees.len();
     }
 
-    /// Replaces the first tree that is left. The first call copies the trees that are done.
+    /// Replaces the first tree that is left. The trees before it that are not copied yet are copied.
     pub(crate) fn replace(&mut self, alloc: Global, tree: TokenTree) -> Result<(), AllocError>
         requires left { 0 < length self.old.left }
         requires inside { GoesInside tree }
         ensures { OnOk result (Adds self.old (alone tree) self.new) }
     {
-        let mut changed = match self.changed.take() {
+        let (mut changed, count) = match self.changed.take() {
             Some(changed) => changed,
-            None => copy_trees(alloc, &self.trees[..self.done], self.trees.len())?,
+            None => (StreamBuilder::new(alloc), 0),
         };
+        changed.copy(&self.trees[..self.done][count..], self.trees.len())?;
         changed.put(tree, 0)?;
-        self.changed = Some(changed);
         self.done += 1;
+        self.changed = Some((changed, self.done));
         Ok(())
     }
 
@@ -157,24 +146,16 @@ impl<'a> OpenList<'a> {
     {
         let OpenList {
             stream,
+            trees,
+            done,
             changed,
-            ..
         } = self;
         match changed {
-            Some(changed) => changed.finish(),
+            Some((mut changed, count)) => {
+                changed.copy(&trees[..done][count..], 0)?;
+                changed.finish()
+            }
             None => stream.clone(),
         }
     }
-}
-
-/// Returns a builder with copies of the trees. A copy of a group shares its contents. About `count` trees are expected.
-fn copy_trees(alloc: Global, trees: &[TokenTree], count: usize) -> Result<StreamBuilder, AllocError>
-    requires { All GoesInside trees.now }
-    ensures { IfOk result (λ builder. builder ≡ forest trees.now) }
-{
-    let mut builder = StreamBuilder::new(alloc);
-    for tree in trees {
-        builder.put_copy(tree, count)?;
-    }
-    Ok(builder)
 }

@@ -51,7 +51,8 @@ fn respace_next(
             return list.replace(alloc, TokenTree::Punct(mark_as(mark, spacing)));
         }
     }
-    list.keep(tree)
+    list.keep();
+    Ok(())
 }
 
 /// Returns the spacing of the mark before these trees. A `'` is Joint. Any other mark is Joint if it was and may be.

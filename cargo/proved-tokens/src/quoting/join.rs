@@ -5,7 +5,7 @@ use crate::shim::prelude::Grow;
 
 use crate::quoting::open_list::OpenList;
 use crate::quoting::respace::mark_as;
-use crate::proc_macro2::{Spacing, TokenStream, TokenTree};
+use crate::proc_macro2::{Punct, Spacing, TokenStream, TokenTree};
 use crate::shim::alloc::AllocError;
 
 /// A tree of a stream that [`join_marks`] visits: a group whose trees are visited next, or a mark that is to be joined.
@@ -19,17 +19,20 @@ pub struct Visit {
 
 /// Returns the stream in which each visited mark is Joint, if it may be joined with the next token of its list.
 ///
-/// The visits are in reading order, and each group around a mark is visited before the mark. Any other visit changes
-/// nothing. Only the lists in visited groups are walked over, and those that do not change stay shared.
+/// The visits are in reading order, and each group around a mark is visited before the mark. The first visit of which
+/// this is not true changes nothing, and neither do the visits after it (`visited-marks`). Only the lists in which
+/// marks are joined and the lists around these are copied. The others stay shared.
 ///
 /// Fails if memory runs out.
 ///
 /// # Contract
 ///
-/// - `ensures`: <code>[IfOk] result (λ new. [IsJoined] stream.now new)</code>
+/// - `ensures`: <code>[IfOk] result (λ new. new ≡ [joined] ([visited_marks] 0 0 stream.now visits.now)
+///   stream.now)</code>
 ///
 /// [IfOk]: crate::contracts#std.IfOk
-/// [IsJoined]: crate::contracts#quoting.Joined.IsJoined
+/// [joined]: crate::contracts#quoting.Joined.joined
+/// [visited_marks]: crate::contracts#quoting.Visited.visited_marks
 pub fn join_marks(
     stream: &TokenStream,
     visits: &[Visit],
@@ -39,9 +42,9 @@ pub fn join_marks(
     let mut here = OpenList::new(stream);
     for visit in visits {
         here = closed_to(&mut outer, here, visit.depth)?;
-        here.keep_before(visit.index)?;
-        let Some((tree, after)) = here.next() else {
-            continue;
+        here.keep_before(visit.index);
+        let Some((tree, after)) = visited_tree(&here, outer.len(), visit) else {
+            return close_all(outer, here);
         };
         if let TokenTree::Group(group) = tree {
             outer.push_fallibly(here)?;
@@ -50,24 +53,60 @@ pub fn join_marks(
             join_next(&mut here, tree, after)?;
         }
     }
-    let mut here = closed_to(&mut outer, here, 0)?;
-    here.keep_rest()?;
-    here.finish()
+    close_all(outer, here)
 }
 
-/// Joins the first tree that is left of the list, if it is a mark that may be joined.
+/// Returns the first tree that is left of the list, and the trees after it, if it is visited. The list is in this
+/// number of groups.
+fn visited_tree<'a>(
+    list: &OpenList<'a>,
+    depth: usize,
+    visit: &Visit,
+) -> Option<(&'a TokenTree, &'a [TokenTree])>
+{
+    if visit.depth != depth || visit.index != list.count() {
+        return None;
+    }
+    list.next()
+}
+
+/// Joins the first tree that is left of the list, if it is a mark that may be joined. It must not be a group.
 fn join_next(
     list: &mut OpenList<'_>,
     tree: &TokenTree,
     after: &[TokenTree],
 ) -> Result<(), AllocError>
 {
-    match tree {
-        TokenTree::Punct(mark) if may_join(mark.as_char(), after) => {
-            list.replace(TokenTree::Punct(mark_as(mark, Spacing::Joint)))
+    if let TokenTree::Punct(mark) = tree {
+        let spacing = joined_spacing(mark, after);
+        if spacing != mark.spacing() {
+            return list.replace(TokenTree::Punct(mark_as(mark, spacing)));
         }
-        _ => Ok(()),
     }
+    list.keep();
+    Ok(())
+}
+
+/// Returns the spacing of the joined mark before these trees: Joint if it was or may be joined.
+fn joined_spacing(mark: &Punct, after: &[TokenTree]) -> Spacing
+{
+    if mark.spacing() == Spacing::Joint || may_join(mark.as_char(), after) {
+        Spacing::Joint
+    } else {
+        Spacing::Alone
+    }
+}
+
+/// Closes all lists that are open. All trees that are left are kept.
+fn close_all<'a>(
+    outer: Vec<OpenList<'a>>,
+    innermost: OpenList<'a>,
+) -> Result<TokenStream, AllocError>
+{
+    let mut outer = outer;
+    let mut here = closed_to(&mut outer, innermost, 0)?;
+    here.keep_rest();
+    here.finish()
 }
 
 /// Closes the innermost open lists until this number of lists is open around the innermost one. All trees that are left
@@ -80,7 +119,7 @@ fn closed_to<'a>(
 {
     let mut here = innermost;
     while let Some(mut around) = pop_above(outer, depth) {
-        here.keep_rest()?;
+        here.keep_rest();
         around.close(here)?;
         here = around;
     }

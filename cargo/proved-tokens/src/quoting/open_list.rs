@@ -18,8 +18,8 @@ pub(crate) struct OpenList<'a> {
     trees: &'a [TokenTree],
     // The number of trees that are done.
     done: usize,
-    // The done trees, if one of them was changed.
-    changed: Option<StreamBuilder>,
+    // The done trees up to the last one that was changed, and their number.
+    changed: Option<(StreamBuilder, usize)>,
 }
 
 impl<'a> OpenList<'a> {
@@ -32,6 +32,12 @@ impl<'a> OpenList<'a> {
             done: 0,
             changed: None,
         }
+    }
+
+    /// Returns the number of trees that are done.
+    pub(crate) fn count(&self) -> usize
+    {
+        self.done
     }
 
     /// Returns the first tree that is left, and the trees after it.
@@ -50,64 +56,43 @@ impl<'a> OpenList<'a> {
         let TokenTree::Group(group) = tree else {
             return Ok(());
         };
-        let OpenList { changed, .. } = inner;
-        match changed {
-            None => self.keep(tree),
-            Some(changed) => {
-                let contents = changed.finish()?;
-                self.replace(TokenTree::Group(with_contents(group, contents)))
-            }
+        if inner.changed.is_none() {
+            self.keep();
+            return Ok(());
         }
+        let contents = inner.finish()?;
+        self.replace(TokenTree::Group(with_contents(group, contents)))
     }
 
     /// Keeps the first tree that is left without a change.
-    pub(crate) fn keep(&mut self, tree: &TokenTree) -> Result<(), AllocError>
+    pub(crate) fn keep(&mut self)
     {
-        if let Some(changed) = &mut self.changed {
-            changed.put_copy(tree, 0)?;
-        }
         self.done += 1;
-        Ok(())
     }
 
     /// Keeps the trees that are left before this index of the list without a change.
-    pub(crate) fn keep_before(&mut self, index: usize) -> Result<(), AllocError>
+    pub(crate) fn keep_before(&mut self, index: usize)
     {
-        while let Some(tree) = self.next_before(index) {
-            self.keep(tree)?;
-        }
-        Ok(())
-    }
-
-    /// Returns the first tree that is left, if it is before this index of the list.
-    fn next_before(&self, index: usize) -> Option<&'a TokenTree>
-    {
-        if self.done < index {
-            self.trees[self.done..].first()
-        } else {
-            None
-        }
+        self.done = self.done.max(index.min(self.trees.len()));
     }
 
     /// Keeps all trees that are left without a change.
-    pub(crate) fn keep_rest(&mut self) -> Result<(), AllocError>
+    pub(crate) fn keep_rest(&mut self)
     {
-        while let Some((tree, _)) = self.next() {
-            self.keep(tree)?;
-        }
-        Ok(())
+        self.done = self.trees.len();
     }
 
-    /// Replaces the first tree that is left. The first call copies the trees that are done.
+    /// Replaces the first tree that is left. The trees before it that are not copied yet are copied.
     pub(crate) fn replace(&mut self, tree: TokenTree) -> Result<(), AllocError>
     {
-        let mut changed = match self.changed.take() {
+        let (mut changed, count) = match self.changed.take() {
             Some(changed) => changed,
-            None => copy_trees(&self.trees[..self.done], self.trees.len())?,
+            None => (StreamBuilder::new(), 0),
         };
+        changed.copy(&self.trees[..self.done][count..], self.trees.len())?;
         changed.put(tree, 0)?;
-        self.changed = Some(changed);
         self.done += 1;
+        self.changed = Some((changed, self.done));
         Ok(())
     }
 
@@ -116,22 +101,16 @@ impl<'a> OpenList<'a> {
     {
         let OpenList {
             stream,
+            trees,
+            done,
             changed,
-            ..
         } = self;
         match changed {
-            Some(changed) => changed.finish(),
+            Some((mut changed, count)) => {
+                changed.copy(&trees[..done][count..], 0)?;
+                changed.finish()
+            }
             None => stream.try_clone(),
         }
     }
-}
-
-/// Returns a builder with copies of the trees. A copy of a group shares its contents. About `count` trees are expected.
-fn copy_trees(trees: &[TokenTree], count: usize) -> Result<StreamBuilder, AllocError>
-{
-    let mut builder = StreamBuilder::new();
-    for tree in trees {
-        builder.put_copy(tree, count)?;
-    }
-    Ok(builder)
 }

@@ -1,6 +1,8 @@
-use Rattle.quoting.proofs.JoinLemmas.{keeps_more}
+use Rattle.quoting.proofs.JoinLemmas.{keeps_all}
 use Rattle.quoting.proofs.open_list.OpenList.keep_rest.Goals as goal
 
-pub loop-tree-preserved : goal.loop-tree-preserved
-loop-tree-preserved c =
-    keeps_more _ _ _ _ _ c.in-Some.ensures c.in_ok-keep.ensures c.loop-tree.invariant
+pub returns-clause-kept : goal.returns-clause-kept
+returns-clause-kept c =
+    let inside = c.self.inside in
+    keeps_all inside.stream.now inside.changed inside.done inside.trees.now c.args.self.now c.self.view_is
+    c.self.invariant.0 c.self.invariant.1
