@@ -93,10 +93,6 @@ fn lay_out(stream: &TokenStream) -> Result<String, LayoutError>
 {
     laws::joining();
     let mut chosen = Printer::new(stream)?.choose()?;
-    if chosen.visits().is_empty() {
-        let text = text_with(stream, &mut chosen)?;
-        return Ok(text);
-    }
     let joined = join_marks(stream, chosen.visits())?;
     let text = text_with(&joined, &mut chosen)?;
     Ok(text)

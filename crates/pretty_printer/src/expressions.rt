@@ -28,11 +28,7 @@ impl Tree {
         self.reader.chain = NOWHERE;
         // A label, or the name of a field, is before what is read.
         let named = self.next(first).role == Role::Colon;
-        let mut at = if named {
-            first.saturating_add(2)
-        } else {
-            first
-        };
+        let mut at = first.saturating_add(if named { 2 } else { 0 });
         for _ in first..end {
             if at >= end {
                 break;
@@ -153,12 +149,6 @@ impl Tree {
                 return self.take_dot(index);
             }
             Kind::Sign(_) if own.role == Role::BarClose => return self.attach(ASSIGN, index),
-            Kind::Sign(_) if own.role == Role::BarOpen && previous.role == Role::Greater => {
-                // The lifetimes of a closure are before it.
-                let first = self.node(self.reader.operand).first;
-                self.reader.operand = NOWHERE;
-                return self.open(Form::Closure, first, WEAKEST);
-            }
             _ if strength > WEAKEST => return self.take_operator(index, strength),
             _ => {}
         }

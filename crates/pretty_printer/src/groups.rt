@@ -10,7 +10,7 @@ const SHORT: usize = 10;
 impl Tree {
     /// Lays out a group that is not on one line. The gap before it is written.
     pub fn lay_group(&mut self, task: &Task) {
-        self.read_short(task.node);
+        self.read_parts(task.node);
         let own = *self.node(task.node);
         let atom = *self.atom(own.first);
         let doc = atom.role == Role::Attribute && own.until.saturating_sub(own.from) == 3;
@@ -40,7 +40,7 @@ impl Tree {
 
     /// Begins to write a group, which is in the node of the task, with its parts on lines.
     pub fn lay_lines(&mut self, task: &Task, group: usize) {
-        self.read_short(group);
+        self.read_parts(group);
         let own = *self.node(group);
         if own.child == NOWHERE {
             return self.put(own.first, own.end);
@@ -178,7 +178,7 @@ impl Tree {
         }
         self.put(child.first, child.from);
         self.leave(LayStep::Apart, task, child);
-        self.read_short(task.child);
+        self.read_parts(task.child);
         self.push_parts(LayStep::Part, task, task.child);
     }
 

@@ -93,10 +93,6 @@ fn lay_out(alloc: Global, stream: &TokenStream) -> Result<String, LayoutError>
 {
     laws::joining();
     let mut chosen = Printer::new(alloc, stream)?.choose()?;
-    if chosen.visits().is_empty() {
-        let text = text_with(stream, &mut chosen, alloc)?;
-        return Ok(text);
-    }
     let joined = join_marks(alloc, stream, chosen.visits())?;
     let text = text_with(&joined, &mut chosen, alloc)?;
     Ok(text)

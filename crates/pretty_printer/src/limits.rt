@@ -43,7 +43,6 @@ impl Tree {
     fn head_of(&self, own: &Node, last: &Node) -> usize {
         let opener = match own.form {
             Form::Control => self.node(own.from),
-            Form::Operators => self.node(own.child),
             _ => last,
         };
         let first = self.atom(last.first);
@@ -56,7 +55,6 @@ impl Tree {
         let head = match own.form {
             Form::Leaf | Form::Plain | Form::Chain => last.head,
             Form::Closure if block => last.head,
-            Form::Operators if self.atom(opener.end).is_word(Lexeme::As) => opener.head,
             Form::Control if opener.form == Form::Group => 1,
             _ => NO_HEAD,
         };

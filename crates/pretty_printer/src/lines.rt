@@ -52,8 +52,8 @@ impl Tree {
         self.is_shut = false;
         self.tasks.clear();
         self.lay(node, 0, 1);
-        // Each child has at most one task for each step, so this ends long before.
-        for _ in 0..usize::MAX {
+        // An atom begins at most eight nodes, and a node has at most four tasks. A task that is left keeps its gaps.
+        for _ in 0..self.atoms.len().saturating_mul(32) {
             match self.tasks.pop() {
                 Some(task) => self.take_task(&task),
                 None => break,
@@ -75,7 +75,8 @@ impl Tree {
             indent,
             tail,
         };
-        self.push(LayStep::Lay, &task, NOWHERE, NOWHERE);
+        let pushed = self.tasks.push(task);
+        self.check(pushed);
     }
 
     /// Leaves the children of a task's node from `child` on to this step.

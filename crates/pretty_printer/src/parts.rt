@@ -25,17 +25,12 @@ impl Tree {
         }
     }
 
-    /// Reads the parts of a group, which is placed.
+    /// Reads the parts of a group, which is placed, unless they are read already.
     pub fn read_parts(&mut self, group: usize) {
         let own = *self.node(group);
-        let block = self.atom(own.first).is_brace();
-        self.add_parts(group, own.from, own.until, block, true);
-    }
-
-    /// Reads the parts of a group, unless they are read already.
-    pub fn read_short(&mut self, group: usize) {
-        if self.node(group).child == NOWHERE {
-            self.read_parts(group);
+        if own.child == NOWHERE {
+            let block = self.atom(own.first).is_brace();
+            self.add_parts(group, own.from, own.until, block, true);
         }
     }
 
@@ -100,7 +95,6 @@ impl Tree {
         let impls = self.atom(at).is_word(Lexeme::Impl);
         let last = *self.previous(end);
         let stop = end.saturating_sub(last.is_brace() as usize);
-        let head = self.find_role(at, stop, Role::Where);
         let mut from = at.saturating_add(2).saturating_sub(impls as usize);
         if self.atom(from).role == Role::Less {
             let past = self.atom(from).node.saturating_add(1);
@@ -108,6 +102,7 @@ impl Tree {
             self.append(node, generics);
             from = past;
         }
+        let head = self.find_role(from, stop, Role::Where);
         if self.atom(from).is_round() {
             self.append(node, self.atom(from).node);
             from = from.saturating_add(1);

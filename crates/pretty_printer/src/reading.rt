@@ -1,6 +1,7 @@
 //! Reads the trees of a list as atoms.
 use crate::atoms::{Atom, Kind, Lexeme, NOTHING, Role, Sign, word_of};
 use crate::tree::{Form, Tree};
+use pm_span::parts::char_count;
 use pm_token::parts::{is_raw, name_of};
 use proc_macro2::{Ident, Punct, Spacing, TokenTree};
 use std::alloc::AllocError;
@@ -93,15 +94,6 @@ fn literal_atom(text: &str) -> Atom {
     let mut atom = Atom::new(Kind::Lexeme(word), char_count(line));
     atom.tall = tall;
     atom
-}
-
-/// Returns the number of characters of a text.
-fn char_count(text: &str) -> usize {
-    // Most texts are ASCII, where each byte is a character.
-    match text.is_ascii() {
-        true => text.len(),
-        false => text.chars().count(),
-    }
 }
 
 /// Returns the atom of the lifetime or the operator that begins with this mark before these trees.

@@ -12,16 +12,11 @@ pub fn pair_angles(tree: &mut Tree, index: usize, end: usize) {
             let pushed = tree.angles.push(later);
             tree.check(pushed);
         } else if next.is_mark('>') {
-            if let Some(matched) = tree.angles.pop() {
-                if let Some(less) = tree.atoms.get_mut(matched) {
-                    less.role = Role::Less;
-                    less.node = later;
-                }
-                if let Some(greater) = tree.atoms.get_mut(later) {
-                    greater.node = matched;
-                }
+            let less = tree.angles.pop();
+            tree.set_role(later, Role::Greater, less.unwrap_or(0));
+            if let Some(less) = less {
+                tree.set_role(less, Role::Less, later);
             }
-            tree.set_role(later, Role::Greater);
         } else if ends_types(next, tree.previous(later)) {
             break;
         }
@@ -31,7 +26,7 @@ pub fn pair_angles(tree: &mut Tree, index: usize, end: usize) {
     }
     for _ in 0..tree.angles.len() {
         if let Some(unmatched) = tree.angles.pop() {
-            tree.set_role(unmatched, Role::Between);
+            tree.set_role(unmatched, Role::Between, 0);
         }
     }
 }

@@ -181,35 +181,18 @@ impl Atom {
         }
     }
 
-    /// Whether it begins with a mark.
-    pub fn has_marks(&self) -> bool {
-        self.is_sign() || self.is_word(Lexeme::Lifetime)
-    }
-
-    /// The first mark of an operator or a lifetime. Of an operator that may begin with several marks: `=`.
-    pub fn first_mark(&self) -> char {
+    /// The first and the last mark of an operator or a lifetime. Of an operator that may have others there: `=` or `.`.
+    pub fn marks(&self) -> (char, char) {
         match self.kind {
-            Kind::Sign(Sign::One(mark)) => mark,
-            Kind::Sign(Sign::Path) => ':',
-            Kind::Sign(Sign::Arrow) => '-',
-            Kind::Sign(Sign::And) => '&',
-            Kind::Sign(Sign::Or) => '|',
-            Kind::Sign(Sign::Range) => '.',
-            Kind::Sign(_) => '=',
-            _ => '\'',
-        }
-    }
-
-    /// The last mark of an operator. Of a range: `.`.
-    pub fn last_mark(&self) -> char {
-        match self.kind {
-            Kind::Sign(Sign::One(mark)) => mark,
-            Kind::Sign(Sign::Path) => ':',
-            Kind::Sign(Sign::Arrow | Sign::Arm) => '>',
-            Kind::Sign(Sign::And) => '&',
-            Kind::Sign(Sign::Or) => '|',
-            Kind::Sign(Sign::Range) => '.',
-            _ => '=',
+            Kind::Sign(Sign::One(mark)) => (mark, mark),
+            Kind::Sign(Sign::Path) => (':', ':'),
+            Kind::Sign(Sign::Arrow) => ('-', '>'),
+            Kind::Sign(Sign::Arm) => ('=', '>'),
+            Kind::Sign(Sign::And) => ('&', '&'),
+            Kind::Sign(Sign::Or) => ('|', '|'),
+            Kind::Sign(Sign::Range) => ('.', '.'),
+            Kind::Sign(_) => ('=', '='),
+            _ => ('\'', '='),
         }
     }
 

@@ -87,7 +87,8 @@ impl<'a> Printer<'a> {
         let mut here = self.here;
         let mut before = tree.previous(here.at);
         for own in tree.atoms.get(here.at..here.end).unwrap_or(&[]) {
-            let touches = own.has_marks() && before.is_sign() && !before.glued;
+            let marks = own.is_sign() || own.is_word(Lexeme::Lifetime);
+            let touches = marks && before.is_sign() && !before.glued;
             if touches && matches!(own.gap, Gap::Nothing) && may_touch(tree, here.at) {
                 self.chosen.want(&self.outer, &here)?;
             }
@@ -181,7 +182,7 @@ impl<'a> Printer<'a> {
 /// inner doc attribute stay Alone, as they are read from `//!`.
 fn may_touch(tree: &Tree, index: usize) -> bool {
     let before = tree.previous(index);
-    if begins_operator(before.last_mark(), tree.atom(index).first_mark()) {
+    if begins_operator(before.marks().1, tree.atom(index).marks().0) {
         return false;
     }
     let list = tree.next(index);

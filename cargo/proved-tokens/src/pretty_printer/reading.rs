@@ -5,6 +5,7 @@ use crate::shim::prelude::Grow;
 
 use crate::pretty_printer::atoms::{Atom, Kind, Lexeme, NOTHING, Role, Sign, word_of};
 use crate::pretty_printer::tree::{Form, Tree};
+use crate::pm_span::parts::char_count;
 use crate::pm_token::parts::{is_raw, name_of};
 use crate::proc_macro2::{Ident, Punct, Spacing, TokenTree};
 use crate::shim::alloc::AllocError;
@@ -97,15 +98,6 @@ fn literal_atom(text: &str) -> Atom {
     let mut atom = Atom::new(Kind::Lexeme(word), char_count(line));
     atom.tall = tall;
     atom
-}
-
-/// Returns the number of characters of a text.
-fn char_count(text: &str) -> usize {
-    // Most texts are ASCII, where each byte is a character.
-    match text.is_ascii() {
-        true => text.len(),
-        false => text.chars().count(),
-    }
 }
 
 /// Returns the atom of the lifetime or the operator that begins with this mark before these trees.

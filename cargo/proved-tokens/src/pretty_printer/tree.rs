@@ -194,10 +194,11 @@ impl Tree {
         }
     }
 
-    /// Sets the role of an atom.
-    pub fn set_role(&mut self, index: usize, role: Role) {
+    /// Sets the role of an angle, and the index of the angle that it is paired with, or 0.
+    pub fn set_role(&mut self, index: usize, role: Role, paired: usize) {
         if let Some(atom) = self.atoms.get_mut(index) {
             atom.role = role;
+            atom.node = paired;
         }
     }
 
