@@ -331,6 +331,9 @@
 //!
 //! # Words of `item_headers`
 //!
+//! - <a id="item_headers.Laws.BoundedClauseReads"></a>**BoundedClauseReads**: the item's where clause with a
+//!   bound on each type parameter is read before a body, if the trees of the bound are bounds
+//! - <a id="item_headers.Laws.ClauseReads"></a>**ClauseReads**: the item's where clause is read before a body
 //! - <a id="item_headers.Fault.HasNoParams"></a>**HasNoParams**: whether the trees are not the generic
 //!   parameters of an item
 //! - <a id="item_headers.Fault.HasNoPredicates"></a>**HasNoPredicates**: whether the trees are not the where
@@ -341,6 +344,12 @@
 //!   brackets
 //! - <a id="item_headers.Header.HasPredicates"></a>**HasPredicates**: whether the predicates are all that are
 //!   in the where clause
+//! - <a id="item_headers.Laws.HeaderReads"></a>**HeaderReads**: the header of an item and then a body in braces
+//!   are an `impl` of the trait for the item's type, with the item's parameters without defaults and with its
+//!   predicates. The item's trees are those of a stream
+//! - <a id="item_headers.Laws.HeaderWithClauseReads"></a>**HeaderWithClauseReads**: the header with this where
+//!   clause and then a body in braces are an `impl` of the trait for the item's type, with the item's
+//!   parameters without defaults. The item's trees are those of a stream
 //! - <a id="item_headers.Fault.IfFault"></a>**IfFault**: if the error is `Fault`, the statement holds
 //! - <a id="item_headers.Header.bounds_on_types"></a>**bounds_on_types**: `T: bound` for each parameter that is
 //!   a type
@@ -895,8 +904,6 @@
 //!   spacings makes the stream well spaced
 //! - <a id="quoting.Fault.IsFaultOf"></a>**IsFaultOf**: the error is the `first-fault` of the stream, unless it
 //!   is `Memory`
-//! - <a id="quoting.Joined.IsJoined"></a>**IsJoined**: some marks of the stream are joined, and nothing else is
-//!   changed
 //! - <a id="quoting.TextFault.IsTextFault"></a>**IsTextFault**: the error is that of the template, or the
 //!   syntax error of its text. After `Memory` the text parses; after `Parse(Memory)` nothing is known
 //! - <a id="quoting.Choice.KeepsAllItMay"></a>**KeepsAllItMay**: if some well spaced choice of spacings keeps
@@ -925,12 +932,17 @@
 //!   the errors of the names come first, and then those of its turns in order
 //! - <a id="quoting.Fault.first_fault"></a>**first_fault**: `first-fault`: the first error of the stream in
 //!   reading order that no choice of spacings repairs
+//! - <a id="quoting.Joined.joined"></a>**joined**: `joined`: the same trees with the same spans, in which each
+//!   mark that is wanted and may be joined is Joint. `wants` has an answer for each mark in reading order
 //! - <a id="quoting.Given.name_and_filling"></a>**name_and_filling**: the hole's name and its filling
 //! - <a id="quoting.Given.named_all"></a>**named_all**: the names and the fillings of the holes
 //! - <a id="quoting.Respaced.respace_marks"></a>**respace_marks**: `respaced`: the same trees with the same
 //!   spans at any depth, in which each mark is respaced
 //! - <a id="quoting.Message.template_span"></a>**template_span**: the span of the error, if it has one
 //! - <a id="quoting.Values.value_of"></a>**value_of**: the filling that a value stands for
+//! - <a id="quoting.Visited.visited_marks"></a>**visited_marks**: `visited-marks`: for each mark of the trees,
+//!   at any depth and in reading order, whether it is visited. A visit counts once its tree comes. The visits
+//!   after it wait for it
 //!
 //! # Words of `relayout`
 //!

@@ -13,6 +13,7 @@
 mod clauses;
 mod errors;
 mod header;
+pub mod laws;
 mod lists;
 mod params;
 

@@ -1,6 +1,7 @@
 -- The parts of an `impl` in trees.
 use Rattle.std.proofs.Common.{◌≡◌, refl, sym, ◌∙◌, ap, subst, ℕ, ◌-◌, Bool, true, false, ◌&&◌, ◌||◌, List, [], ◌∷◌}
 use Rattle.std.proofs.Common.{◌++◌, Option, None, inl, inr, length, arith}
+use Rattle.std.proofs.lemmas.Bool.{both_ways}
 use Rattle.std.specs.Prelude.{MatchResult, Result, Ok, Err}
 use Rattle.std.specs.Borrow.{Bor}
 use Rattle.grammars.specs.Deterministic.{IsStart}
@@ -16,6 +17,7 @@ use Rattle.declarations.specs.Found.{TurnsTo, bare, finds}
 use Rattle.declarations.specs.Impl.{HasBraces, HasFront, HasGenerics, HasHeader, HasImplParts, HasTarget, HasTrait}
 use Rattle.declarations.specs.Impl.{HasTypes, IsImpl, begins_generics, begins_parameter, ends_parameter}
 use Rattle.declarations.specs.Impl.{for_type, goes_on_parameter, has_generics, may_const, may_for, target_types}
+use Rattle.declarations.specs.Param.{HasNo}
 use Rattle.declarations.specs.Reader.{Finds, Sticks, classes_in}
 use Rattle.declarations.specs.Reading.{FaultAt, Reads}
 use Rattle.declarations.specs.Signs.{BeginsWith, group_class}
@@ -440,6 +442,15 @@ ReadsTarget trees result =
 abbrev with_end : G
 with_end = Then target_types where_and_body
 
+-- trees that begin with another sign do not begin with `!`
+no_other : (trees rest : List TokenTree) (class : SignClass) (b : Bool) → BeginsWith trees class rest
+    → b ≡ is signs.Exclamation class → b ≡ false
+    → HasNo signs.Exclamation trees
+no_other trees rest class b at e h = λ other there.
+    both_ways _ (sym e ∙ h)
+    (sym (heads_sign (one signs.Exclamation) trees rest class at)
+    ∙ heads_sign (one signs.Exclamation) trees other signs.Exclamation there)
+
 pub positive_reads : (trees rest : List TokenTree) (class : SignClass) (b : Bool) (negation : List TokenTree)
     (result : Result (Targeted × Bor (List TokenTree)) (Bor (List TokenTree))) → BeginsWith trees class rest
     → b ≡ is signs.Exclamation class → b ≡ false → negation ≡ [] → ReadsTypes trees negation result
@@ -457,7 +468,7 @@ positive_reads trees rest class b negation result at e h none r = go result r
         → ReadsTarget trees result
     go (Ok found) r = (
       turns_on const_target target_types where_and_body trees trees found.1.now turns r.0,
-      inl (record { no_not = r.2 ∙ none; types = r.1 }),
+      inl (record { no_not = r.2 ∙ none; types = r.1; positive = no_other trees rest class b at e h }),
     )
     go (Err left) r = turns_stick const_target target_types where_and_body trees trees left.now turns r
 

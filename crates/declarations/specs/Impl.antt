@@ -6,6 +6,7 @@ use Rattle.pm_token.specs.declared.delimiters.Delimiter.TheVariants as delimiter
 use Rattle.pm_stream.specs.declared.stream.Group.{Group as Grouped}
 use Rattle.pm_stream.specs.declared.stream.TokenTree.{TokenTree}
 use Rattle.pm_stream.specs.declared.stream.TokenTree.TheVariants.{Group}
+use Rattle.declarations.specs.Param.{HasNo}
 use Rattle.declarations.specs.Reader.{classes_in}
 use Rattle.declarations.specs.Reading.{Reads}
 use Rattle.declarations.specs.Signs.{BeginsWith}
@@ -105,6 +106,7 @@ pub record IsPositive (trees negation : List TokenTree) (name : Option (Bor (Lis
     (self_type rest : List TokenTree) : Type 0 where
   pub no_not : negation ≡ []
   pub types : HasTypes name trees self_type rest
+  pub positive : HasNo classes.Exclamation trees
 
 -- the trees begin with this trait and this type, perhaps with a `!` before them
 abbrev pub HasTarget : List TokenTree → List TokenTree → Option (Bor (List TokenTree)) → List TokenTree

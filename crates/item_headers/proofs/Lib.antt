@@ -1,3 +1,14 @@
 pub mod ListLemmas
 pub mod HeaderLemmas
 pub mod FaultLemmas
+pub mod SeamLemmas
+pub mod CalmLemmas
+pub mod DerivedLemmas
+pub mod ParamReadingLemmas
+pub mod SelfTypeLemmas
+pub mod HeaderPartLemmas
+pub mod WrittenLemmas
+pub mod ImplReadingLemmas
+pub mod OnlyImplLemmas
+pub mod BoundedClauseLemmas
+pub mod LawLemmas

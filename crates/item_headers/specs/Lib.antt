@@ -2,3 +2,4 @@ pub mod Lists
 pub mod Header
 pub mod Fault
 pub mod Message
+pub mod Laws
