@@ -1,8 +1,8 @@
 // The item that each text begins with.
+use crate::checks::{check_answer, parsed, release};
 use declarations::{ItemKind, split_any_item};
-use proc_macro2::{Ident, SourceMap, TokenStream};
+use proc_macro2::{Ident, TokenTree};
 use std::process::Abort;
-use std::test::Fail;
 
 fn is_named(name: Option<&Ident>, wanted: &str) -> bool {
     match name {
@@ -11,27 +11,35 @@ fn is_named(name: Option<&Ident>, wanted: &str) -> bool {
     }
 }
 
+/// The number of trees and the kind of the item that the trees begin with, and whether it has this name.
+fn item_of(trees: &[TokenTree], name: &str) -> Option<(usize, ItemKind, bool)> {
+    match split_any_item(trees) {
+        Ok((item, _)) => Some((item.trees.len(), item.kind, is_named(item.name, name))),
+        Err(_) => None,
+    }
+}
+
+/// Checks the item that the text begins with.
+fn check_item(
+    rt: &(impl Abort + AllocGlobal),
+    (text, trees, kind, name): (&str, usize, ItemKind, &str),
+) {
+    let stream = parsed(rt, text);
+    let found = item_of(stream.trees(), name);
+    release(stream);
+    check_answer(rt, text, &found, &Some((trees, kind, true)));
+}
+
 /// Checks the number of trees, the kind and the name of the item that each text begins with. No name is written as
 /// `""`.
-fn check(
-    rt: &(impl Abort + AllocGlobal),
-    rows: &[(&str, usize, ItemKind, &str)],
-) -> Result<(), Fail> {
-    for (text, trees, kind, name) in rows {
-        let stream = TokenStream::from_str(text, &mut SourceMap::new(rt.alloc()))?;
-        let as_wanted = match split_any_item(stream.trees()) {
-            Ok((item, _)) => {
-                item.trees.len() == *trees && item.kind == *kind && is_named(item.name, name)
-            }
-            Err(_) => false,
-        };
-        assert!(rt; as_wanted, "{text:?}");
+fn check(rt: &(impl Abort + AllocGlobal), rows: &[(&str, usize, ItemKind, &str)]) {
+    for &row in rows {
+        check_item(rt, row);
     }
-    Ok(())
 }
 
 #[test]
-fn an_item_has_a_kind_and_a_name(rt: HostRuntime) -> Result<(), Fail> {
+fn an_item_has_a_kind_and_a_name(rt: HostRuntime) {
     check(
         &rt,
         &[
@@ -85,11 +93,11 @@ fn an_item_has_a_kind_and_a_name(rt: HostRuntime) -> Result<(), Fail> {
             ("#[a] struct S(u8);", 6, ItemKind::Struct, "S"),
             ("enum E {}", 3, ItemKind::Enum, "E"),
         ],
-    )
+    );
 }
 
 #[test]
-fn gen_is_a_qualifier_of_functions(rt: HostRuntime) -> Result<(), Fail> {
+fn gen_is_a_qualifier_of_functions(rt: HostRuntime) {
     check(
         &rt,
         &[
@@ -117,11 +125,11 @@ fn gen_is_a_qualifier_of_functions(rt: HostRuntime) -> Result<(), Fail> {
             ),
             ("gen fn gen() {}", 5, ItemKind::Function, "gen"),
         ],
-    )
+    );
 }
 
 #[test]
-fn gen_is_a_name_where_no_function_follows(rt: HostRuntime) -> Result<(), Fail> {
+fn gen_is_a_name_where_no_function_follows(rt: HostRuntime) {
     check(
         &rt,
         &[
@@ -145,5 +153,5 @@ fn gen_is_a_name_where_no_function_follows(rt: HostRuntime) -> Result<(), Fail> 
             ("use gen::gen as gen;", 8, ItemKind::Use, ""),
             ("extern crate gen;", 4, ItemKind::ExternCrate, "gen"),
         ],
-    )
+    );
 }

@@ -1,8 +1,8 @@
 // Attributes, and the trees in their brackets.
-use declarations::{AttributeArgs, Attributes};
-use proc_macro2::{Delimiter, Group, SourceMap, TokenStream, TokenTree};
+use crate::checks::{check_answer, check_held, in_group, in_groups, parsed, release};
+use declarations::{Attribute, AttributeArgs, Attributes};
+use proc_macro2::{Delimiter, TokenStream};
 use std::process::Abort;
-use std::test::Fail;
 
 /// What comes after a path, with its number of trees.
 #[derive(Clone, Copy, Debug, PartialEq, Eq)]
@@ -22,34 +22,40 @@ fn parts_of(args: AttributeArgs<'_>) -> Args {
     }
 }
 
-/// Checks the attributes of the text: the trees of the path, what comes after it, and whether it is inner or a doc
-/// comment. `left` is the number of trees after them.
-fn check(
-    rt: &(impl Abort + AllocGlobal),
-    text: &str,
-    rows: &[(usize, Args, bool, bool)],
-    left: usize,
-) -> Result<(), Fail> {
-    let stream = TokenStream::from_str(text, &mut SourceMap::new(rt.alloc()))?;
-    let mut attributes = Attributes::new(stream.trees());
-    for (path, args, inner, doc) in rows {
-        match attributes.next() {
-            Some(attribute) => {
-                assert_eq!(rt; attribute.path().len(), *path, "{text:?}");
-                assert_eq!(rt; parts_of(attribute.args()), *args, "{text:?}");
-                assert_eq!(rt; attribute.is_inner(), *inner, "{text:?}");
-                assert_eq!(rt; attribute.doc().is_some(), *doc, "{text:?}");
-            }
-            None => assert!(rt; false, "{text:?}"),
-        }
+/// What is checked of an attribute: the trees of its path, what comes after it, and whether it is inner or a doc
+/// comment.
+type Row = (usize, Args, bool, bool);
+
+fn row_of(attribute: Attribute<'_>) -> Row {
+    (
+        attribute.path().len(),
+        parts_of(attribute.args()),
+        attribute.is_inner(),
+        attribute.doc().is_some(),
+    )
+}
+
+fn next_row(attributes: &mut Attributes<'_>) -> Option<Row> {
+    match attributes.next() {
+        Some(attribute) => Some(row_of(attribute)),
+        None => None,
     }
-    assert!(rt; attributes.next().is_none(), "{text:?}");
-    assert_eq!(rt; attributes.left.len(), left, "{text:?}");
-    Ok(())
+}
+
+/// Checks the attributes of the text. `left` is the number of trees after them.
+fn check(rt: &(impl Abort + AllocGlobal), text: &str, rows: &[Row], left: usize) {
+    let stream = parsed(rt, text);
+    let mut attributes = Attributes::new(stream.trees());
+    for &row in rows {
+        check_answer(rt, text, &next_row(&mut attributes), &Some(row));
+    }
+    check_answer(rt, text, &next_row(&mut attributes), &None);
+    check_answer(rt, text, &attributes.left.len(), &left);
+    release(stream);
 }
 
 #[test]
-fn an_attribute_has_a_path_and_arguments(rt: HostRuntime) -> Result<(), Fail> {
+fn an_attribute_has_a_path_and_arguments(rt: HostRuntime) {
     check(
         &rt,
         "#[test] #[a::b(c, d)] #[e = f + 1] /// g\n #[h {}] pub x",
@@ -61,7 +67,7 @@ fn an_attribute_has_a_path_and_arguments(rt: HostRuntime) -> Result<(), Fail> {
             (1, Args::Group(0), false, false),
         ],
         2,
-    )?;
+    );
     check(
         &rt,
         "#![a] //! b\n #[] #[= c] #[(d) e] # (f)",
@@ -73,68 +79,74 @@ fn an_attribute_has_a_path_and_arguments(rt: HostRuntime) -> Result<(), Fail> {
             (0, Args::Other(1), false, false),
         ],
         2,
-    )?;
-    check(&rt, "", &[], 0)?;
-    check(&rt, "#", &[], 1)?;
-    check(&rt, "#!", &[], 2)
+    );
+    check(&rt, "", &[], 0);
+    check(&rt, "#", &[], 1);
+    check(&rt, "#!", &[], 2);
 }
 
-#[test]
-fn a_word_is_a_whole_path(rt: HostRuntime) -> Result<(), Fail> {
-    let text = "#[getter(skip)] #[getter::a] #[r#getter] #[getter]";
-    let stream = TokenStream::from_str(text, &mut SourceMap::new(rt.alloc()))?;
+/// The number of attributes of the text whose path is this word.
+fn count_named(rt: &(impl Abort + AllocGlobal), text: &str, word: &str) -> usize {
+    let stream = parsed(rt, text);
     let mut found = 0_usize;
     for attribute in Attributes::new(stream.trees()) {
-        if attribute.is("getter") {
+        if attribute.is(word) {
             found = found.saturating_add(1);
         }
     }
-    assert_eq!(rt; found, 2);
-    Ok(())
+    release(stream);
+    found
+}
+
+#[test]
+fn a_word_is_a_whole_path(rt: HostRuntime) {
+    let text = "#[getter(skip)] #[getter::a] #[r#getter] #[getter]";
+    check_answer(&rt, text, &count_named(&rt, text, "getter"), &2);
 }
 
 /// The attribute `#[..]` with this text in the brackets. The text is in so many groups without delimiters.
-fn in_groups(
-    rt: &(impl Abort + AllocGlobal),
-    text: &str,
-    groups: usize,
-) -> Result<TokenStream, Fail> {
-    let mut map = SourceMap::new(rt.alloc());
-    let mut inside = TokenStream::from_str(text, &mut map)?;
-    for _ in 0..groups {
-        let group = Group::new(Delimiter::None, inside);
-        inside = TokenStream::from_tree(rt.alloc(), TokenTree::Group(group))?;
-    }
-    let brackets = Group::new(Delimiter::Bracket, inside);
-    let mut stream = TokenStream::from_str("#", &mut map)?;
-    stream.extend_streams([TokenStream::from_tree(rt.alloc(), TokenTree::Group(brackets))?])?;
-    Ok(stream)
+fn attribute_in_groups(rt: &(impl Abort + AllocGlobal), text: &str, groups: usize) -> TokenStream {
+    let inside = in_groups(rt, parsed(rt, text), groups);
+    let brackets = in_group(rt, Delimiter::Bracket, inside);
+    let mut stream = parsed(rt, "#");
+    stream.extend_streams([brackets]).expect(rt, text);
+    stream
 }
 
-// Each row is the text, its number of groups, the trees in the path, what comes after it, whether the path is `doc`,
-// and whether the attribute has the text of a doc comment.
-#[test]
-fn what_a_macro_passes_is_looked_through(rt: HostRuntime) -> Result<(), Fail> {
-    for (text, groups, path, args, doc, comment) in [
-        ("doc", 1, 1, Args::Nothing, true, false),
-        ("doc = \"a\"", 1, 1, Args::Value(1), true, true),
-        ("doc = \"a\"", 5, 1, Args::Value(1), true, true),
-        ("doc = 1 + 2", 2, 1, Args::Value(3), true, false),
-        ("a::doc(b, c)", 1, 4, Args::Group(3), false, false),
-        ("doc(b) c", 2, 1, Args::Other(1), true, false),
-        ("", 1, 0, Args::Nothing, false, false),
-    ] {
-        let stream = in_groups(&rt, text, groups)?;
-        let mut attributes = Attributes::new(stream.trees());
-        match attributes.next() {
-            Some(attribute) => {
-                assert_eq!(rt; attribute.path().len(), path, "{text:?}");
-                assert_eq!(rt; parts_of(attribute.args()), args, "{text:?}");
-                assert_eq!(rt; attribute.is("doc"), doc, "{text:?}");
-                assert_eq!(rt; attribute.doc().is_some(), comment, "{text:?}");
-            }
-            None => assert!(rt; false, "{text:?}"),
-        }
+/// What is checked of an attribute in groups: the trees in the path, what comes after it, whether the path is `doc`,
+/// and whether the attribute has the text of a doc comment.
+fn held_row(mut attributes: Attributes<'_>) -> Option<Row> {
+    match attributes.next() {
+        Some(attribute) => Some((
+            attribute.path().len(),
+            parts_of(attribute.args()),
+            attribute.is("doc"),
+            attribute.doc().is_some(),
+        )),
+        None => None,
     }
-    Ok(())
+}
+
+fn check_in_groups(rt: &(impl Abort + AllocGlobal), text: &str, groups: usize, row: Row) {
+    let stream = attribute_in_groups(rt, text, groups);
+    let found = held_row(Attributes::new(stream.trees()));
+    release(stream);
+    check_held(rt, ("#[", text, groups, "]"), &found, &Some(row));
+}
+
+// Each row is the text, its number of groups, and what is checked of the attribute.
+#[test]
+fn what_a_macro_passes_is_looked_through(rt: HostRuntime) {
+    let rows = &[
+        ("doc", 1, (1, Args::Nothing, true, false)),
+        ("doc = \"a\"", 1, (1, Args::Value(1), true, true)),
+        ("doc = \"a\"", 5, (1, Args::Value(1), true, true)),
+        ("doc = 1 + 2", 2, (1, Args::Value(3), true, false)),
+        ("a::doc(b, c)", 1, (4, Args::Group(3), false, false)),
+        ("doc(b) c", 2, (1, Args::Other(1), true, false)),
+        ("", 1, (0, Args::Nothing, false, false)),
+    ];
+    for &(text, groups, row) in rows {
+        check_in_groups(&rt, text, groups, row);
+    }
 }

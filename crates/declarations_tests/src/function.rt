@@ -1,8 +1,8 @@
 // The parts of functions. The expected numbers of trees are counted in the texts by hand.
+use crate::checks::{HeldText, check_answer, check_held, held_stream, parsed, release};
 use declarations::{Parameters, parse_function};
-use proc_macro2::{Delimiter, Group, SourceMap, TokenStream, TokenTree};
+use proc_macro2::{Group, TokenTree};
 use std::process::Abort;
-use std::test::Fail;
 
 /// What `parse_function` returns.
 #[derive(Clone, Copy, Debug, PartialEq, Eq)]
@@ -62,18 +62,23 @@ fn read(trees: &[TokenTree], name: &str) -> Answer {
     }
 }
 
+// Checks a text that is a function with the name `f`, or that is not.
+fn check_text(rt: &(impl Abort + AllocGlobal), text: &str, wanted: Answer) {
+    let stream = parsed(rt, text);
+    let found = read(stream.trees(), "f");
+    release(stream);
+    check_answer(rt, text, &found, &wanted);
+}
+
 // Checks texts that are functions with the name `f`, and texts that are not.
-fn check(rt: &(impl Abort + AllocGlobal), rows: &[(&str, Answer)]) -> Result<(), Fail> {
-    for (text, wanted) in rows {
-        let stream = TokenStream::from_str(text, &mut SourceMap::new(rt.alloc()))?;
-        let found = read(stream.trees(), "f");
-        assert!(rt; found == *wanted, "{text:?}: {found:?}");
+fn check(rt: &(impl Abort + AllocGlobal), rows: &[(&str, Answer)]) {
+    for &(text, wanted) in rows {
+        check_text(rt, text, wanted);
     }
-    Ok(())
 }
 
 #[test]
-fn qualifiers_come_before_fn_in_order(rt: HostRuntime) -> Result<(), Fail> {
+fn qualifiers_come_before_fn_in_order(rt: HostRuntime) {
     check(
         &rt,
         &[
@@ -112,11 +117,11 @@ fn qualifiers_come_before_fn_in_order(rt: HostRuntime) -> Result<(), Fail> {
                 NoBody(0, 2, 2, 0, 0, 0, 0),
             ),
         ],
-    )
+    );
 }
 
 #[test]
-fn attributes_and_a_visibility_come_first(rt: HostRuntime) -> Result<(), Fail> {
+fn attributes_and_a_visibility_come_first(rt: HostRuntime) {
     check(
         &rt,
         &[
@@ -133,11 +138,11 @@ fn attributes_and_a_visibility_come_first(rt: HostRuntime) -> Result<(), Fail> {
                 Body(2, 1, 2, 0, 0, 0, 0),
             ),
         ],
-    )
+    );
 }
 
 #[test]
-fn generics_and_parameters_follow_the_name(rt: HostRuntime) -> Result<(), Fail> {
+fn generics_and_parameters_follow_the_name(rt: HostRuntime) {
     check(
         &rt,
         &[
@@ -166,11 +171,11 @@ fn generics_and_parameters_follow_the_name(rt: HostRuntime) -> Result<(), Fail> 
             ),
             ("fn f(crate) {}", Body(0, 0, 0, 0, 0, 0, 0)), // its parameters have a fault
         ],
-    )
+    );
 }
 
 #[test]
-fn a_return_type_and_a_where_clause_come_before_the_body(rt: HostRuntime) -> Result<(), Fail> {
+fn a_return_type_and_a_where_clause_come_before_the_body(rt: HostRuntime) {
     check(
         &rt,
         &[
@@ -207,12 +212,27 @@ fn a_return_type_and_a_where_clause_come_before_the_body(rt: HostRuntime) -> Res
                 NoBody(0, 0, 0, 0, 1, 4, 4),
             ),
         ],
-    )
+    );
+}
+
+// Whether the trees are a function with this name.
+fn is_named(trees: &[TokenTree], name: &str) -> bool {
+    match parse_function(trees) {
+        Ok(function) => function.name.eq_str(name),
+        Err(_) => false,
+    }
+}
+
+fn check_name(rt: &(impl Abort + AllocGlobal), text: &str, name: &str) {
+    let stream = parsed(rt, text);
+    let is = is_named(stream.trees(), name);
+    release(stream);
+    check_answer(rt, text, &(name, is), &(name, true));
 }
 
 #[test]
-fn a_name_is_no_keyword(rt: HostRuntime) -> Result<(), Fail> {
-    for (text, name) in [
+fn a_name_is_no_keyword(rt: HostRuntime) {
+    let rows = &[
         ("fn r#fn() {}", "r#fn"),
         ("fn union() {}", "union"),
         ("fn auto() {}", "auto"),
@@ -221,12 +241,9 @@ fn a_name_is_no_keyword(rt: HostRuntime) -> Result<(), Fail> {
         ("fn gen() {}", "gen"),
         ("gen fn gen() {}", "gen"),
         ("async gen fn r#gen() {}", "r#gen"),
-    ] {
-        let stream = TokenStream::from_str(text, &mut SourceMap::new(rt.alloc()))?;
-        match parse_function(stream.trees()) {
-            Ok(function) => assert!(rt; function.name.eq_str(name), "{text:?}"),
-            Err(fault) => assert!(rt; false, "{text:?}: {fault}"),
-        }
+    ];
+    for &(text, name) in rows {
+        check_name(&rt, text, name);
     }
     check(
         &rt,
@@ -238,11 +255,11 @@ fn a_name_is_no_keyword(rt: HostRuntime) -> Result<(), Fail> {
             ("fn () {}", FaultAt(1)),
             ("fn g() {}", OtherName),
         ],
-    )
+    );
 }
 
 #[test]
-fn a_fault_is_before_the_first_tree_that_does_not_fit(rt: HostRuntime) -> Result<(), Fail> {
+fn a_fault_is_before_the_first_tree_that_does_not_fit(rt: HostRuntime) {
     check(
         &rt,
         &[
@@ -275,11 +292,11 @@ fn a_fault_is_before_the_first_tree_that_does_not_fit(rt: HostRuntime) -> Result
             ("pub pub fn f() {}", FaultAt(1)),
             ("const pub fn f() {}", FaultAt(1)),
         ],
-    )
+    );
 }
 
 #[test]
-fn qualifiers_in_another_order_and_other_items_are_faults(rt: HostRuntime) -> Result<(), Fail> {
+fn qualifiers_in_another_order_and_other_items_are_faults(rt: HostRuntime) {
     check(
         &rt,
         &[
@@ -305,35 +322,37 @@ fn qualifiers_in_another_order_and_other_items_are_faults(rt: HostRuntime) -> Re
             ("unsafe impl A for B {}", FaultAt(1)),
             ("f!();", FaultAt(0)),
         ],
-    )
+    );
+}
+
+fn check_groups(rt: &(impl Abort + AllocGlobal), text: HeldText<'_>, wanted: Answer) {
+    let stream = held_stream(rt, text);
+    let found = read(stream.trees(), "f");
+    release(stream);
+    check_held(rt, text, &found, &wanted);
 }
 
 // Each row is the text in a group without delimiters, the text after the group, and the answer.
 #[test]
-fn a_group_without_delimiters_may_be_the_visibility(rt: HostRuntime) -> Result<(), Fail> {
-    for (inside, after, wanted) in [
+fn a_group_without_delimiters_may_be_the_visibility(rt: HostRuntime) {
+    let rows = &[
         ("pub", "fn f() {}", Body(0, 1, 0, 0, 0, 0, 0)),
         ("pub(crate)", "const fn f();", NoBody(0, 1, 1, 0, 0, 0, 0)),
         ("", "unsafe fn f() {}", Body(0, 1, 1, 0, 0, 0, 0)),
         ("fn f() {}", "", FaultAt(0)),
         ("const", "fn f() {}", FaultAt(0)),
         ("pub", "pub fn f() {}", FaultAt(1)),
-    ] {
-        let mut map = SourceMap::new(rt.alloc());
-        let group = Group::new(Delimiter::None, TokenStream::from_str(inside, &mut map)?);
-        let mut stream = TokenStream::from_tree(rt.alloc(), TokenTree::Group(group))?;
-        stream.extend_streams([TokenStream::from_str(after, &mut map)?])?;
-        let found = read(stream.trees(), "f");
-        assert!(rt; found == wanted, "{inside:?} before {after:?}: {found:?}");
+    ];
+    for &(inside, after, wanted) in rows {
+        check_groups(&rt, ("", inside, 1, after), wanted);
     }
-    Ok(())
 }
 
 // A macro by example passes `$b:block` so. Each row is the text before the groups, the text in them, the number of
 // groups, the text after them, and the answer.
 #[test]
-fn a_body_may_be_in_groups_without_delimiters(rt: HostRuntime) -> Result<(), Fail> {
-    for (before, inside, groups, after, wanted) in [
+fn a_body_may_be_in_groups_without_delimiters(rt: HostRuntime) {
+    let rows = &[
         ("fn f()", "{ x }", 1usize, "", Body(0, 0, 0, 0, 0, 0, 0)),
         (
             "pub fn f(x: T) -> A",
@@ -352,17 +371,8 @@ fn a_body_may_be_in_groups_without_delimiters(rt: HostRuntime) -> Result<(), Fai
         ("fn f()", "{ x }", 2, ";", FaultAt(4)),
         ("fn f() ->", "{ x }", 1, "{}", FaultAt(5)),
         ("fn f", "{ x }", 1, "", FaultAt(2)),
-    ] {
-        let mut map = SourceMap::new(rt.alloc());
-        let mut held = TokenStream::from_str(inside, &mut map)?;
-        for _ in 0..groups {
-            let group = Group::new(Delimiter::None, held);
-            held = TokenStream::from_tree(rt.alloc(), TokenTree::Group(group))?;
-        }
-        let mut stream = TokenStream::from_str(before, &mut map)?;
-        stream.extend_streams([held, TokenStream::from_str(after, &mut map)?])?;
-        let found = read(stream.trees(), "f");
-        assert!(rt; found == wanted, "{inside:?} after {before:?}: {found:?}");
+    ];
+    for &(before, inside, groups, after, wanted) in rows {
+        check_groups(&rt, (before, inside, groups, after), wanted);
     }
-    Ok(())
 }

@@ -1,8 +1,8 @@
 // The generic arguments of paths. The crate syn 2 reads each text in the same way, unless a row says otherwise.
-use declarations::{ArgumentKind, GenericArguments, parse_generic_argument};
-use proc_macro2::{Delimiter, Group, SourceMap, TokenStream, TokenTree};
+use crate::checks::{check_answer, in_groups, parsed, release};
+use declarations::{ArgumentKind, GenericArgument, GenericArguments, parse_generic_argument};
+use proc_macro2::TokenTree;
 use std::process::Abort;
-use std::test::Fail;
 
 /// A generic argument, with the number of its trees, and of those after `=` or `:`.
 #[derive(Clone, Copy, Debug, PartialEq, Eq)]
@@ -16,35 +16,45 @@ enum Parts {
     Fault(usize),
 }
 
-/// Checks the arguments of each text. A text is what is between the angle brackets.
-fn check(rt: &(impl Abort + AllocGlobal), rows: &[(&str, &[Parts])]) -> Result<(), Fail> {
-    for (text, wanted) in rows {
-        let stream = TokenStream::from_str(text, &mut SourceMap::new(rt.alloc()))?;
-        let mut list = GenericArguments::new(stream.trees());
-        for one in *wanted {
-            match list.next() {
-                Some(Ok(argument)) => {
-                    let count = argument.trees.len();
-                    let parts = match argument.kind {
-                        ArgumentKind::Lifetime => Parts::Lifetime(count),
-                        ArgumentKind::Const => Parts::Const(count),
-                        ArgumentKind::Type => Parts::Type(count),
-                        ArgumentKind::Binding(ty) => Parts::Binding(count, ty.len()),
-                        ArgumentKind::Constraint(bounds) => Parts::Constraint(count, bounds.len()),
-                    };
-                    assert_eq!(rt; parts, *one, "{text:?}");
-                }
-                Some(Err(fault)) => assert_eq!(rt; Parts::Fault(fault.at), *one, "{text:?}"),
-                None => assert!(rt; false, "{text:?}"),
-            }
-        }
-        assert!(rt; list.next().is_none(), "{text:?}");
+fn parts_of(argument: GenericArgument<'_>) -> Parts {
+    let count = argument.trees.len();
+    match argument.kind {
+        ArgumentKind::Lifetime => Parts::Lifetime(count),
+        ArgumentKind::Const => Parts::Const(count),
+        ArgumentKind::Type => Parts::Type(count),
+        ArgumentKind::Binding(ty) => Parts::Binding(count, ty.len()),
+        ArgumentKind::Constraint(bounds) => Parts::Constraint(count, bounds.len()),
     }
-    Ok(())
+}
+
+fn next_parts(list: &mut GenericArguments<'_>) -> Option<Parts> {
+    match list.next() {
+        Some(Ok(argument)) => Some(parts_of(argument)),
+        Some(Err(fault)) => Some(Parts::Fault(fault.at)),
+        None => None,
+    }
+}
+
+/// Checks the arguments of the text.
+fn check_text(rt: &(impl Abort + AllocGlobal), text: &str, wanted: &[Parts]) {
+    let stream = parsed(rt, text);
+    let mut list = GenericArguments::new(stream.trees());
+    for &parts in wanted {
+        check_answer(rt, text, &next_parts(&mut list), &Some(parts));
+    }
+    check_answer(rt, text, &next_parts(&mut list), &None);
+    release(stream);
+}
+
+/// Checks the arguments of each text. A text is what is between the angle brackets.
+fn check(rt: &(impl Abort + AllocGlobal), rows: &[(&str, &[Parts])]) {
+    for &(text, wanted) in rows {
+        check_text(rt, text, wanted);
+    }
 }
 
 #[test]
-fn each_kind_of_argument_is_named(rt: HostRuntime) -> Result<(), Fail> {
+fn each_kind_of_argument_is_named(rt: HostRuntime) {
     check(
         &rt,
         &[
@@ -68,11 +78,11 @@ fn each_kind_of_argument_is_named(rt: HostRuntime) -> Result<(), Fail> {
             ("_", &[Parts::Type(1)]),
             ("impl A", &[Parts::Type(2)]),
         ],
-    )
+    );
 }
 
 #[test]
-fn a_comma_within_brackets_ends_no_argument(rt: HostRuntime) -> Result<(), Fail> {
+fn a_comma_within_brackets_ends_no_argument(rt: HostRuntime) {
     check(
         &rt,
         &[
@@ -94,11 +104,11 @@ fn a_comma_within_brackets_ends_no_argument(rt: HostRuntime) -> Result<(), Fail>
                 &[Parts::Type(7), Parts::Type(3), Parts::Type(1)],
             ),
         ],
-    )
+    );
 }
 
 #[test]
-fn broken_arguments_are_rejected(rt: HostRuntime) -> Result<(), Fail> {
+fn broken_arguments_are_rejected(rt: HostRuntime) {
     check(
         &rt,
         &[
@@ -119,35 +129,33 @@ fn broken_arguments_are_rejected(rt: HostRuntime) -> Result<(), Fail> {
             // The crate syn 2 reads a binding of a constant, which no stable version of Rust accepts.
             ("N = 3", &[Parts::Fault(2)]),
         ],
-    )
+    );
+}
+
+/// The number of trees in the first argument and after it, and whether it is a constant.
+fn first_of(trees: &[TokenTree]) -> Option<(usize, usize, bool)> {
+    match parse_generic_argument(trees) {
+        Ok((argument, rest)) => {
+            let is_constant = matches!(argument.kind, ArgumentKind::Const);
+            Some((argument.trees.len(), rest.len(), is_constant))
+        }
+        Err(_) => None,
+    }
 }
 
 #[test]
-fn an_argument_is_read_with_the_trees_after_it(rt: HostRuntime) -> Result<(), Fail> {
-    let stream = TokenStream::from_str("A<B>; C", &mut SourceMap::new(rt.alloc()))?;
-    match parse_generic_argument(stream.trees()) {
-        Ok((argument, rest)) => {
-            assert_eq!(rt; argument.trees.len(), 4);
-            assert_eq!(rt; rest.len(), 2);
-        }
-        Err(_) => assert!(rt; false),
-    }
-    Ok(())
+fn an_argument_is_read_with_the_trees_after_it(rt: HostRuntime) {
+    let stream = parsed(&rt, "A<B>; C");
+    let found = first_of(stream.trees());
+    release(stream);
+    check_answer(&rt, "A<B>; C", &found, &Some((4, 2, false)));
 }
 
 // A macro by example passes `$b:block` in such a group.
 #[test]
-fn a_block_in_a_group_without_delimiters_is_a_constant(rt: HostRuntime) -> Result<(), Fail> {
-    let held = TokenStream::from_str("{ N }", &mut SourceMap::new(rt.alloc()))?;
-    let group = TokenTree::Group(Group::new(Delimiter::None, held));
-    let stream = TokenStream::from_tree(rt.alloc(), group)?;
-    let is_constant = match parse_generic_argument(stream.trees()) {
-        Ok((argument, rest)) => match argument.kind {
-            ArgumentKind::Const => argument.trees.len() == 1 && rest.is_empty(),
-            _ => false,
-        },
-        Err(_) => false,
-    };
-    assert!(rt; is_constant);
-    Ok(())
+fn a_block_in_a_group_without_delimiters_is_a_constant(rt: HostRuntime) {
+    let stream = in_groups(&rt, parsed(&rt, "{ N }"), 1);
+    let found = first_of(stream.trees());
+    release(stream);
+    check_answer(&rt, "{ N }", &found, &Some((1, 0, true)));
 }

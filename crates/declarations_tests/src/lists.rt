@@ -1,8 +1,7 @@
 // Lists of fields and variants: how many elements come, and where the error is.
+use crate::checks::{check_answer, parsed, release};
 use declarations::{Body, FieldList, VariantList, parse_type_item};
-use proc_macro2::{SourceMap, TokenStream};
 use std::process::Abort;
-use std::test::Fail;
 
 /// The number of parts before the end, and the number of trees before the error, if there is one.
 #[derive(Clone, Copy, Debug, PartialEq, Eq)]
@@ -52,19 +51,24 @@ fn parts_given(body: &Body<'_>) -> Given {
     }
 }
 
-fn check(rt: &(impl Abort + AllocGlobal), rows: &[(&str, Given)]) -> Result<(), Fail> {
-    for (text, wanted) in rows {
-        let stream = TokenStream::from_str(text, &mut SourceMap::new(rt.alloc()))?;
-        match parse_type_item(stream.trees()) {
-            Ok(item) => assert_eq!(rt; parts_given(&item.body), *wanted, "{text:?}"),
-            Err(fault) => assert!(rt; false, "{text:?}: {fault}"),
-        }
+/// Checks the parts of the body of the item.
+fn check_item(rt: &(impl Abort + AllocGlobal), text: &str, wanted: Given) {
+    let stream = parsed(rt, text);
+    match parse_type_item(stream.trees()) {
+        Ok(item) => check_answer(rt, text, &parts_given(&item.body), &wanted),
+        Err(fault) => assert!(rt; false, "{text:?}: {fault}"),
     }
-    Ok(())
+    release(stream);
+}
+
+fn check(rt: &(impl Abort + AllocGlobal), rows: &[(&str, Given)]) {
+    for &(text, wanted) in rows {
+        check_item(rt, text, wanted);
+    }
 }
 
 #[test]
-fn each_part_of_a_body_is_given_or_its_fault(rt: HostRuntime) -> Result<(), Fail> {
+fn each_part_of_a_body_is_given_or_its_fault(rt: HostRuntime) {
     check(
         &rt,
         &[
@@ -86,5 +90,5 @@ fn each_part_of_a_body_is_given_or_its_fault(rt: HostRuntime) -> Result<(), Fail
             ("enum E { A, B =, C }", faulty(1, 2)),
             ("struct S { , }", faulty(0, 0)),
         ],
-    )
+    );
 }

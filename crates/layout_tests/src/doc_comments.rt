@@ -1,7 +1,7 @@
 // Texts whose doc attributes become doc comments.
+use crate::checks::{check_answer, release};
 use relayout::{RelayoutError, with_any_doc_comments, with_doc_comments};
 use std::process::Abort;
-use std::test::Fail;
 
 /// Texts with attributes, each with the text with comments.
 const COMMENTS: &[(&str, &str)] = &[
@@ -62,59 +62,56 @@ const KEPT_OF_ANY: &[&str] = &[
 ];
 
 /// Asserts what the text is with comments.
-fn check(rt: &(impl Abort + AllocGlobal), text: &str, want: &str) -> Result<(), Fail> {
-    match with_doc_comments(rt.alloc(), text) {
-        Ok(out) => assert_eq!(rt; out.as_str(), want, "of {text:?}"),
-        Err(error) => assert!(rt; false, "{error:?} of {text:?}"),
-    }
-    Ok(())
+fn check(rt: &(impl Abort + AllocGlobal), text: &str, want: &str) {
+    let out = with_doc_comments(rt.alloc(), text).expect(rt, text);
+    check_answer(rt, text, &out.as_str(), &want);
 }
 
 /// Asserts what the text is with comments for attributes of any spelling.
-fn check_any(rt: &(impl Abort + AllocGlobal), text: &str, want: &str) -> Result<(), Fail> {
-    match with_any_doc_comments(rt.alloc(), text) {
-        Ok(out) => assert_eq!(rt; out.as_str(), want, "of {text:?}"),
-        Err(error) => assert!(rt; false, "{error:?} of {text:?}"),
-    }
-    Ok(())
+fn check_any(rt: &(impl Abort + AllocGlobal), text: &str, want: &str) {
+    let out = with_any_doc_comments(rt.alloc(), text).expect(rt, text);
+    check_answer(rt, text, &out.as_str(), &want);
 }
 
 #[test]
-fn attributes_become_comments(rt: HostRuntime) -> Result<(), Fail> {
+fn attributes_become_comments(rt: HostRuntime) {
     for &(text, want) in COMMENTS {
-        check(&rt, text, want)?;
+        check(&rt, text, want);
     }
-    Ok(())
 }
 
 #[test]
-fn other_text_stays(rt: HostRuntime) -> Result<(), Fail> {
-    for text in KEPT {
-        check(&rt, text, text)?;
+fn other_text_stays(rt: HostRuntime) {
+    for &text in KEPT {
+        check(&rt, text, text);
     }
-    Ok(())
 }
 
 #[test]
-fn attributes_of_any_spelling_become_comments(rt: HostRuntime) -> Result<(), Fail> {
+fn attributes_of_any_spelling_become_comments(rt: HostRuntime) {
     for &(text, want) in ANY {
-        check(&rt, text, text)?;
-        check_any(&rt, text, want)?;
+        check(&rt, text, text);
+        check_any(&rt, text, want);
     }
     for &(text, want) in COMMENTS {
-        check_any(&rt, text, want)?;
+        check_any(&rt, text, want);
     }
-    for text in KEPT_OF_ANY {
-        check_any(&rt, text, text)?;
+    for &text in KEPT_OF_ANY {
+        check_any(&rt, text, text);
     }
-    Ok(())
+}
+
+/// Asserts that the answer for the text is that no pieces cover it.
+fn has_no_pieces(rt: &impl Abort, text: &str, out: Result<String, RelayoutError>) {
+    let is_error = matches!(&out, Err(RelayoutError::NoPiece));
+    release(out);
+    check_answer(rt, text, &is_error, &true);
 }
 
 #[test]
-fn a_text_that_no_pieces_cover_is_reported(rt: HostRuntime) -> Result<(), Fail> {
-    let out = with_doc_comments(rt.alloc(), "#[doc = \" a\"]\n\"");
-    assert!(rt; matches!(&out, Err(RelayoutError::NoPiece)));
-    let out = with_any_doc_comments(rt.alloc(), "#[doc = r\" a\"]\n\"");
-    assert!(rt; matches!(&out, Err(RelayoutError::NoPiece)));
-    Ok(())
+fn a_text_that_no_pieces_cover_is_reported(rt: HostRuntime) {
+    let text = "#[doc = \" a\"]\n\"";
+    has_no_pieces(&rt, text, with_doc_comments(rt.alloc(), text));
+    let text = "#[doc = r\" a\"]\n\"";
+    has_no_pieces(&rt, text, with_any_doc_comments(rt.alloc(), text));
 }

@@ -1,12 +1,11 @@
 // Random streams, each with the tightest gaps, the loosest gaps and random gaps. They come back from all these texts.
 ghost use Rattle.std.specs.Prelude.{◌<◌, length};
 
-use crate::choosers::{Always, laid_out, stream_of};
+use crate::checks::{check_answer, comes_back, laid_out, release};
+use crate::choosers::Always;
 use layout::{Chooser, Gap, GapContext};
 use proc_macro2::{SourceMap, TokenStream};
-use std::alloc::{AllocError, Global};
 use std::process::Abort;
-use std::test::Fail;
 
 /// The number of texts that are made.
 const TEXTS: u32 = 4000;
@@ -30,12 +29,12 @@ struct Random {
 
 impl Random {
     /// Returns a text of up to 12 pieces.
-    fn text(&mut self, alloc: Global) -> Result<String, AllocError> {
-        let mut text = String::new(alloc);
+    fn text(&mut self, rt: &(impl Abort + AllocGlobal)) -> String {
+        let mut text = String::new(rt.alloc());
         for _ in 0..self.below(13) {
-            text.push_str(self.one_of(PIECES))?;
+            text.push_str(self.one_of(PIECES)).expect(rt, "a text");
         }
-        Ok(text)
+        text
     }
 
     /// Returns one of the values, of which there is at least one.
@@ -68,51 +67,41 @@ impl Chooser for Random {
 }
 
 /// Asserts that the stream comes back from its text with the chooser's gaps.
-fn check<C: Chooser>(
-    rt: &(impl Abort + AllocGlobal),
-    stream: &TokenStream,
-    chooser: &mut C,
-) -> Result<(), Fail> {
-    let text = laid_out(rt, stream, chooser)?;
-    let back = stream_of(rt, text.as_str())?;
-    assert!(rt; stream.same_tokens(&back), "{text}");
-    Ok(())
+fn check<C: Chooser>(rt: &(impl Abort + AllocGlobal), stream: &TokenStream, chooser: &mut C) {
+    let text = laid_out(rt, stream, chooser);
+    let same = comes_back(rt, stream, text.as_str());
+    check_answer(rt, text.as_str(), &same, &true);
 }
 
 /// Asserts that the stream comes back from its text with the tightest gaps, with the loosest, and twice with random
 /// ones.
-fn check_gaps(
-    rt: &(impl Abort + AllocGlobal),
-    stream: &TokenStream,
-    random: &mut Random,
-) -> Result<(), Fail> {
-    check(rt, stream, &mut Always(Gap::Nothing))?;
-    check(rt, stream, &mut Always(Gap::Line(1)))?;
-    check(rt, stream, random)?;
-    check(rt, stream, random)
+fn check_gaps(rt: &(impl Abort + AllocGlobal), stream: &TokenStream, random: &mut Random) {
+    check(rt, stream, &mut Always(Gap::Nothing));
+    check(rt, stream, &mut Always(Gap::Line(1)));
+    check(rt, stream, random);
+    check(rt, stream, random);
 }
 
 /// Makes a text and, if it parses, asserts that its stream comes back. Returns whether it parses.
-fn check_text(rt: &(impl Abort + AllocGlobal), random: &mut Random) -> Result<bool, Fail> {
-    let text = random.text(rt.alloc())?;
-    match TokenStream::from_str(text.as_str(), &mut SourceMap::new(rt.alloc())) {
-        Ok(stream) => {
-            check_gaps(rt, &stream, random)?;
-            Ok(true)
-        }
-        Err(_) => Ok(false),
+fn check_text(rt: &(impl Abort + AllocGlobal), random: &mut Random) -> bool {
+    let text = random.text(rt);
+    let found = TokenStream::from_str(text.as_str(), &mut SourceMap::new(rt.alloc()));
+    let parses = found.is_ok();
+    if let Ok(stream) = &found {
+        check_gaps(rt, stream, random);
     }
+    release((text, found));
+    parses
 }
 
 #[test]
-fn random_streams_come_back_from_random_gaps(rt: HostRuntime) -> Result<(), Fail> {
+fn random_streams_come_back_from_random_gaps(rt: HostRuntime) {
     let mut random = Random { state: 7 };
     let mut parsed: u32 = 0;
     for _ in 0..TEXTS {
-        if check_text(&rt, &mut random)? {
+        if check_text(&rt, &mut random) {
             parsed = parsed.saturating_add(1);
         }
     }
-    assert_eq!(rt; parsed, PARSED);
-    Ok(())
+    check_answer(&rt, "random texts", &parsed, &PARSED);
 }

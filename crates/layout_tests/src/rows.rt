@@ -1,8 +1,8 @@
 // The tightest texts of short streams: which neighbours must be parted, and which may touch.
-use crate::choosers::{Always, laid_out, stream_of};
+use crate::checks::{check_answer, comes_back, laid_out, release, stream_of};
+use crate::choosers::Always;
 use layout::Gap;
 use std::process::Abort;
-use std::test::Fail;
 
 /// A source, and its stream's text with no gaps except those that must be there.
 const TIGHTEST: &[(&str, &str)] = &[
@@ -41,19 +41,17 @@ const TIGHTEST: &[(&str, &str)] = &[
 ];
 
 /// Asserts what the tightest text of the source's stream is, and that the stream comes back from it.
-fn check_tightest(rt: &(impl Abort + AllocGlobal), source: &str, want: &str) -> Result<(), Fail> {
-    let stream = stream_of(rt, source)?;
-    let text = laid_out(rt, &stream, &mut Always(Gap::Nothing))?;
-    assert_eq!(rt; text.as_str(), want, "of {source}");
-    let back = stream_of(rt, want)?;
-    assert!(rt; stream.same_tokens(&back), "of {source}");
-    Ok(())
+fn check_tightest(rt: &(impl Abort + AllocGlobal), source: &str, want: &str) {
+    let stream = stream_of(rt, source);
+    let text = laid_out(rt, &stream, &mut Always(Gap::Nothing));
+    check_answer(rt, source, &text.as_str(), &want);
+    check_answer(rt, source, &comes_back(rt, &stream, want), &true);
+    release((stream, text));
 }
 
 #[test]
-fn tightest_texts(rt: HostRuntime) -> Result<(), Fail> {
+fn tightest_texts(rt: HostRuntime) {
     for &(source, want) in TIGHTEST {
-        check_tightest(&rt, source, want)?;
+        check_tightest(&rt, source, want);
     }
-    Ok(())
 }

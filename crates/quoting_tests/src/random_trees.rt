@@ -2,13 +2,10 @@
 // choices are tried.
 ghost use Rattle.std.specs.Prelude.{◌<◌};
 
-use proc_macro2::{
-    Delimiter, Group, Ident, Literal, Punct, SourceMap, Spacing, Span, TokenStream, TokenTree,
-};
+use crate::checks::{check_answer, comes_back, release};
+use proc_macro2::{Delimiter, Group, Ident, Literal, Punct, Spacing, Span, TokenStream, TokenTree};
 use quoting::{Quote, QuoteError};
-use std::alloc::Global;
 use std::process::Abort;
-use std::test::Fail;
 
 /// The number of lists.
 const LISTS: u32 = 600;
@@ -80,96 +77,147 @@ fn choice_of(number: u32) -> Choice {
     }
 }
 
-/// Returns a leaf of this kind, Joint or Alone if it is a mark.
-fn leaf(alloc: Global, kind: u64, joint: bool) -> Result<TokenTree, Fail> {
-    let spacing = if joint {
+/// Returns the spacing of a mark.
+fn spacing_of(joint: bool) -> Spacing {
+    if joint {
         Spacing::Joint
     } else {
         Spacing::Alone
-    };
-    Ok(match kind {
-        0 => TokenTree::Ident(Ident::new(alloc, "a", Span::call_site())?),
-        1 => TokenTree::Ident(Ident::new_raw(alloc, "b", Span::call_site())?),
-        2 => TokenTree::Literal(Literal::character(alloc, 'b')?),
-        3 => TokenTree::Literal(Literal::byte_string(alloc, b"x")?),
-        4 => TokenTree::Literal(Literal::byte_character(alloc, 120)?),
-        5 => TokenTree::Literal(Literal::u8_unsuffixed(alloc, 1)?),
-        6 => TokenTree::Punct(Punct::new('/', spacing)),
-        7 => TokenTree::Punct(Punct::new('*', spacing)),
-        8 => TokenTree::Punct(Punct::new('+', spacing)),
-        _ => TokenTree::Punct(Punct::new('\'', spacing)),
-    })
+    }
 }
 
-/// Returns the trees of the case with this choice of spacings: three leaves, a group of two, and a leaf.
-fn trees(alloc: Global, case: Case, joint: Choice) -> Result<Vec<TokenTree>, Fail> {
-    let delimiter = match case.delimiter {
+/// Returns the identifier `a`, or `r#b` if it is raw.
+fn word(rt: &(impl Abort + AllocGlobal), is_raw: bool) -> TokenTree {
+    let span = Span::call_site();
+    let ident = if is_raw {
+        Ident::new_raw(rt.alloc(), "b", span)
+    } else {
+        Ident::new(rt.alloc(), "a", span)
+    };
+    TokenTree::Ident(ident.expect(rt, "a word"))
+}
+
+/// Returns the literal of this kind, from 2 to 5.
+fn literal(rt: &(impl Abort + AllocGlobal), kind: u64) -> TokenTree {
+    let alloc = rt.alloc();
+    let literal = match kind {
+        2 => Literal::character(alloc, 'b'),
+        3 => Literal::byte_string(alloc, b"x"),
+        4 => Literal::byte_character(alloc, 120),
+        _ => Literal::u8_unsuffixed(alloc, 1),
+    };
+    TokenTree::Literal(literal.expect(rt, "a literal"))
+}
+
+/// Returns a leaf of this kind, Joint or Alone if it is a mark.
+fn leaf(rt: &(impl Abort + AllocGlobal), kind: u64, joint: bool) -> TokenTree {
+    match kind {
+        0..=1 => word(rt, kind == 1),
+        2..=5 => literal(rt, kind),
+        6 => TokenTree::Punct(Punct::new('/', spacing_of(joint))),
+        7 => TokenTree::Punct(Punct::new('*', spacing_of(joint))),
+        8 => TokenTree::Punct(Punct::new('+', spacing_of(joint))),
+        _ => TokenTree::Punct(Punct::new('\'', spacing_of(joint))),
+    }
+}
+
+/// Returns the delimiter of the group.
+fn delimiter_of(case: Case) -> Delimiter {
+    match case.delimiter {
         0 => Delimiter::None,
         1..=3 => Delimiter::Brace,
         4..=6 => Delimiter::Bracket,
         _ => Delimiter::Parenthesis,
-    };
-    let inside = vec![in alloc;
-        leaf(alloc, case.inner, joint.inner)?,
-        leaf(alloc, case.innermost, joint.innermost)?,
-    ]?;
-    let group = Group::new(delimiter, TokenStream::from_trees(alloc, inside)?);
-    Ok(vec![in alloc;
-        leaf(alloc, case.first, joint.first)?,
-        leaf(alloc, case.second, joint.second)?,
-        leaf(alloc, case.third, joint.third)?,
-        TokenTree::Group(group),
-        leaf(alloc, case.last, joint.last)?,
-    ]?)
+    }
+}
+
+/// Returns the group of the case with this choice of spacings, of two leaves.
+fn group(rt: &(impl Abort + AllocGlobal), case: Case, joint: Choice) -> TokenTree {
+    let leaves = [
+        leaf(rt, case.inner, joint.inner),
+        leaf(rt, case.innermost, joint.innermost),
+    ];
+    let inside = TokenStream::from_trees(rt.alloc(), leaves).expect(rt, "a group");
+    TokenTree::Group(Group::new(delimiter_of(case), inside))
+}
+
+/// Returns the trees of the case with this choice of spacings: three leaves, a group of two, and a leaf.
+fn trees(rt: &(impl Abort + AllocGlobal), case: Case, joint: Choice) -> [TokenTree; 5] {
+    [
+        leaf(rt, case.first, joint.first),
+        leaf(rt, case.second, joint.second),
+        leaf(rt, case.third, joint.third),
+        group(rt, case, joint),
+        leaf(rt, case.last, joint.last),
+    ]
+}
+
+/// Returns whether the choice of this number is well spaced.
+fn is_spaced(rt: &(impl Abort + AllocGlobal), case: Case, number: u32) -> bool {
+    let trees = trees(rt, case, choice_of(number));
+    let stream = TokenStream::from_trees(rt.alloc(), trees).expect(rt, "a stream");
+    let spaced = stream.is_well_spaced();
+    release(stream);
+    spaced
 }
 
 /// Returns whether some choice of spacings is well spaced.
-fn has_a_choice(alloc: Global, case: Case) -> Result<bool, Fail> {
+fn has_a_choice(rt: &(impl Abort + AllocGlobal), case: Case) -> bool {
     for number in 0..64 {
-        let trees = trees(alloc, case, choice_of(number))?;
-        if TokenStream::from_trees(alloc, trees)?.is_well_spaced() {
-            return Ok(true);
+        if is_spaced(rt, case, number) {
+            return true;
         }
     }
-    Ok(false)
+    false
 }
 
 /// Returns the quote of the case with the choice of this number.
-fn quote_with(alloc: Global, case: Case, number: u32) -> Result<Quote, Fail> {
-    let mut quote = Quote::new(alloc);
-    for tree in trees(alloc, case, choice_of(number))? {
-        quote.push(tree)?;
+fn quote_with(rt: &(impl Abort + AllocGlobal), case: Case, number: u32) -> Quote {
+    let mut quote = Quote::new(rt.alloc());
+    for tree in trees(rt, case, choice_of(number)) {
+        quote.push(tree).expect(rt, "a tree");
     }
-    Ok(quote)
+    quote
 }
 
-/// Returns whether the printed text parses to the same tokens.
-fn comes_back(alloc: Global, stream: &TokenStream) -> Result<bool, Fail> {
-    let text = format!(in alloc; "{stream}")?;
-    let back = TokenStream::from_str(text.as_str(), &mut SourceMap::new(alloc))?;
-    Ok(stream.same_tokens(&back))
+/// Returns whether the quote has a stream, and whether the stream reads back from its printed text if there is one.
+/// Stops the test if memory runs out.
+fn is_given(
+    rt: &(impl Abort + AllocGlobal),
+    found: &Result<TokenStream, QuoteError>,
+) -> (bool, bool) {
+    match found {
+        Ok(stream) => (true, comes_back(rt, stream)),
+        Err(error) => {
+            assert!(rt; !matches!(error, QuoteError::Memory(_)), "{error:?}");
+            (false, true)
+        }
+    }
+}
+
+/// Asserts that the quote of the case with the choice of this number has a stream exactly if some choice is well
+/// spaced, and that the stream reads back. Returns whether there is a stream.
+fn check_case(rt: &(impl Abort + AllocGlobal), case: Case, number: u32) -> bool {
+    let may = has_a_choice(rt, case);
+    let quote = quote_with(rt, case, number);
+    let found = quote.finish();
+    let answer = is_given(rt, &found);
+    release((quote, found));
+    assert!(rt; answer == (may, true), "{answer:?} of {case:?}");
+    may
 }
 
 #[test]
-fn a_stream_is_given_exactly_where_some_choice_is_well_spaced(rt: HostRuntime) -> Result<(), Fail> {
-    let alloc = rt.alloc();
+fn a_stream_is_given_exactly_where_some_choice_is_well_spaced(rt: HostRuntime) {
     let mut random = Random { state: 7 };
     let mut given: u32 = 0;
     for _ in 0..LISTS {
         let case = random.case();
         let number = random.below(64) as u32;
-        let may = has_a_choice(alloc, case)?;
-        match quote_with(alloc, case, number)?.finish() {
-            Ok(stream) => {
-                assert!(rt; may, "of {case:?}");
-                assert!(rt; comes_back(alloc, &stream)?, "of {case:?}");
-                given = given.saturating_add(1);
-            }
-            Err(QuoteError::Memory(error)) => return Err(Fail::from(error)),
-            Err(_) => assert!(rt; !may, "of {case:?}"),
+        if check_case(&rt, case, number) {
+            given = given.saturating_add(1);
         }
     }
     // Both results occurred.
     assert!(rt; given > 100 && given < 500, "{given}");
-    Ok(())
 }

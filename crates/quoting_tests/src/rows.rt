@@ -1,13 +1,11 @@
 // The printed text of each kind of tree. The text is parsed again and compared.
+use crate::checks::{check_answer, comes_back, displays, finished, parse_text, release, shows};
 use crate::trees::{Inner, Leaf, Tree, quote_with};
 use proc_macro2::{
     Delimiter, Group, ParseError, Punct, SourceMap, Spacing, Span, TokenStream, TokenTree,
 };
 use quoting::{Quote, QuoteError, TemplateError};
-use std::alloc::{AllocError, Global};
-use std::fmt::{Debug, Display};
 use std::process::Abort;
-use std::test::Fail;
 
 /// Trees, and the printed text of their quote. The first ones are the examples of the README.
 const PRINTED: &[(&[Tree], &str)] = &[
@@ -121,129 +119,128 @@ const NESTED: &[Tree] = &[
     ),
 ];
 
-/// Returns whether the text parses to the same tokens as the stream.
-fn comes_back(alloc: Global, stream: &TokenStream, text: &str) -> Result<bool, ParseError> {
-    let back = TokenStream::from_str(text, &mut SourceMap::new(alloc))?;
-    Ok(stream.same_tokens(&back))
-}
-
 /// Asserts that the stream has the printed text, and reads back from it.
-fn check_stream(
-    rt: &(impl Abort + AllocGlobal),
-    stream: &TokenStream,
-    want: &str,
-) -> Result<(), ParseError> {
-    let text = format!(in rt.alloc(); "{stream}")?;
-    assert_eq!(rt; text.as_str(), want);
-    assert!(rt;
-        comes_back(rt.alloc(), stream, text.as_str())?,
-        "of {want:?}"
-    );
-    Ok(())
+fn check_stream(rt: &(impl Abort + AllocGlobal), stream: &TokenStream, want: &str) {
+    displays(rt, stream, want, want);
+    check_answer(rt, want, &comes_back(rt, stream), &true);
 }
 
 /// Asserts that the quote has the printed text, and reads back from it.
-pub fn check_quote(rt: &(impl Abort + AllocGlobal), quote: &Quote, want: &str) -> Result<(), Fail> {
-    let stream = quote.finish()?;
-    check_stream(rt, &stream, want)?;
-    Ok(())
+pub fn check_quote(rt: &(impl Abort + AllocGlobal), quote: &Quote, want: &str) {
+    let stream = finished(rt, quote, want);
+    check_stream(rt, &stream, want);
+    release(stream);
 }
 
 /// Asserts that the quote of the trees has the printed text, and reads back from it.
-fn check_printed(rt: &(impl Abort + AllocGlobal), trees: &[Tree], want: &str) -> Result<(), Fail> {
-    let quote = quote_with(rt, trees)?;
-    check_quote(rt, &quote, want)
+fn check_printed(rt: &(impl Abort + AllocGlobal), trees: &[Tree], want: &str) {
+    let quote = quote_with(rt, trees);
+    check_quote(rt, &quote, want);
+    release(quote);
 }
 
-/// Asserts that the quote of the trees has this error.
-fn check_refused(
-    rt: &(impl Abort + AllocGlobal),
-    trees: &[Tree],
-    is_lone_quote: bool,
-) -> Result<(), Fail> {
-    let quote = quote_with(rt, trees)?;
-    match quote.finish() {
-        Err(QuoteError::LoneQuote) => assert!(rt; is_lone_quote),
-        Err(QuoteError::NoneGroup) => assert!(rt; !is_lone_quote),
-        _ => assert!(rt; false),
+/// Returns whether the error is `LoneQuote`, if it is this or `NoneGroup`.
+fn is_lone_quote(found: &Result<TokenStream, QuoteError>) -> Option<bool> {
+    match found {
+        Err(QuoteError::LoneQuote) => Some(true),
+        Err(QuoteError::NoneGroup) => Some(false),
+        _ => None,
     }
-    Ok(())
+}
+
+/// Asserts that the quote of the trees, which are those of this row, has this error.
+fn check_refused(rt: &(impl Abort + AllocGlobal), row: usize, trees: &[Tree], want: bool) {
+    let quote = quote_with(rt, trees);
+    let found = quote.finish();
+    let error = is_lone_quote(&found);
+    release((quote, found));
+    check_answer(rt, "a row of REFUSED", &(row, error), &(row, Some(want)));
 }
 
 #[test]
-fn trees_are_printed_so_that_they_come_back(rt: HostRuntime) -> Result<(), Fail> {
+fn trees_are_printed_so_that_they_come_back(rt: HostRuntime) {
     for &(trees, want) in PRINTED {
-        check_printed(&rt, trees, want)?;
+        check_printed(&rt, trees, want);
     }
-    Ok(())
 }
 
 #[test]
-fn what_no_spacing_mends_is_reported(rt: HostRuntime) -> Result<(), Fail> {
-    for &(trees, is_lone_quote) in REFUSED {
-        check_refused(&rt, trees, is_lone_quote)?;
+fn what_no_spacing_mends_is_reported(rt: HostRuntime) {
+    for (row, &(trees, is_lone_quote)) in REFUSED.iter().enumerate() {
+        check_refused(&rt, row, trees, is_lone_quote);
     }
-    Ok(())
-}
-
-/// Returns the `Debug` text of the quote's stream.
-fn debug_text(rt: &(impl Abort + AllocGlobal), trees: &[Tree]) -> Result<String, Fail> {
-    let stream = quote_with(rt, trees)?.finish()?;
-    Ok(format!(in rt.alloc(); "{stream:?}")?)
 }
 
 #[test]
-fn the_last_mark_is_alone_and_others_stay_joint(rt: HostRuntime) -> Result<(), Fail> {
+fn the_last_mark_is_alone_and_others_stay_joint(rt: HostRuntime) {
     let colons = &[Tree::One(Leaf::Joint(':')), Tree::One(Leaf::Joint(':'))];
-    let shown = debug_text(&rt, colons)?;
+    let quote = quote_with(&rt, colons);
+    let stream = finished(&rt, &quote, "::");
     let want =
         "TokenStream [Punct { char: ':', spacing: Joint }, Punct { char: ':', spacing: Alone }]";
-    assert_eq!(rt; shown.as_str(), want);
-    Ok(())
+    shows(&rt, &stream, want);
+    release((quote, stream));
 }
 
 #[test]
-fn marks_in_groups_are_respaced_and_the_quote_stays(rt: HostRuntime) -> Result<(), Fail> {
-    let quote = quote_with(&rt, NESTED)?;
+fn marks_in_groups_are_respaced_and_the_quote_stays(rt: HostRuntime) {
+    let quote = quote_with(&rt, NESTED);
     for _ in 0..2 {
-        check_quote(&rt, &quote, "a { (b) [+] -> }")?;
+        check_quote(&rt, &quote, "a { (b) [+] -> }");
     }
-    Ok(())
+    release(quote);
+}
+
+/// Returns the stream in parentheses.
+fn in_parentheses(rt: &(impl Abort + AllocGlobal), stream: TokenStream) -> TokenStream {
+    let group = TokenTree::Group(Group::new(Delimiter::Parenthesis, stream));
+    TokenStream::from_tree(rt.alloc(), group).expect(rt, "a group")
 }
 
 /// Returns nested parentheses around a mark that is Joint.
-fn deep_groups(alloc: Global, levels: u32) -> Result<TokenStream, Fail> {
-    let mut stream = TokenStream::new(alloc);
-    stream.extend_puncts([Punct::new('+', Spacing::Joint)])?;
+fn deep_groups(rt: &(impl Abort + AllocGlobal), levels: u32) -> TokenStream {
+    let mut stream = TokenStream::new(rt.alloc());
+    let plus = Punct::new('+', Spacing::Joint);
+    stream.extend_puncts([plus]).expect(rt, "+");
     for _ in 0..levels {
-        let group = Group::new(Delimiter::Parenthesis, stream);
-        stream = TokenStream::from_tree(alloc, TokenTree::Group(group))?;
+        stream = in_parentheses(rt, stream);
     }
-    Ok(stream)
+    stream
 }
 
-/// Returns a quote of the stream.
-pub fn quote_of(alloc: Global, stream: TokenStream) -> Result<Quote, Fail> {
-    let mut quote = Quote::new(alloc);
-    quote.push_stream(stream)?;
-    Ok(quote)
+/// Asserts that the quote has a well spaced stream of this many trees.
+fn is_spaced(rt: &impl Abort, quote: &Quote, row: &str, count: usize) {
+    let stream = finished(rt, quote, row);
+    let answer = (stream.trees().len(), stream.is_well_spaced());
+    release(stream);
+    check_answer(rt, row, &answer, &(count, true));
 }
 
 #[test]
-fn deep_groups_are_respaced_without_a_deep_stack(rt: HostRuntime) -> Result<(), Fail> {
-    let quote = quote_of(rt.alloc(), deep_groups(rt.alloc(), 100_000)?)?;
-    assert!(rt; quote.finish()?.is_well_spaced());
-    Ok(())
+fn deep_groups_are_respaced_without_a_deep_stack(rt: HostRuntime) {
+    let mut quote = Quote::new(rt.alloc());
+    let stream = deep_groups(&rt, 100_000);
+    quote.push_stream(stream).expect(&rt, "deep groups");
+    is_spaced(&rt, &quote, "deep groups", 1);
+    release(quote);
+}
+
+/// Adds the tree to the quote.
+fn push(rt: &impl Abort, quote: &mut Quote, tree: TokenTree) {
+    quote.push(tree).expect(rt, "a tree");
 }
 
 /// Returns what a quote has after these were pushed: an Alone quote, the stream in a group without delimiters, and a
 /// Joint mark.
-fn quote_of_pushes(alloc: Global, stream: TokenStream) -> Result<TokenStream, Fail> {
-    let mut quote = Quote::new(alloc);
-    quote.push(TokenTree::Punct(Punct::new('\'', Spacing::Alone)))?;
-    quote.push(TokenTree::Group(Group::new(Delimiter::None, stream)))?;
-    quote.push(TokenTree::Punct(Punct::new('+', Spacing::Joint)))?;
-    Ok(quote.into_stream())
+fn quote_of_pushes(rt: &(impl Abort + AllocGlobal), stream: TokenStream) -> TokenStream {
+    let mut quote = Quote::new(rt.alloc());
+    let first = TokenTree::Punct(Punct::new('\'', Spacing::Alone));
+    push(rt, &mut quote, first);
+    let group = TokenTree::Group(Group::new(Delimiter::None, stream));
+    push(rt, &mut quote, group);
+    let last = TokenTree::Punct(Punct::new('+', Spacing::Joint));
+    push(rt, &mut quote, last);
+    quote.into_stream()
 }
 
 /// Returns the spacing of the mark before a group, the group's delimiter and first tree, and the spacing of the mark
@@ -270,82 +267,63 @@ fn text_of(map: &SourceMap, span: Span) -> Option<&str> {
     }
 }
 
+/// Returns the parts of the stream, with the text of the first tree in the group.
+fn texts_of<'m>(
+    map: &'m SourceMap,
+    stream: &TokenStream,
+) -> Option<(Spacing, Delimiter, Option<&'m str>, Spacing)> {
+    let (first, delimiter, name, last) = parts_of(stream)?;
+    Some((first, delimiter, text_of(map, name.span()), last))
+}
+
 #[test]
-fn a_stream_has_exactly_what_was_pushed(rt: HostRuntime) -> Result<(), Fail> {
+fn a_stream_has_exactly_what_was_pushed(rt: HostRuntime) {
     let mut map = SourceMap::new(rt.alloc());
-    let name = TokenStream::from_str("a", &mut map)?;
-    let stream = quote_of_pushes(rt.alloc(), name)?;
-    let found = match parts_of(&stream) {
-        Some((first, delimiter, name, last)) => {
-            Some((first, delimiter, text_of(&map, name.span()), last))
-        }
-        None => None,
-    };
+    let name = TokenStream::from_str("a", &mut map).expect(&rt, "a");
+    let stream = quote_of_pushes(&rt, name);
     let want = (Spacing::Alone, Delimiter::None, Some("a"), Spacing::Joint);
-    assert_eq!(rt; found, Some(want));
-    Ok(())
-}
-
-/// Asserts that the error has this message.
-fn says<T: Display>(
-    rt: &(impl Abort + AllocGlobal),
-    error: &T,
-    want: &str,
-) -> Result<(), AllocError> {
-    let text = format!(in rt.alloc(); "{error}")?;
-    assert_eq!(rt; text.as_str(), want);
-    Ok(())
-}
-
-/// Asserts that the error has this `Debug` text.
-fn shows<T: Debug>(
-    rt: &(impl Abort + AllocGlobal),
-    error: &T,
-    want: &str,
-) -> Result<(), AllocError> {
-    let text = format!(in rt.alloc(); "{error:?}")?;
-    assert_eq!(rt; text.as_str(), want);
-    Ok(())
+    check_answer(&rt, "' a +", &texts_of(&map, &stream), &Some(want));
+    release((map, stream));
 }
 
 #[test]
-fn errors_say_why(rt: HostRuntime) -> Result<(), AllocError> {
-    says(&rt, &QuoteError::NoneGroup, "a group has no delimiters")?;
-    shows(&rt, &QuoteError::LoneQuote, "LoneQuote")?;
+fn errors_say_why(rt: HostRuntime) {
+    let no_delimiters = "a group has no delimiters";
+    displays(&rt, &QuoteError::NoneGroup, "NoneGroup", no_delimiters);
+    shows(&rt, &QuoteError::LoneQuote, "LoneQuote");
     let no_hole = TemplateError::NoHole(Span::call_site());
-    shows(&rt, &no_hole, "NoHole(bytes(0..0))")?;
+    shows(&rt, &no_hole, "NoHole(bytes(0..0))");
     let map_full = TemplateError::Parse(ParseError::MapFull);
-    shows(&rt, &map_full, "Parse(MapFull)")
+    shows(&rt, &map_full, "Parse(MapFull)");
+    release((no_hole, map_full));
 }
 
 /// Adds a Joint mark, which `finish` makes Alone, and a group of a name to the quote.
-fn push_pair(rt: &(impl Abort + AllocGlobal), quote: &mut Quote) -> Result<(), Fail> {
-    quote.push(TokenTree::Punct(Punct::new('+', Spacing::Joint)))?;
-    let name = TokenStream::from_str("x", &mut SourceMap::new(rt.alloc()))?;
-    quote.push(TokenTree::Group(Group::new(Delimiter::Parenthesis, name)))?;
-    Ok(())
+fn push_pair(rt: &(impl Abort + AllocGlobal), quote: &mut Quote) {
+    let mark = TokenTree::Punct(Punct::new('+', Spacing::Joint));
+    push(rt, quote, mark);
+    let group = Group::new(Delimiter::Parenthesis, parse_text(rt, "x"));
+    push(rt, quote, TokenTree::Group(group));
 }
 
 #[test]
-fn forty_thousand_trees_are_finished(rt: HostRuntime) -> Result<(), Fail> {
+fn forty_thousand_trees_are_finished(rt: HostRuntime) {
     let mut quote = Quote::new(rt.alloc());
     for _ in 0..20_000 {
-        push_pair(&rt, &mut quote)?;
+        push_pair(&rt, &mut quote);
     }
-    let stream = quote.finish()?;
-    assert_eq!(rt; stream.trees().len(), 40_000);
-    assert!(rt; stream.is_well_spaced());
-    Ok(())
+    is_spaced(&rt, &quote, "+ (x) and so on", 40_000);
+    release(quote);
 }
 
 #[test]
-fn the_trees_of_a_text_go_between_others(rt: HostRuntime) -> Result<(), Fail> {
-    let mut quote = quote_with(
-        &rt,
-        &[Tree::One(Leaf::Name("x")), Tree::One(Leaf::Alone(':'))],
-    )?;
-    let kind = TokenStream::from_str("std::vec::Vec<u8>", &mut SourceMap::new(rt.alloc()))?;
-    quote.push_stream(kind)?;
-    quote.push(TokenTree::Punct(Punct::new(',', Spacing::Joint)))?;
-    check_quote(&rt, &quote, "x : std :: vec :: Vec < u8 > ,")
+fn the_trees_of_a_text_go_between_others(rt: HostRuntime) {
+    let before = &[Tree::One(Leaf::Name("x")), Tree::One(Leaf::Alone(':'))];
+    let mut quote = quote_with(&rt, before);
+    let kind = parse_text(&rt, "std::vec::Vec<u8>");
+    quote.push_stream(kind).expect(&rt, "a type");
+    let comma = TokenTree::Punct(Punct::new(',', Spacing::Joint));
+    push(&rt, &mut quote, comma);
+    check_quote(&rt, &quote, "x : std :: vec :: Vec < u8 > ,");
+    release(quote);
 }

@@ -1,10 +1,9 @@
 // Templates, as a program that generates code uses them.
+use crate::checks::{check_answer, display_text, displays, finished, parse_text, release};
 use crate::rows::check_quote;
 use proc_macro2::{SourceMap, Span, TokenStream, TokenTree};
 use quoting::{Hole, Quote, TemplateError};
-use std::alloc::{AllocError, Global};
 use std::process::Abort;
-use std::test::Fail;
 
 /// The holes of a template: the name and the text of each hole of one stream, and the name and the texts of each hole
 /// of a list.
@@ -21,110 +20,93 @@ struct Fillings {
     lists: Vec<Vec<TokenStream>>,
 }
 
-fn parse_text(alloc: Global, text: &str) -> Result<TokenStream, Fail> {
-    Ok(TokenStream::from_str(text, &mut SourceMap::new(alloc))?)
-}
-
-fn parsed_list(alloc: Global, texts: &[&str]) -> Result<Vec<TokenStream>, Fail> {
-    let mut streams = Vec::new(alloc);
-    for text in texts {
-        streams.push(parse_text(alloc, text)?)?;
+fn parsed_list(rt: &(impl Abort + AllocGlobal), texts: &[&str]) -> Vec<TokenStream> {
+    let mut streams = Vec::new(rt.alloc());
+    for &text in texts {
+        streams.push(parse_text(rt, text)).expect(rt, text);
     }
-    Ok(streams)
+    streams
 }
 
-fn parsed_ones(alloc: Global, ones: &[(&str, &str)]) -> Result<Vec<TokenStream>, Fail> {
-    let mut streams = Vec::new(alloc);
+fn parsed_ones(rt: &(impl Abort + AllocGlobal), ones: &[(&str, &str)]) -> Vec<TokenStream> {
+    let mut streams = Vec::new(rt.alloc());
     for &(_, text) in ones {
-        streams.push(parse_text(alloc, text)?)?;
+        streams.push(parse_text(rt, text)).expect(rt, text);
     }
-    Ok(streams)
+    streams
 }
 
-fn parsed_lists(alloc: Global, lists: &[(&str, &[&str])]) -> Result<Vec<Vec<TokenStream>>, Fail> {
-    let mut parsed = Vec::new(alloc);
-    for &(_, texts) in lists {
-        parsed.push(parsed_list(alloc, texts)?)?;
+fn parsed_lists(
+    rt: &(impl Abort + AllocGlobal),
+    lists: &[(&str, &[&str])],
+) -> Vec<Vec<TokenStream>> {
+    let mut parsed = Vec::new(rt.alloc());
+    for &(name, texts) in lists {
+        parsed.push(parsed_list(rt, texts)).expect(rt, name);
     }
-    Ok(parsed)
+    parsed
 }
 
-fn parsed_holes(alloc: Global, given: Given) -> Result<Fillings, Fail> {
-    let ones = parsed_ones(alloc, given.ones)?;
-    let lists = parsed_lists(alloc, given.lists)?;
-    Ok(Fillings { ones, lists })
+fn parsed_holes(rt: &(impl Abort + AllocGlobal), given: Given) -> Fillings {
+    let ones = parsed_ones(rt, given.ones);
+    let lists = parsed_lists(rt, given.lists);
+    Fillings { ones, lists }
 }
 
 /// Returns the holes with these names and with the parsed streams.
 fn holes<'a>(
-    alloc: Global,
+    rt: &(impl Abort + AllocGlobal),
     given: Given,
     fillings: &'a Fillings,
-) -> Result<Vec<Hole<'a>>, AllocError> {
-    let mut holes = Vec::new(alloc);
+) -> Vec<Hole<'a>> {
+    let mut holes = Vec::new(rt.alloc());
     for (&(name, _), stream) in given.ones.iter().zip(fillings.ones.iter()) {
-        holes.push(Hole::one(name, stream))?;
+        holes.push(Hole::one(name, stream)).expect(rt, name);
     }
     for (&(name, _), streams) in given.lists.iter().zip(fillings.lists.iter()) {
-        holes.push(Hole::each(name, streams.as_slice()))?;
+        let hole = Hole::each(name, streams.as_slice());
+        holes.push(hole).expect(rt, name);
     }
-    Ok(holes)
+    holes
 }
 
-/// Returns the printed text of the template, filled with these holes.
-fn filled_by(alloc: Global, template: &str, holes: &[Hole<'_>]) -> Result<String, Fail> {
-    let mut quote = Quote::new(alloc);
-    quote.parse(template, &mut SourceMap::new(alloc), holes)?;
-    let stream = quote.finish()?;
-    Ok(format!(in alloc; "{stream}")?)
-}
-
-/// Returns the printed text of the filled template.
-fn filled_text(alloc: Global, template: &str, given: Given) -> Result<String, Fail> {
-    let fillings = parsed_holes(alloc, given)?;
-    let holes = holes(alloc, given, &fillings)?;
-    filled_by(alloc, template, holes.as_slice())
+/// Returns the stream of the template, filled with these holes.
+fn filled_by(rt: &(impl Abort + AllocGlobal), template: &str, holes: &[Hole<'_>]) -> TokenStream {
+    let mut quote = Quote::new(rt.alloc());
+    let mut map = SourceMap::new(rt.alloc());
+    quote.parse(template, &mut map, holes).expect(rt, template);
+    let stream = finished(rt, &quote, template);
+    release((quote, map));
+    stream
 }
 
 /// Asserts the printed text of the filled template.
-fn check_filled(
+fn check_filled(rt: &(impl Abort + AllocGlobal), template: &str, given: Given, want: &str) {
+    let fillings = parsed_holes(rt, given);
+    let holes = holes(rt, given, &fillings);
+    let stream = filled_by(rt, template, holes.as_slice());
+    displays(rt, &stream, template, want);
+    release((holes, stream));
+    release(fillings);
+}
+
+/// Returns the columns of the start and end of the error's span, if the map holds it.
+fn columns_of(error: &TemplateError, map: &SourceMap) -> Option<(usize, usize)> {
+    match span_of(error) {
+        Some(span) if map.holds(span) => Some((span.start(map).column, span.end(map).column)),
+        _ => None,
+    }
+}
+
+/// Asserts the message of the template's error, and the columns of its start and end.
+fn check_error(
     rt: &(impl Abort + AllocGlobal),
     template: &str,
-    given: Given,
-    want: &str,
-) -> Result<(), Fail> {
-    let code = filled_text(rt.alloc(), template, given)?;
-    assert_eq!(rt; code.as_str(), want, "of {template:?}");
-    Ok(())
-}
-
-/// Returns the message of the error and the columns of its start and end.
-fn message_of(
-    alloc: Global,
-    error: &TemplateError,
-    map: &SourceMap,
-) -> Result<Option<(String, usize, usize)>, AllocError> {
-    let message = format!(in alloc; "{error}")?;
-    Ok(match span_of(error) {
-        Some(span) if map.holds(span) => {
-            Some((message, span.start(map).column, span.end(map).column))
-        }
-        _ => None,
-    })
-}
-
-/// Returns the template's error: its message and the columns of its start and end.
-fn fault(
-    alloc: Global,
-    template: &str,
-    holes: &[Hole<'_>],
-) -> Result<Option<(String, usize, usize)>, AllocError> {
-    let mut map = SourceMap::new(alloc);
-    let mut quote = Quote::new(alloc);
-    match quote.parse(template, &mut map, holes) {
-        Ok(()) => Ok(None),
-        Err(error) => message_of(alloc, &error, &map),
-    }
+    (error, map): (&TemplateError, &SourceMap),
+    (message, start, end): (&str, usize, usize),
+) {
+    displays(rt, error, template, message);
+    check_answer(rt, template, &columns_of(error, map), &Some((start, end)));
 }
 
 fn span_of(error: &TemplateError) -> Option<Span> {
@@ -150,20 +132,21 @@ fn text_of<'m>(tree: &TokenTree, map: &'m SourceMap) -> Option<&'m str> {
     }
 }
 
+/// Asserts that the template, filled with these holes, has this error.
 fn check_fault(
     rt: &(impl Abort + AllocGlobal),
     template: &str,
     holes: &[Hole<'_>],
     want: (&str, usize, usize),
-) -> Result<(), AllocError> {
-    match fault(rt.alloc(), template, holes)? {
-        Some((message, start, end)) => {
-            assert_eq!(rt; message.as_str(), want.0, "of {template:?}");
-            assert_eq!(rt; (start, end), (want.1, want.2), "of {template:?}");
-        }
-        None => assert!(rt; false, "no fault of {template:?}"),
+) {
+    let mut map = SourceMap::new(rt.alloc());
+    let mut quote = Quote::new(rt.alloc());
+    let found = quote.parse(template, &mut map, holes);
+    match &found {
+        Err(error) => check_error(rt, template, (error, &map), want),
+        Ok(()) => assert!(rt; false, "no fault of {template:?}"),
     }
-    Ok(())
+    release((map, quote, found));
 }
 
 /// Asserts the error of each template, filled with the same holes.
@@ -171,13 +154,14 @@ fn check_faults(
     rt: &(impl Abort + AllocGlobal),
     given: Given,
     rows: &[(&str, (&str, usize, usize))],
-) -> Result<(), Fail> {
-    let fillings = parsed_holes(rt.alloc(), given)?;
-    let holes = holes(rt.alloc(), given, &fillings)?;
+) {
+    let fillings = parsed_holes(rt, given);
+    let holes = holes(rt, given, &fillings);
     for &(template, want) in rows {
-        check_fault(rt, template, holes.as_slice(), want)?;
+        check_fault(rt, template, holes.as_slice(), want);
     }
-    Ok(())
+    release(holes);
+    release(fillings);
 }
 
 /// Templates, their holes, and the printed text.
@@ -247,46 +231,43 @@ const BORROWED: Given = Given {
 };
 
 #[test]
-fn templates_are_filled(rt: HostRuntime) -> Result<(), Fail> {
+fn templates_are_filled(rt: HostRuntime) {
     for &(template, given, want) in FILLED {
-        check_filled(&rt, template, given, want)?;
+        check_filled(&rt, template, given, want);
     }
-    Ok(())
 }
 
-/// Adds the template to the quote, with this stream for the hole `name`.
+/// Returns the stream of the template, with this stream for the hole `name`.
 fn name_filled(
-    quote: &mut Quote,
+    rt: &(impl Abort + AllocGlobal),
     template: &str,
     map: &mut SourceMap,
     name: &TokenStream,
-) -> Result<(), TemplateError> {
+) -> TokenStream {
+    let mut quote = Quote::new(rt.alloc());
     let holes = [Hole::one("name", name)];
-    quote.parse(template, map, &holes)
+    quote.parse(template, map, &holes).expect(rt, template);
+    let stream = finished(rt, &quote, template);
+    release(quote);
+    stream
+}
+
+/// Asserts the source text of each tree.
+fn check_texts(rt: &impl Abort, trees: &[TokenTree], map: &SourceMap, wants: &[&str]) {
+    check_answer(rt, "the trees", &trees.len(), &wants.len());
+    for (tree, &want) in trees.iter().zip(wants.iter()) {
+        check_answer(rt, want, &text_of(tree, map), &Some(want));
+    }
 }
 
 #[test]
-fn tokens_of_the_template_and_of_the_holes_keep_their_spans(rt: HostRuntime) -> Result<(), Fail> {
-    let alloc = rt.alloc();
-    let mut map = SourceMap::new(alloc);
-    let name = TokenStream::from_str("point", &mut map)?;
-    let mut quote = Quote::new(alloc);
-    name_filled(&mut quote, "let #name = (1);", &mut map, &name)?;
-    let stream = quote.finish()?;
-    let [word, name, equals, group, end] = stream.trees() else {
-        assert!(rt; false, "five trees");
-        return Ok(());
-    };
-    for (tree, want) in [
-        (word, "let"),
-        (name, "point"),
-        (equals, "="),
-        (group, "(1)"),
-        (end, ";"),
-    ] {
-        assert_eq!(rt; text_of(tree, &map), Some(want));
-    }
-    Ok(())
+fn tokens_of_the_template_and_of_the_holes_keep_their_spans(rt: HostRuntime) {
+    let mut map = SourceMap::new(rt.alloc());
+    let name = TokenStream::from_str("point", &mut map).expect(&rt, "point");
+    let stream = name_filled(&rt, "let #name = (1);", &mut map, &name);
+    let wants = &["let", "point", "=", "(1)", ";"];
+    check_texts(&rt, stream.trees(), &map, wants);
+    release((name, stream, map));
 }
 
 /// A hole of one stream, and holes of lists of two, three and no streams.
@@ -300,8 +281,8 @@ const HOLES: Given = Given {
 };
 
 #[test]
-fn each_fault_has_its_span(rt: HostRuntime) -> Result<(), Fail> {
-    let rows = [
+fn each_fault_has_its_span(rt: HostRuntime) {
+    let rows = &[
         ("#x + #y", ("no hole of this name", 6, 7)),
         ("#r#x", ("no hole of this name", 1, 4)),
         ("f(#two)", ("a list outside of a repetition", 3, 6)),
@@ -316,14 +297,14 @@ fn each_fault_has_its_span(rt: HostRuntime) -> Result<(), Fail> {
         ),
         ("#( #two #z #three )*", ("no hole of this name", 9, 10)),
     ];
-    check_faults(&rt, HOLES, &rows)
+    check_faults(&rt, HOLES, rows);
 }
 
 #[test]
-fn parentheses_come_before_what_is_wrong_inside(rt: HostRuntime) -> Result<(), Fail> {
+fn parentheses_come_before_what_is_wrong_inside(rt: HostRuntime) {
     let no_hole = "no hole of this name";
     let no_list = "a repetition that names no list";
-    let rows = [
+    let rows = &[
         // No list is named. This error comes before any error inside.
         ("#( #missing )*", (no_list, 1, 13)),
         ("#( [#missing] )*", (no_list, 1, 15)),
@@ -352,97 +333,108 @@ fn parentheses_come_before_what_is_wrong_inside(rt: HostRuntime) -> Result<(), F
         ("#( #x )* #missing", (no_list, 1, 7)),
         ("(#two) #( #x )*", ("a list outside of a repetition", 2, 5)),
     ];
-    check_faults(&rt, HOLES, &rows)
+    check_faults(&rt, HOLES, rows);
 }
 
 /// Returns a text in nested parentheses, between two others.
 fn deep(
-    alloc: Global,
-    before: &str,
-    inside: &str,
-    after: &str,
+    rt: &(impl Abort + AllocGlobal),
+    (before, inside, after): (&str, &str, &str),
     levels: usize,
-) -> Result<String, AllocError> {
-    let mut text = String::from_str(alloc, before)?;
+) -> String {
+    let mut text = String::from_str(rt.alloc(), before).expect(rt, before);
     for _ in 0..levels {
-        text.push('(')?;
+        text.push('(').expect(rt, "(");
     }
-    text.push_str(inside)?;
+    text.push_str(inside).expect(rt, inside);
     for _ in 0..levels {
-        text.push(')')?;
+        text.push(')').expect(rt, ")");
     }
-    text.push_str(after)?;
-    Ok(text)
+    text.push_str(after).expect(rt, after);
+    text
 }
 
 /// Asserts the error of a template whose middle part is in nested parentheses.
 fn check_deep(
     rt: &(impl Abort + AllocGlobal),
-    (before, inside, after): (&str, &str, &str),
+    parts: (&str, &str, &str),
     levels: usize,
     want: (&str, usize, usize),
-) -> Result<(), Fail> {
-    let template = deep(rt.alloc(), before, inside, after, levels)?;
-    check_faults(rt, HOLES, &[(template.as_str(), want)])
+) {
+    let template = deep(rt, parts, levels);
+    check_faults(rt, HOLES, &[(template.as_str(), want)]);
 }
 
 #[test]
-fn a_list_is_found_deeper_than_groups_may_nest(rt: HostRuntime) -> Result<(), Fail> {
+fn a_list_is_found_deeper_than_groups_may_nest(rt: HostRuntime) {
     let too_deep = "groups nested too deep";
-    let rows = [
-        ("#( ", "#two", " )*", 64, (too_deep, 66, 72)),
-        (
-            "#( ",
-            "#x",
-            " )*",
-            64,
-            ("a repetition that names no list", 1, 135),
-        ),
+    let no_list = "a repetition that names no list";
+    let rows = &[
+        (("#( ", "#two", " )*"), 64, (too_deep, 66, 72)),
+        (("#( ", "#x", " )*"), 64, (no_list, 1, 135)),
         // At one pair of parentheses `TooDeep` comes before `NoList`.
-        ("", "#( #x )*", "", 64, (too_deep, 65, 71)),
-        ("", "#( #two #( #x )* )*", "", 63, (too_deep, 72, 78)),
-        ("", "#( #two [#x] )*", "", 63, (too_deep, 71, 75)),
+        (("", "#( #x )*", ""), 64, (too_deep, 65, 71)),
+        (("", "#( #two #( #x )* )*", ""), 63, (too_deep, 72, 78)),
+        (("", "#( #two [#x] )*", ""), 63, (too_deep, 71, 75)),
     ];
-    for (before, inside, after, levels, want) in rows {
-        check_deep(&rt, (before, inside, after), levels, want)?;
+    for &(parts, levels, want) in rows {
+        check_deep(&rt, parts, levels, want);
     }
-    Ok(())
 }
 
 #[test]
-fn groups_nest_64_deep(rt: HostRuntime) -> Result<(), Fail> {
-    let template = deep(rt.alloc(), "", "x", "", 64)?;
-    let code = filled_by(rt.alloc(), template.as_str(), &[])?;
-    assert_eq!(rt; code.len(), 129);
-    check_deep(&rt, ("", "x", ""), 65, ("groups nested too deep", 64, 67))
+fn groups_nest_64_deep(rt: HostRuntime) {
+    let template = deep(&rt, ("", "x", ""), 64);
+    let stream = filled_by(&rt, template.as_str(), &[]);
+    let code = display_text(&rt, &stream);
+    check_answer(&rt, "64 pairs", &code.len(), &129);
+    release((template, stream, code));
+    check_deep(&rt, ("", "x", ""), 65, ("groups nested too deep", 64, 67));
+}
+
+/// Returns whether the template is rejected, and whether for a syntax error of its text.
+fn refusal(rt: &impl AllocGlobal, quote: &mut Quote, template: &str) -> (bool, bool) {
+    let mut map = SourceMap::new(rt.alloc());
+    let found = quote.parse(template, &mut map, &[]);
+    let answer = (
+        found.is_err(),
+        matches!(&found, Err(TemplateError::Parse(_))),
+    );
+    release((map, found));
+    answer
 }
 
 /// Asserts that a missing hole and a syntax error of the text are rejected.
 fn check_refused(rt: &(impl Abort + AllocGlobal), quote: &mut Quote) {
-    let mut map = SourceMap::new(rt.alloc());
-    assert!(rt; quote.parse("b #y", &mut map, &[]).is_err());
-    assert!(rt;
-        matches!(
-            quote.parse("b (", &mut map, &[]),
-            Err(TemplateError::Parse(_))
-        )
-    );
+    let (is_refused, _) = refusal(rt, quote, "b #y");
+    check_answer(rt, "b #y", &is_refused, &true);
+    let answer = refusal(rt, quote, "b (");
+    check_answer(rt, "b (", &answer, &(true, true));
 }
 
 /// Adds the template `#x;` to the quote, with `a` for its hole.
-fn fill(alloc: Global, quote: &mut Quote) -> Result<(), Fail> {
-    let one = parse_text(alloc, "a")?;
-    let template = parse_text(alloc, "#x;")?;
-    quote.fill(&template, &[Hole::one("x", &one)])?;
-    Ok(())
+fn fill(rt: &(impl Abort + AllocGlobal), quote: &mut Quote) {
+    let one = parse_text(rt, "a");
+    let template = parse_text(rt, "#x;");
+    let holes = [Hole::one("x", &one)];
+    quote.fill(&template, &holes).expect(rt, "#x;");
+    release((one, template));
+}
+
+/// Asserts that the first tree of the quote's stream is an identifier.
+fn begins_with_a_word(rt: &impl Abort, quote: &Quote, row: &str) {
+    let stream = finished(rt, quote, row);
+    let is_word = matches!(stream.trees().first(), Some(TokenTree::Ident(_)));
+    release(stream);
+    check_answer(rt, row, &is_word, &true);
 }
 
 #[test]
-fn a_fault_leaves_the_quote_as_it_was(rt: HostRuntime) -> Result<(), Fail> {
+fn a_fault_leaves_the_quote_as_it_was(rt: HostRuntime) {
     let mut quote = Quote::new(rt.alloc());
-    fill(rt.alloc(), &mut quote)?;
+    fill(&rt, &mut quote);
     check_refused(&rt, &mut quote);
-    check_quote(&rt, &quote, "a ;")?;
-    assert!(rt; matches!(quote.finish()?.trees().first(), Some(TokenTree::Ident(_))));
-    Ok(())
+    check_quote(&rt, &quote, "a ;");
+    begins_with_a_word(&rt, &quote, "a ;");
+    release(quote);
 }

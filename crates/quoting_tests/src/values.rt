@@ -1,135 +1,151 @@
 //! Values of every kind in the holes of templates, and lists of lists.
+use crate::checks::{check_answer, displays, parse_text, release};
 use proc_macro2::{Ident, Literal, SourceMap, Span, TokenStream, TokenTree};
 use quoting::{Hole, Number, Quote, TemplateError, Value, Values};
-use std::alloc::{AllocError, Global};
 use std::process::Abort;
-use std::test::Fail;
 
-/// Returns the printed text of the template with these holes.
-fn filled_text(alloc: Global, template: &str, holes: &[Hole<'_>]) -> Result<String, TemplateError> {
-    let mut quote = Quote::new(alloc);
-    quote.parse(template, &mut SourceMap::new(alloc), holes)?;
-    let stream = quote.into_stream();
-    Ok(format!(in alloc; "{stream}")?)
+/// Returns the stream of the template with these holes.
+fn filled_text(rt: &(impl Abort + AllocGlobal), template: &str, holes: &[Hole<'_>]) -> TokenStream {
+    let mut quote = Quote::new(rt.alloc());
+    let mut map = SourceMap::new(rt.alloc());
+    quote.parse(template, &mut map, holes).expect(rt, template);
+    release(map);
+    quote.into_stream()
 }
 
-/// Returns the printed text of the template with this value for `x`.
-fn printed_text<'a>(
-    alloc: Global,
+/// Asserts the printed text of the template with these holes.
+fn check_holes(rt: &(impl Abort + AllocGlobal), template: &str, holes: &[Hole<'_>], want: &str) {
+    let stream = filled_text(rt, template, holes);
+    displays(rt, &stream, template, want);
+    release(stream);
+}
+
+/// Asserts the printed text of the template with this value for `x`, which is lent.
+fn check_lent<'a>(
+    rt: &(impl Abort + AllocGlobal),
     template: &str,
     value: &'a Value<'a>,
-) -> Result<String, TemplateError> {
+    want: &str,
+) {
     let holes = [Hole::of("x", value)];
-    filled_text(alloc, template, &holes)
-}
-
-/// The error of a template, its column, and the number of trees in the quote after it.
-type ErrorCase = (TemplateError, Option<usize>, usize);
-
-/// Returns the error of the template with these holes.
-fn message_of(alloc: Global, template: &str, holes: &[Hole<'_>]) -> Option<ErrorCase> {
-    let mut quote = Quote::new(alloc);
-    let mut map = SourceMap::new(alloc);
-    let Err(fault) = quote.parse(template, &mut map, holes) else {
-        return None;
-    };
-    let column = match fault.span() {
-        Some(span) if map.holds(span) => Some(span.start(&map).column),
-        _ => None,
-    };
-    Some((fault, column, quote.into_stream().trees().len()))
-}
-
-/// Returns the error of `a b #x` with this value for `x`.
-fn fault_of<'a>(alloc: Global, value: &'a Value<'a>) -> Option<ErrorCase> {
-    let holes = [Hole::of("x", value)];
-    message_of(alloc, "a b #x", &holes)
-}
-
-/// Asserts that a hole with this value is an error at its name, which leaves the quote empty. Returns the error.
-fn check_fault<'a>(rt: &(impl Abort + AllocGlobal), value: &'a Value<'a>) -> Option<TemplateError> {
-    let Some((fault, column, count)) = fault_of(rt.alloc(), value) else {
-        assert!(rt; false, "a fault");
-        return None;
-    };
-    assert_eq!(rt; (column, count), (Some(5), 0));
-    Some(fault)
-}
-
-fn word(alloc: Global, text: &str) -> Result<Ident, Fail> {
-    Ok(Ident::new(alloc, text, Span::call_site())?)
+    check_holes(rt, template, &holes, want);
 }
 
 /// Asserts the printed text of the template with this value for `x`.
-fn check<'a>(
-    rt: &(impl Abort + AllocGlobal),
-    template: &str,
-    value: &'a Value<'a>,
-    want: &str,
-) -> Result<(), Fail> {
-    let text = printed_text(rt.alloc(), template, value)?;
-    assert_eq!(rt; text.as_str(), want, "of {template:?}");
-    Ok(())
+fn check(rt: &(impl Abort + AllocGlobal), template: &str, value: Value<'_>, want: &str) {
+    check_lent(rt, template, &value, want);
+    release(value);
+}
+
+/// Returns the column of the error's span, if the map holds it.
+fn column_of(error: &TemplateError, map: &SourceMap) -> Option<usize> {
+    match error.span() {
+        Some(span) if map.holds(span) => Some(span.start(map).column),
+        _ => None,
+    }
+}
+
+/// Returns the name of the error's variant, of those that these tests expect.
+fn kind(error: &TemplateError) -> &'static str {
+    match error {
+        TemplateError::NotIdent(_) => "NotIdent",
+        TemplateError::NotFinite(_) => "NotFinite",
+        TemplateError::LoneList(_) => "LoneList",
+        TemplateError::NoList(_) => "NoList",
+        _ => "none of these",
+    }
+}
+
+/// The variant of a template's error, its column, and the number of trees in the quote after it.
+type ErrorCase = (&'static str, Option<usize>, usize);
+
+/// Returns the error of the template with these holes.
+fn fault_of(rt: &impl AllocGlobal, template: &str, holes: &[Hole<'_>]) -> ErrorCase {
+    let mut quote = Quote::new(rt.alloc());
+    let mut map = SourceMap::new(rt.alloc());
+    let found = quote.parse(template, &mut map, holes);
+    let (kind, column) = match &found {
+        Ok(()) => ("no error", None),
+        Err(error) => (kind(error), column_of(error, &map)),
+    };
+    let stream = quote.into_stream();
+    let count = stream.trees().len();
+    release((map, found, stream));
+    (kind, column, count)
+}
+
+/// Returns the error of `a b #x` with this value for `x`.
+fn value_fault<'a>(rt: &impl AllocGlobal, value: &'a Value<'a>) -> ErrorCase {
+    let holes = [Hole::of("x", value)];
+    fault_of(rt, "a b #x", &holes)
+}
+
+/// Asserts that a hole with this value is this error at its name, which leaves the quote empty.
+fn check_fault(rt: &(impl Abort + AllocGlobal), value: Value<'_>, want: &'static str) {
+    let found = value_fault(rt, &value);
+    check_answer(rt, "a b #x", &found, &(want, Some(5), 0));
+    release(value);
+}
+
+fn word(rt: &(impl Abort + AllocGlobal), text: &str) -> Ident {
+    Ident::new(rt.alloc(), text, Span::call_site()).expect(rt, text)
+}
+
+fn string(rt: &(impl Abort + AllocGlobal), text: &str) -> Literal {
+    Literal::string(rt.alloc(), text).expect(rt, text)
+}
+
+fn small(rt: &(impl Abort + AllocGlobal), number: i8) -> Literal {
+    Literal::i8_unsuffixed(rt.alloc(), number).expect(rt, "a number")
 }
 
 /// Asserts the printed text of the template with the stream for `x`, lent and given.
-fn check_stream(
-    rt: &(impl Abort + AllocGlobal),
-    stream: TokenStream,
-    want: &str,
-) -> Result<(), Fail> {
-    check(rt, "(#x, #x)", &Value::Stream(&stream), want)?;
-    check(rt, "(#x, #x)", &Value::OwnedStream(stream), want)
+fn check_stream(rt: &(impl Abort + AllocGlobal), stream: TokenStream, want: &str) {
+    check(rt, "(#x, #x)", Value::Stream(&stream), want);
+    check(rt, "(#x, #x)", Value::OwnedStream(stream), want);
 }
 
 /// Asserts the printed text of the template with the tree for `x`, lent and given.
-fn check_tree(rt: &(impl Abort + AllocGlobal), tree: TokenTree, want: &str) -> Result<(), Fail> {
-    check(rt, "(#x, #x)", &Value::Tree(&tree), want)?;
-    check(rt, "(#x, #x)", &Value::OwnedTree(tree), want)
+fn check_tree(rt: &(impl Abort + AllocGlobal), tree: TokenTree, want: &str) {
+    check(rt, "(#x, #x)", Value::Tree(&tree), want);
+    check(rt, "(#x, #x)", Value::OwnedTree(tree), want);
 }
 
 #[test]
-fn streams_and_trees_are_put_in(rt: HostRuntime) -> Result<(), Fail> {
-    let stream = TokenStream::from_str("c + d", &mut SourceMap::new(rt.alloc()))?;
-    check_stream(&rt, stream, "(c + d , c + d)")?;
-    let tree = TokenTree::Literal(Literal::i8_suffixed(rt.alloc(), -4)?);
-    check_tree(&rt, tree, "(- 4i8 , - 4i8)")
+fn streams_and_trees_are_put_in(rt: HostRuntime) {
+    check_stream(&rt, parse_text(&rt, "c + d"), "(c + d , c + d)");
+    let literal = Literal::i8_suffixed(rt.alloc(), -4).expect(&rt, "-4i8");
+    check_tree(&rt, TokenTree::Literal(literal), "(- 4i8 , - 4i8)");
+}
+
+/// Asserts the printed text of the template with the literal for `x`.
+fn check_literal(rt: &(impl Abort + AllocGlobal), literal: Literal, want: &str) {
+    check(rt, "(#x, #x)", Value::Literal(&literal), want);
+    release(literal);
 }
 
 #[test]
-fn tokens_are_put_in(rt: HostRuntime) -> Result<(), Fail> {
-    let ident = word(rt.alloc(), "a")?;
-    check(&rt, "(#x, #x)", &Value::Ident(&ident), "(a , a)")?;
-    let literal = Literal::string(rt.alloc(), "b")?;
-    check(
-        &rt,
-        "(#x, #x)",
-        &Value::Literal(&literal),
-        "(\"b\" , \"b\")",
-    )?;
-    let negative = Literal::i8_unsuffixed(rt.alloc(), -3)?;
-    check(&rt, "(#x, #x)", &Value::Literal(&negative), "(- 3 , - 3)")
+fn tokens_are_put_in(rt: HostRuntime) {
+    let ident = word(&rt, "a");
+    check(&rt, "(#x, #x)", Value::Ident(&ident), "(a , a)");
+    release(ident);
+    check_literal(&rt, string(&rt, "b"), "(\"b\" , \"b\")");
+    check_literal(&rt, small(&rt, -3), "(- 3 , - 3)");
 }
 
 #[test]
-fn texts_and_truth_values_are_put_in(rt: HostRuntime) -> Result<(), Fail> {
-    let rows = [
-        ("(#x, #x)", Value::Nothing, "(,)"),
-        ("(#x, #x)", Value::Name("fn"), "(fn , fn)"),
-        ("#x", Value::String("\"\n"), "\"\\\"\\n\""),
-        ("#x", Value::Character('\''), "'\\''"),
-        ("(#x, #x)", Value::Boolean(true), "(true , true)"),
-        ("(#x, #x)", Value::Boolean(false), "(false , false)"),
-    ];
-    for (template, value, want) in &rows {
-        check(&rt, template, value, want)?;
-    }
-    Ok(())
+fn texts_and_truth_values_are_put_in(rt: HostRuntime) {
+    check(&rt, "(#x, #x)", Value::Nothing, "(,)");
+    check(&rt, "(#x, #x)", Value::Name("fn"), "(fn , fn)");
+    check(&rt, "#x", Value::String("\"\n"), "\"\\\"\\n\"");
+    check(&rt, "#x", Value::Character('\''), "'\\''");
+    check(&rt, "(#x, #x)", Value::Boolean(true), "(true , true)");
+    check(&rt, "(#x, #x)", Value::Boolean(false), "(false , false)");
 }
 
 #[test]
-fn numbers_have_their_suffix(rt: HostRuntime) -> Result<(), Fail> {
-    let rows = [
+fn numbers_have_their_suffix(rt: HostRuntime) {
+    let rows = &[
         (Number::U8(u8::MAX), "255u8"),
         (Number::U16(7), "7u16"),
         (Number::U32(7), "7u32"),
@@ -149,128 +165,115 @@ fn numbers_have_their_suffix(rt: HostRuntime) -> Result<(), Fail> {
         ),
         (Number::Isize(-1), "- 1isize"),
     ];
-    for &(number, want) in &rows {
-        let text = printed_text(rt.alloc(), "#x", &Value::Number(number))?;
-        assert_eq!(rt; text.as_str(), want);
-    }
-    Ok(())
-}
-
-/// Returns the name of the error's variant, of those that a value can have.
-fn kind(fault: Option<TemplateError>) -> &'static str {
-    match fault {
-        Some(TemplateError::NotIdent(_)) => "NotIdent",
-        Some(TemplateError::NotFinite(_)) => "NotFinite",
-        Some(TemplateError::LoneList(_)) => "LoneList",
-        _ => "none of these",
+    for &(number, want) in rows {
+        check(&rt, "#x", Value::Number(number), want);
     }
 }
 
 #[test]
 fn a_value_that_is_no_token_is_an_error_at_the_name_of_its_hole(rt: HostRuntime) {
-    let rows = [
-        (Value::Name("1"), "NotIdent"),
-        (Value::Name(""), "NotIdent"),
-        (Value::Name("a b"), "NotIdent"),
-        (Value::Name("r#a"), "NotIdent"),
-        (Value::NotFinite, "NotFinite"),
-        (Value::Streams(&[]), "LoneList"),
-        (Value::List(Values::new(rt.alloc())), "LoneList"),
-    ];
-    for (value, want) in &rows {
-        assert_eq!(rt; kind(check_fault(&rt, value)), *want);
+    for &name in &["1", "", "a b", "r#a"] {
+        check_fault(&rt, Value::Name(name), "NotIdent");
     }
+    check_fault(&rt, Value::NotFinite, "NotFinite");
+    check_fault(&rt, Value::Streams(&[]), "LoneList");
+    let list = Value::List(Values::new(rt.alloc()));
+    check_fault(&rt, list, "LoneList");
 }
 
 /// Asserts what a list of two streams prints, and a list of trees.
-fn check_streams(rt: &(impl Abort + AllocGlobal), each: &str) -> Result<(), Fail> {
-    let stream = TokenStream::from_str("a; b", &mut SourceMap::new(rt.alloc()))?;
-    check(rt, each, &Value::Trees(stream.trees()), "a , ; , b")?;
+fn check_streams(rt: &(impl Abort + AllocGlobal), each: &str) {
+    let stream = parse_text(rt, "a; b");
+    check(rt, each, Value::Trees(stream.trees()), "a , ; , b");
     let streams = [stream, TokenStream::new(rt.alloc())];
-    check(rt, each, &Value::Streams(&streams), "a ; b ,")
+    check(rt, each, Value::Streams(&streams), "a ; b ,");
+    release(streams);
 }
 
 /// Asserts what a list of two identifiers prints.
-fn check_idents(rt: &(impl Abort + AllocGlobal), each: &str) -> Result<(), Fail> {
-    let idents = [word(rt.alloc(), "a")?, word(rt.alloc(), "b")?];
-    check(rt, each, &Value::Idents(&idents), "a , b")
+fn check_idents(rt: &(impl Abort + AllocGlobal), each: &str) {
+    let idents = [word(rt, "a"), word(rt, "b")];
+    check(rt, each, Value::Idents(&idents), "a , b");
+    release(idents);
 }
 
 /// Asserts what a list of two literals prints.
-fn check_literals(rt: &(impl Abort + AllocGlobal), each: &str) -> Result<(), Fail> {
-    let text = Literal::string(rt.alloc(), "a")?;
-    let literals = [text, Literal::i8_unsuffixed(rt.alloc(), -1)?];
-    check(rt, each, &Value::Literals(&literals), "\"a\" , - 1")
+fn check_literals(rt: &(impl Abort + AllocGlobal), each: &str) {
+    let literals = [string(rt, "a"), small(rt, -1)];
+    check(rt, each, Value::Literals(&literals), "\"a\" , - 1");
+    release(literals);
+}
+
+/// Adds the value to the list.
+fn add(rt: &impl Abort, list: &mut Values, value: Value<'_>) {
+    list.push(value).expect(rt, "a list");
 }
 
 /// Asserts what a list of values prints.
-fn check_values(rt: &(impl Abort + AllocGlobal), each: &str) -> Result<(), Fail> {
+fn check_values(rt: &(impl Abort + AllocGlobal), each: &str) {
     let mut list = Values::new(rt.alloc());
-    list.push(Value::Number(Number::U8(1)))?;
-    list.push(Value::Nothing)?;
-    check(rt, each, &Value::List(list), "1u8 ,")
+    add(rt, &mut list, Value::Number(Number::U8(1)));
+    add(rt, &mut list, Value::Nothing);
+    check(rt, each, Value::List(list), "1u8 ,");
 }
 
 #[test]
-fn lists_of_every_kind_are_repeated(rt: HostRuntime) -> Result<(), Fail> {
+fn lists_of_every_kind_are_repeated(rt: HostRuntime) {
     let each = "#(#x),*";
-    check_streams(&rt, each)?;
-    check_idents(&rt, each)?;
-    check_literals(&rt, each)?;
-    check(&rt, each, &Value::Strings(&["a", "b"]), "\"a\" , \"b\"")?;
-    check_values(&rt, each)
+    check_streams(&rt, each);
+    check_idents(&rt, each);
+    check_literals(&rt, each);
+    check(&rt, each, Value::Strings(&["a", "b"]), "\"a\" , \"b\"");
+    check_values(&rt, each);
 }
 
 /// Returns a list of two strings.
-fn texts(alloc: Global) -> Result<Values, AllocError> {
-    let mut texts = Values::new(alloc);
-    texts.push(Value::String("n"))?;
-    texts.push(Value::String("m"))?;
-    Ok(texts)
+fn texts(rt: &(impl Abort + AllocGlobal)) -> Values {
+    let mut texts = Values::new(rt.alloc());
+    add(rt, &mut texts, Value::String("n"));
+    add(rt, &mut texts, Value::String("m"));
+    texts
 }
 
 /// Returns a list of two lists: one of two strings and one of one name.
-fn rows(alloc: Global) -> Result<Values, AllocError> {
-    let mut one = Values::new(alloc);
-    one.push(Value::Name("c"))?;
-    let mut rows = Values::new(alloc);
-    rows.push(Value::Strings(&["a", "b"]))?;
-    rows.push(Value::List(one))?;
-    Ok(rows)
+fn rows(rt: &(impl Abort + AllocGlobal)) -> Values {
+    let mut one = Values::new(rt.alloc());
+    add(rt, &mut one, Value::Name("c"));
+    let mut rows = Values::new(rt.alloc());
+    add(rt, &mut rows, Value::Strings(&["a", "b"]));
+    add(rt, &mut rows, Value::List(one));
+    rows
 }
 
-/// Returns the printed text of the template with these values for `value`, `name` and `all`.
-fn three_filled<'a>(
-    alloc: Global,
-    template: &str,
-    values: &'a Value<'a>,
-    names: &'a Value<'a>,
-    all: &'a Value<'a>,
-) -> Result<String, TemplateError> {
-    let holes = [
-        Hole::of("value", values),
-        Hole::of("name", names),
-        Hole::of("all", all),
-    ];
-    filled_text(alloc, template, &holes)
+/// A list of lists for `value`, a list for `name` and a name for `all`.
+#[derive(Drop)]
+struct Nested {
+    values: Value<'static>,
+    names: Value<'static>,
+    all: Value<'static>,
 }
 
-/// What the template prints with a list of lists for `value`, a list for `name` and a name for `all`.
-fn nested_text(alloc: Global, template: &str) -> Result<String, TemplateError> {
-    let values = rows(alloc)?;
-    let names = texts(alloc)?;
-    three_filled(
-        alloc,
-        template,
-        &Value::List(values),
-        &Value::List(names),
-        &Value::Name("z"),
-    )
+/// Returns the values of the nested repetitions.
+fn nested_values(rt: &(impl Abort + AllocGlobal)) -> Nested {
+    Nested {
+        values: Value::List(rows(rt)),
+        names: Value::List(texts(rt)),
+        all: Value::Name("z"),
+    }
+}
+
+/// Returns the holes of these values.
+fn three_holes(nested: &Nested) -> [Hole<'_>; 3] {
+    [
+        Hole::of("value", &nested.values),
+        Hole::of("name", &nested.names),
+        Hole::of("all", &nested.all),
+    ]
 }
 
 #[test]
-fn repetitions_are_nested(rt: HostRuntime) -> Result<(), Fail> {
-    let templates = [
+fn repetitions_are_nested(rt: HostRuntime) {
+    let templates = &[
         (
             "#( #name: [ #( #value ),* ] );*",
             "\"n\" : [\"a\" , \"b\"] ; \"m\" : [c]",
@@ -280,12 +283,18 @@ fn repetitions_are_nested(rt: HostRuntime) -> Result<(), Fail> {
             "\"a\" \"n\" z \"b\" \"n\" z c \"m\" z",
         ),
     ];
-    for &(template, want) in &templates {
-        let text = nested_text(rt.alloc(), template)?;
-        assert_eq!(rt; text.as_str(), want);
+    let nested = nested_values(&rt);
+    let holes = three_holes(&nested);
+    for &(template, want) in templates {
+        check_holes(&rt, template, &holes, want);
     }
     // The innermost repetition has no list left.
-    let fault = nested_text(rt.alloc(), "#( #( #( #value )* )* )*");
-    assert!(rt; matches!(fault, Err(TemplateError::NoList(_))));
-    Ok(())
+    check_no_list(&rt, "#( #( #( #value )* )* )*", &holes);
+    release(nested);
+}
+
+/// Asserts that a repetition of the template names no list.
+fn check_no_list(rt: &(impl Abort + AllocGlobal), template: &str, holes: &[Hole<'_>]) {
+    let (kind, _, _) = fault_of(rt, template, holes);
+    check_answer(rt, template, &kind, &"NoList");
 }

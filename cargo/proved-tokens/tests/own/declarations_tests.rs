@@ -6,6 +6,8 @@ mod any_items;
 #[cfg(test)]
 mod attributes;
 #[cfg(test)]
+mod checks;
+#[cfg(test)]
 mod compile_errors;
 #[cfg(test)]
 mod endings;

@@ -2,6 +2,8 @@
 //! Tests of quotes: printed texts of each kind of tree, the examples of the README, templates, and random trees.
 
 #[cfg(test)]
+mod checks;
+#[cfg(test)]
 mod random_trees;
 #[cfg(test)]
 mod rows;

@@ -3,10 +3,10 @@
 use crate::shim::prelude::{AllocGlobal, HostRuntime};
 
 // Generic parameters and predicates, with the number of trees in each part.
+use crate::declarations_tests::checks::{HeldText, check_answer, check_held, held_stream, parsed, release};
 use proved_tokens::declarations::{Fault, ParamKind, after_where, parse_param, parse_predicate, within_generics};
-use proved_tokens::proc_macro2::{Delimiter, Group, SourceMap, TokenStream, TokenTree};
+use proved_tokens::proc_macro2::TokenTree;
 use crate::shim::process::Abort;
-use crate::shim::test::Fail;
 
 /// An element of a list, or the error that comes instead.
 #[derive(Clone, Copy, Debug, PartialEq, Eq)]
@@ -32,65 +32,83 @@ fn fault_place(fault: &Fault) -> Part {
     }
 }
 
-/// Checks the parts of the parameters in each text.
-fn check_params(rt: &(impl Abort + AllocGlobal), rows: &[(&str, &[Part])]) -> Result<(), Fail> {
-    for (text, wanted) in rows {
-        let stream = TokenStream::from_str(text, &mut SourceMap::new())?;
-        let mut left = within_generics(stream.trees())?;
-        for part in *wanted {
-            if left.is_empty() {
-                assert!(*part == End, "{part:?} of {text:?}: the end");
-                continue;
-            }
-            match parse_param(left) {
-                Ok((param, rest)) => {
-                    let found = Param(
-                        param.kind,
-                        param.attributes.len(),
-                        param.name.len(),
-                        param.bounds.len(),
-                        param.default.len(),
-                    );
-                    assert!(*part == found, "{part:?} of {text:?}: {found:?}");
-                    left = rest;
-                }
-                Err(fault) => {
-                    let found = fault_place(&fault);
-                    assert!(*part == found, "{part:?} of {text:?}: {found:?}");
-                }
-            }
-        }
-    }
-    Ok(())
+fn param_parts(param: &proved_tokens::declarations::Param<'_>) -> Part {
+    Param(
+        param.kind,
+        param.attributes.len(),
+        param.name.len(),
+        param.bounds.len(),
+        param.default.len(),
+    )
 }
 
-fn check_predicates(rt: &(impl Abort + AllocGlobal), rows: &[(&str, &[Part])]) -> Result<(), Fail> {
-    for (text, wanted) in rows {
-        let stream = TokenStream::from_str(text, &mut SourceMap::new())?;
-        let mut left = after_where(stream.trees())?;
-        for part in *wanted {
-            if left.is_empty() {
-                assert!(*part == End, "{part:?} of {text:?}: the end");
-                continue;
-            }
-            match parse_predicate(left) {
-                Ok((predicate, rest)) => {
-                    let found = Predicate(predicate.bounded.len(), predicate.bounds.len());
-                    assert!(*part == found, "{part:?} of {text:?}: {found:?}");
-                    left = rest;
-                }
-                Err(fault) => {
-                    let found = fault_place(&fault);
-                    assert!(*part == found, "{part:?} of {text:?}: {found:?}");
-                }
-            }
-        }
+/// The first parameter, and the trees after it. An error leaves the trees as they are.
+fn first_param<'a>(trees: &'a [TokenTree]) -> (Part, &'a [TokenTree]) {
+    if trees.is_empty() {
+        return (End, trees);
     }
-    Ok(())
+    match parse_param(trees) {
+        Ok((param, rest)) => (param_parts(&param), rest),
+        Err(fault) => (fault_place(&fault), trees),
+    }
+}
+
+/// The first predicate, and the trees after it. An error leaves the trees as they are.
+fn first_predicate<'a>(trees: &'a [TokenTree]) -> (Part, &'a [TokenTree]) {
+    if trees.is_empty() {
+        return (End, trees);
+    }
+    match parse_predicate(trees) {
+        Ok((predicate, rest)) => (
+            Predicate(predicate.bounded.len(), predicate.bounds.len()),
+            rest,
+        ),
+        Err(fault) => (fault_place(&fault), trees),
+    }
+}
+
+/// Checks the parameters in the trees, which are those in the brackets of the text.
+fn check_params_in(rt: &impl Abort, text: &str, trees: &[TokenTree], wanted: &[Part]) {
+    let mut left = trees;
+    for &part in wanted {
+        let (found, rest) = first_param(left);
+        check_answer(rt, text, &found, &part);
+        left = rest;
+    }
+}
+
+/// Checks the predicates in the trees, which are those after `where` in the text.
+fn check_predicates_in(rt: &impl Abort, text: &str, trees: &[TokenTree], wanted: &[Part]) {
+    let mut left = trees;
+    for &part in wanted {
+        let (found, rest) = first_predicate(left);
+        check_answer(rt, text, &found, &part);
+        left = rest;
+    }
+}
+
+/// Checks the parts of the parameters in each text.
+fn check_params(rt: &(impl Abort + AllocGlobal), rows: &[(&str, &[Part])]) {
+    for &(text, wanted) in rows {
+        let stream = parsed(rt, text);
+        let inside = within_generics(stream.trees()).expect(text);
+        check_params_in(rt, text, inside, wanted);
+        release(stream);
+    }
+}
+
+/// Checks the parts of the predicates in each text.
+fn check_predicates(rt: &(impl Abort + AllocGlobal), rows: &[(&str, &[Part])]) {
+    for &(text, wanted) in rows {
+        let stream = parsed(rt, text);
+        let inside = after_where(stream.trees()).expect(text);
+        check_predicates_in(rt, text, inside, wanted);
+        release(stream);
+    }
 }
 
 #[test]
-fn parameters_have_their_parts_in_order() -> Result<(), Fail> {
+fn parameters_have_their_parts_in_order() {
     let rt = HostRuntime;
     check_params(
         &rt,
@@ -145,54 +163,43 @@ fn parameters_have_their_parts_in_order() -> Result<(), Fail> {
             ("<T = >", &[EndsAt(2)]),
             ("<# T>", &[FaultAt(1)]),
         ],
-    )
+    );
+}
+
+/// The first parameter, and how many trees come after it. After an error this is 0.
+fn first_count(trees: &[TokenTree]) -> (Part, usize) {
+    match parse_param(trees) {
+        Ok((param, rest)) => (param_parts(&param), rest.len()),
+        Err(fault) => (fault_place(&fault), 0),
+    }
+}
+
+/// Checks the first parameter of the text, and how many trees come after it.
+fn check_first(rt: &(impl Abort + AllocGlobal), text: HeldText<'_>, wanted: (Part, usize)) {
+    let stream = held_stream(rt, text);
+    let found = first_count(stream.trees());
+    release(stream);
+    check_held(rt, text, &found, &wanted);
 }
 
 // A macro by example passes `$b:block` so. No bound and no default of a type can be one.
 #[test]
-fn a_block_in_a_group_without_delimiters_is_a_default() -> Result<(), Fail> {
+fn a_block_in_a_group_without_delimiters_is_a_default() {
     let rt = HostRuntime;
-    for (before, after, wanted, rest) in [
-        (
-            "const N: A =",
-            ", T",
-            Param(ParamKind::Const, 0, 1, 1, 1),
-            1usize,
-        ),
-        ("const N: A =", "", Param(ParamKind::Const, 0, 1, 1, 1), 0),
+    let constant = Param(ParamKind::Const, 0, 1, 1, 1);
+    let rows = &[
+        ("const N: A =", ", T", constant, 1),
+        ("const N: A =", "", constant, 0),
         ("T =", ", U", FaultAt(2), 0),
         ("T: A +", ", U", FaultAt(4), 0),
-    ] {
-        let mut map = SourceMap::new();
-        let group = Group::new(
-            Delimiter::None,
-            TokenStream::from_str("{ 1 + 2 }", &mut map)?,
-        );
-        let mut stream = TokenStream::from_str(before, &mut map)?;
-        stream.extend_streams([TokenStream::from_tree(TokenTree::Group(group))?])?;
-        stream.extend_streams([TokenStream::from_str(after, &mut map)?])?;
-        let (found, left) = match parse_param(stream.trees()) {
-            Ok((param, left)) => (
-                Param(
-                    param.kind,
-                    param.attributes.len(),
-                    param.name.len(),
-                    param.bounds.len(),
-                    param.default.len(),
-                ),
-                left.len(),
-            ),
-            Err(fault) => (fault_place(&fault), 0),
-        };
-        assert!(found == wanted && left == rest,
-            "a block between {before:?} and {after:?}: {found:?}, {left} left"
-        );
+    ];
+    for &(before, after, wanted, rest) in rows {
+        check_first(&rt, (before, "{ 1 + 2 }", 1, after), (wanted, rest));
     }
-    Ok(())
 }
 
 #[test]
-fn predicates_have_their_parts_in_order() -> Result<(), Fail> {
+fn predicates_have_their_parts_in_order() {
     let rt = HostRuntime;
     check_predicates(
         &rt,
@@ -214,29 +221,34 @@ fn predicates_have_their_parts_in_order() -> Result<(), Fail> {
             ("where T: A B", &[FaultAt(3)]),
             ("where , T: A", &[FaultAt(0)]),
         ],
-    )
+    );
+}
+
+/// `End` if the brackets are taken off the trees, or else the error.
+fn bracket_place(trees: &[TokenTree]) -> Part {
+    match within_generics(trees) {
+        Ok(_) => End,
+        Err(fault) => fault_place(&fault),
+    }
+}
+
+fn check_brackets(rt: &(impl Abort + AllocGlobal), text: &str, wanted: Part) {
+    let stream = parsed(rt, text);
+    let found = bracket_place(stream.trees());
+    release(stream);
+    check_answer(rt, text, &found, &wanted);
 }
 
 #[test]
-fn brackets_and_where_are_taken_off() -> Result<(), Fail> {
+fn brackets_and_where_are_taken_off() {
     let rt = HostRuntime;
-    let rows = [
-        ("T", FaultAt(0)),
-        ("<", EndsAt(1)),
-        ("< T", EndsAt(2)),
-        ("T >", FaultAt(0)),
-    ];
-    for (text, wanted) in rows {
-        let stream = TokenStream::from_str(text, &mut SourceMap::new())?;
-        let found = match within_generics(stream.trees()) {
-            Ok(_) => End,
-            Err(fault) => fault_place(&fault),
-        };
-        assert!(found == wanted, "{text:?}: {found:?}");
-    }
-    let stream = TokenStream::from_str("r#where T: A", &mut SourceMap::new())?;
-    assert!(after_where(stream.trees()).is_err(),
-        "a raw identifier is no keyword"
-    );
-    Ok(())
+    check_brackets(&rt, "T", FaultAt(0));
+    check_brackets(&rt, "<", EndsAt(1));
+    check_brackets(&rt, "< T", EndsAt(2));
+    check_brackets(&rt, "T >", FaultAt(0));
+    // A raw identifier is no keyword.
+    let stream = parsed(&rt, "r#where T: A");
+    let is_fault = after_where(stream.trees()).is_err();
+    release(stream);
+    check_answer(&rt, "r#where T: A", &is_fault, &true);
 }

@@ -3,10 +3,10 @@
 use crate::shim::prelude::{AllocGlobal, HostRuntime};
 
 // The parts of impls. The expected numbers of trees are counted in the texts by hand.
-use proved_tokens::declarations::{Impl, ItemKind, parse_file, parse_impl};
-use proved_tokens::proc_macro2::{Delimiter, Group, SourceMap, TokenStream, TokenTree};
+use crate::declarations_tests::checks::{HeldText, check_answer, check_held, held_stream, parsed, release};
+use proved_tokens::declarations::{Impl, ItemKind, Items, parse_file, parse_impl};
+use proved_tokens::proc_macro2::TokenTree;
 use crate::shim::process::Abort;
-use crate::shim::test::Fail;
 
 /// What `parse_impl` returns.
 #[derive(Clone, Copy, Debug, PartialEq, Eq)]
@@ -63,17 +63,28 @@ fn read(trees: &[TokenTree]) -> Answer {
     }
 }
 
-fn check(rt: &(impl Abort + AllocGlobal), rows: &[(&str, Answer)]) -> Result<(), Fail> {
-    for (text, wanted) in rows {
-        let stream = TokenStream::from_str(text, &mut SourceMap::new())?;
-        let found = read(stream.trees());
-        assert!(found == *wanted, "{text:?}: {found:?}");
+fn check_text(rt: &(impl Abort + AllocGlobal), text: &str, wanted: Answer) {
+    let stream = parsed(rt, text);
+    let found = read(stream.trees());
+    release(stream);
+    check_answer(rt, text, &found, &wanted);
+}
+
+fn check(rt: &(impl Abort + AllocGlobal), rows: &[(&str, Answer)]) {
+    for &(text, wanted) in rows {
+        check_text(rt, text, wanted);
     }
-    Ok(())
+}
+
+fn check_groups(rt: &(impl Abort + AllocGlobal), text: HeldText<'_>, wanted: Answer) {
+    let stream = held_stream(rt, text);
+    let found = read(stream.trees());
+    release(stream);
+    check_held(rt, text, &found, &wanted);
 }
 
 #[test]
-fn a_trait_comes_before_for_and_the_type_after_it() -> Result<(), Fail> {
+fn a_trait_comes_before_for_and_the_type_after_it() {
     let rt = HostRuntime;
     check(
         &rt,
@@ -95,11 +106,11 @@ fn a_trait_comes_before_for_and_the_type_after_it() -> Result<(), Fail> {
             ("impl dyn A + B {}", Type(0, 4, 0)),
             ("impl S where Self: Sized {}", Type(0, 1, 4)),
         ],
-    )
+    );
 }
 
 #[test]
-fn the_for_of_a_type_is_not_that_of_the_impl() -> Result<(), Fail> {
+fn the_for_of_a_type_is_not_that_of_the_impl() {
     let rt = HostRuntime;
     check(
         &rt,
@@ -116,11 +127,11 @@ fn the_for_of_a_type_is_not_that_of_the_impl() -> Result<(), Fail> {
             ("impl for A {}", FaultAt(2)),
             ("impl 'a for<'b> fn() {}", Type(0, 9, 0)),
         ],
-    )
+    );
 }
 
 #[test]
-fn a_less_sign_begins_generic_parameters_or_a_type() -> Result<(), Fail> {
+fn a_less_sign_begins_generic_parameters_or_a_type() {
     let rt = HostRuntime;
     check(
         &rt,
@@ -142,11 +153,11 @@ fn a_less_sign_begins_generic_parameters_or_a_type() -> Result<(), Fail> {
             ("impl <T>::B {}", Type(3, 3, 0)), // `<T>` are generic parameters, and `::B` is the type
             ("impl <T::A> S {}", FaultAt(7)), // a type in brackets, and a second operand
         ],
-    )
+    );
 }
 
 #[test]
-fn attributes_a_visibility_and_qualifiers_come_first() -> Result<(), Fail> {
+fn attributes_a_visibility_and_qualifiers_come_first() {
     let rt = HostRuntime;
     check(
         &rt,
@@ -163,11 +174,11 @@ fn attributes_a_visibility_and_qualifiers_come_first() -> Result<(), Fail> {
             ("const impl A for S {}", FaultAt(0)),
             ("#![a] impl S {}", FaultAt(0)),
         ],
-    )
+    );
 }
 
 #[test]
-fn const_and_an_exclamation_mark_come_before_the_trait() -> Result<(), Fail> {
+fn const_and_an_exclamation_mark_come_before_the_trait() {
     let rt = HostRuntime;
     check(
         &rt,
@@ -187,11 +198,11 @@ fn const_and_an_exclamation_mark_come_before_the_trait() -> Result<(), Fail> {
             ("impl ! for S {}", FaultAt(3)),
             ("impl ! -> A {}", FaultAt(2)),
         ],
-    )
+    );
 }
 
 #[test]
-fn a_fault_is_before_the_first_tree_that_does_not_fit() -> Result<(), Fail> {
+fn a_fault_is_before_the_first_tree_that_does_not_fit() {
     let rt = HostRuntime;
     check(
         &rt,
@@ -221,100 +232,87 @@ fn a_fault_is_before_the_first_tree_that_does_not_fit() -> Result<(), Fail> {
             ("unsafe trait A {}", FaultAt(1)),
             ("fn f() {}", FaultAt(0)),
         ],
-    )
+    );
 }
 
 // Each row is the text in a group without delimiters, the text after the group, and the answer.
 #[test]
-fn a_group_without_delimiters_is_a_visibility_or_a_type() -> Result<(), Fail> {
+fn a_group_without_delimiters_is_a_visibility_or_a_type() {
     let rt = HostRuntime;
-    for (inside, after, wanted) in [
+    let rows = &[
         ("pub", "impl S {}", Before(0, 1, 0)),
         ("", "unsafe impl S {}", Before(0, 1, 1)),
         ("impl S {}", "", FaultAt(0)),
         ("unsafe", "impl S {}", FaultAt(0)),
-    ] {
-        let mut map = SourceMap::new();
-        let group = Group::new(Delimiter::None, TokenStream::from_str(inside, &mut map)?);
-        let mut stream = TokenStream::from_tree(TokenTree::Group(group))?;
-        stream.extend_streams([TokenStream::from_str(after, &mut map)?])?;
-        let found = read(stream.trees());
-        assert!(found == wanted, "{inside:?} before {after:?}: {found:?}");
+    ];
+    for &(inside, after, wanted) in rows {
+        check_groups(&rt, ("", inside, 1, after), wanted);
     }
-    Ok(())
 }
 
 // A macro by example passes `$t:ty` in such a group.
 #[test]
-fn a_group_without_delimiters_may_be_the_self_type() -> Result<(), Fail> {
+fn a_group_without_delimiters_may_be_the_self_type() {
     let rt = HostRuntime;
-    let mut map = SourceMap::new();
-    let group = Group::new(Delimiter::None, TokenStream::from_str("Vec<T>", &mut map)?);
-    let mut stream = TokenStream::from_str("impl A for", &mut map)?;
-    stream.extend_streams([TokenStream::from_tree(TokenTree::Group(group))?])?;
-    stream.extend_streams([TokenStream::from_str("{}", &mut map)?])?;
-    assert_eq!(read(stream.trees()), Trait(0, 1, 1, 0));
-    Ok(())
+    let text = ("impl A for", "Vec<T>", 1, "{}");
+    check_groups(&rt, text, Trait(0, 1, 1, 0));
 }
 
 // The body of an impl is no block, so rustc rejects `impl A $b` and `impl A for $b`, and so does the call.
 #[test]
-fn a_block_in_a_group_without_delimiters_is_no_body() -> Result<(), Fail> {
+fn a_block_in_a_group_without_delimiters_is_no_body() {
     let rt = HostRuntime;
-    for (before, after, wanted) in [
+    let rows = &[
         ("impl A", "", FaultAt(2)),
         ("impl A for B where T: C,", "", FaultAt(9)),
         ("impl A for", "{}", FaultAt(3)),
         ("impl A<", "> for B {}", Trait(0, 4, 1, 0)),
         ("impl<const N: u8 =", "> A<N> {}", Type(8, 4, 0)),
-    ] {
-        let mut map = SourceMap::new();
-        let group = Group::new(Delimiter::None, TokenStream::from_str("{ x }", &mut map)?);
-        let mut stream = TokenStream::from_str(before, &mut map)?;
-        stream.extend_streams([TokenStream::from_tree(TokenTree::Group(group))?])?;
-        stream.extend_streams([TokenStream::from_str(after, &mut map)?])?;
-        let found = read(stream.trees());
-        assert!(found == wanted,
-            "a block between {before:?} and {after:?}: {found:?}"
-        );
+    ];
+    for &(before, after, wanted) in rows {
+        check_groups(&rt, (before, "{ x }", 1, after), wanted);
     }
-    Ok(())
 }
 
-fn inside<'a>(trees: &'a [TokenTree]) -> Option<&'a [TokenTree]> {
-    match parse_impl(trees) {
-        Ok(item) => Some(item.body.stream_ref().trees()),
+/// The number of trees in the inner attributes of the body, and its items.
+fn items_in<'a>(trees: &'a [TokenTree]) -> Option<(usize, Items<'a>)> {
+    let Ok(item) = parse_impl(trees) else {
+        return None;
+    };
+    match parse_file(item.body.stream_ref().trees()) {
+        Ok(file) => Some((file.inner.len(), file.items)),
         Err(_) => None,
     }
 }
 
+fn next_kind(items: &mut Items<'_>) -> Option<ItemKind> {
+    match items.next() {
+        Some(Ok(item)) => Some(item.kind),
+        _ => None,
+    }
+}
+
+/// Checks the kinds of the items.
+fn check_kinds(rt: &impl Abort, text: &str, mut items: Items<'_>, wanted: &[ItemKind]) {
+    for &kind in wanted {
+        check_answer(rt, text, &next_kind(&mut items), &Some(kind));
+    }
+    check_answer(rt, text, &items.next().is_none(), &true);
+}
+
 #[test]
-fn parse_file_gives_the_items_of_the_body() -> Result<(), Fail> {
+fn parse_file_gives_the_items_of_the_body() {
     let rt = HostRuntime;
     let text = "impl A for S { #![a] type B = u8; const C: u8 = 1; pub fn f(&self) {} m!(); }";
-    let stream = TokenStream::from_str(text, &mut SourceMap::new())?;
-    let Some(trees) = inside(stream.trees()) else {
-        assert!(false, "{text:?}");
-        return Ok(());
-    };
-    let Ok(file) = parse_file(trees) else {
-        assert!(false, "{text:?}");
-        return Ok(());
-    };
-    assert_eq!(file.inner.len(), 3);
-    let mut items = file.items;
-    for kind in [
+    let kinds = &[
         ItemKind::TypeAlias,
         ItemKind::Constant,
         ItemKind::Function,
         ItemKind::MacroCall,
-    ] {
-        let is = match items.next() {
-            Some(Ok(item)) => item.kind == kind,
-            _ => false,
-        };
-        assert!(is, "{kind:?}");
-    }
-    assert!(items.next().is_none());
-    Ok(())
+    ];
+    let stream = parsed(&rt, text);
+    let (inner, items) = items_in(stream.trees()).expect(text);
+    check_answer(&rt, text, &inner, &3);
+    check_kinds(&rt, text, items, kinds);
+    release(stream);
 }

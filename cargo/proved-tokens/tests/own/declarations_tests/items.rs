@@ -3,13 +3,13 @@
 use crate::shim::prelude::{AllocGlobal, HostRuntime};
 
 // Items, fields, variants and their parts, with the number of trees in each part.
+use crate::declarations_tests::checks::{check_answer, parsed, release};
 use proved_tokens::declarations::{
     Body, Fault, Field, Fields, TypeItem, Variant, is_keyword, parse_field, parse_tuple_field,
     parse_type_item, parse_variant,
 };
-use proved_tokens::proc_macro2::{SourceMap, TokenStream, TokenTree};
+use proved_tokens::proc_macro2::TokenTree;
 use crate::shim::process::Abort;
-use crate::shim::test::Fail;
 
 /// The shape of an item's body.
 #[derive(Clone, Copy, Debug, PartialEq, Eq)]
@@ -103,7 +103,7 @@ fn field_parts(found: &Result<(Field<'_>, &[TokenTree]), Fault>) -> Parts {
     }
 }
 
-#[derive(Clone, Copy, Debug)]
+#[derive(Clone, Copy, Debug, PartialEq, Eq)]
 enum Read {
     TypeItem,
     NamedField,
@@ -111,22 +111,30 @@ enum Read {
     Variant,
 }
 
-fn check(rt: &(impl Abort + AllocGlobal), read: Read, rows: &[(&str, Parts)]) -> Result<(), Fail> {
-    for (text, wanted) in rows {
-        let stream = TokenStream::from_str(text, &mut SourceMap::new())?;
-        let found = match read {
-            Read::TypeItem => item_parts(&parse_type_item(stream.trees())),
-            Read::NamedField => field_parts(&parse_field(stream.trees())),
-            Read::TupleField => field_parts(&parse_tuple_field(stream.trees())),
-            Read::Variant => variant_parts(&parse_variant(stream.trees())),
-        };
-        assert!(found == *wanted, "{read:?} of {text:?}: {found:?}");
+fn parts_of(read: Read, trees: &[TokenTree]) -> Parts {
+    match read {
+        Read::TypeItem => item_parts(&parse_type_item(trees)),
+        Read::NamedField => field_parts(&parse_field(trees)),
+        Read::TupleField => field_parts(&parse_tuple_field(trees)),
+        Read::Variant => variant_parts(&parse_variant(trees)),
     }
-    Ok(())
+}
+
+fn check_text(rt: &(impl Abort + AllocGlobal), read: Read, text: &str, wanted: Parts) {
+    let stream = parsed(rt, text);
+    let found = parts_of(read, stream.trees());
+    release(stream);
+    check_answer(rt, text, &(read, found), &(read, wanted));
+}
+
+fn check(rt: &(impl Abort + AllocGlobal), read: Read, rows: &[(&str, Parts)]) {
+    for &(text, wanted) in rows {
+        check_text(rt, read, text, wanted);
+    }
 }
 
 #[test]
-fn items_have_their_parts_in_order() -> Result<(), Fail> {
+fn items_have_their_parts_in_order() {
     let rt = HostRuntime;
     check(
         &rt,
@@ -154,7 +162,7 @@ fn items_have_their_parts_in_order() -> Result<(), Fail> {
             ("struct", EndsAt(1)),
             ("", EndsAt(0)),
         ],
-    )?;
+    );
     check(
         &rt,
         Read::NamedField,
@@ -163,7 +171,7 @@ fn items_have_their_parts_in_order() -> Result<(), Fail> {
             ("union: union", Parts::Field(0, 0, 1, 1)),
             ("pub x", EndsAt(2)),
         ],
-    )?;
+    );
     check(
         &rt,
         Read::TupleField,
@@ -172,7 +180,7 @@ fn items_have_their_parts_in_order() -> Result<(), Fail> {
             ("pub(crate) A", Parts::Field(0, 2, 0, 1)),
             ("#[a]", EndsAt(2)),
         ],
-    )?;
+    );
     check(
         &rt,
         Read::Variant,
@@ -187,18 +195,23 @@ fn items_have_their_parts_in_order() -> Result<(), Fail> {
             ("B =", EndsAt(2)),
             ("fn", FaultAt(0)),
         ],
-    )
+    );
 }
 
 #[test]
-fn keywords_are_no_names() -> Result<(), Fail> {
+fn keywords_are_no_names() {
     let rt = HostRuntime;
     let text = "struct _ Self dyn yield try union auto gen r#struct";
-    let stream = TokenStream::from_str(text, &mut SourceMap::new())?;
+    let stream = parsed(&rt, text);
     for (i, tree) in stream.trees().iter().enumerate() {
-        if let TokenTree::Ident(ident) = tree {
-            assert!(is_keyword(ident) == (i < 5), "{ident}");
-        }
+        check_keyword(&rt, i, tree);
     }
-    Ok(())
+    release(stream);
+}
+
+/// Checks that the identifier with this index is a keyword exactly if it is one of the first five.
+fn check_keyword(rt: &impl Abort, index: usize, tree: &TokenTree) {
+    if let TokenTree::Ident(ident) = tree {
+        assert!(is_keyword(ident) == (index < 5), "{ident}");
+    }
 }

@@ -3,10 +3,9 @@
 use crate::shim::prelude::{AllocGlobal, HostRuntime};
 
 // Lists of fields and variants: how many elements come, and where the error is.
+use crate::declarations_tests::checks::{check_answer, parsed, release};
 use proved_tokens::declarations::{Body, FieldList, VariantList, parse_type_item};
-use proved_tokens::proc_macro2::{SourceMap, TokenStream};
 use crate::shim::process::Abort;
-use crate::shim::test::Fail;
 
 /// The number of parts before the end, and the number of trees before the error, if there is one.
 #[derive(Clone, Copy, Debug, PartialEq, Eq)]
@@ -56,19 +55,24 @@ fn parts_given(body: &Body<'_>) -> Given {
     }
 }
 
-fn check(rt: &(impl Abort + AllocGlobal), rows: &[(&str, Given)]) -> Result<(), Fail> {
-    for (text, wanted) in rows {
-        let stream = TokenStream::from_str(text, &mut SourceMap::new())?;
-        match parse_type_item(stream.trees()) {
-            Ok(item) => assert_eq!(parts_given(&item.body), *wanted, "{text:?}"),
-            Err(fault) => assert!(false, "{text:?}: {fault}"),
-        }
+/// Checks the parts of the body of the item.
+fn check_item(rt: &(impl Abort + AllocGlobal), text: &str, wanted: Given) {
+    let stream = parsed(rt, text);
+    match parse_type_item(stream.trees()) {
+        Ok(item) => check_answer(rt, text, &parts_given(&item.body), &wanted),
+        Err(fault) => assert!(false, "{text:?}: {fault}"),
     }
-    Ok(())
+    release(stream);
+}
+
+fn check(rt: &(impl Abort + AllocGlobal), rows: &[(&str, Given)]) {
+    for &(text, wanted) in rows {
+        check_item(rt, text, wanted);
+    }
 }
 
 #[test]
-fn each_part_of_a_body_is_given_or_its_fault() -> Result<(), Fail> {
+fn each_part_of_a_body_is_given_or_its_fault() {
     let rt = HostRuntime;
     check(
         &rt,
@@ -91,5 +95,5 @@ fn each_part_of_a_body_is_given_or_its_fault() -> Result<(), Fail> {
             ("enum E { A, B =, C }", faulty(1, 2)),
             ("struct S { , }", faulty(0, 0)),
         ],
-    )
+    );
 }

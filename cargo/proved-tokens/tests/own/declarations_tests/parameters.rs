@@ -3,10 +3,10 @@
 use crate::shim::prelude::{AllocGlobal, HostRuntime};
 
 // The parameters of functions. The crate syn 2 reads each text in the same way, unless a row says otherwise.
-use proved_tokens::declarations::{ParameterKind, Parameters, parse_parameter, split_pattern};
-use proved_tokens::proc_macro2::{Delimiter, Group, SourceMap, TokenStream, TokenTree};
+use crate::declarations_tests::checks::{check_answer, display_text, held_stream, parsed, release};
+use proved_tokens::declarations::{Parameter, ParameterKind, Parameters, parse_parameter, split_pattern};
+use proved_tokens::proc_macro2::{TokenStream, TokenTree};
 use crate::shim::process::Abort;
-use crate::shim::test::Fail;
 
 /// A parameter: the number of trees in its attributes, in its pattern or receiver, and in its type.
 #[derive(Clone, Copy, Debug, PartialEq, Eq)]
@@ -20,49 +20,53 @@ enum Parts {
 }
 
 /// Checks the parameters of each text. A text is what is in the parentheses of a function.
-fn check(rt: &(impl Abort + AllocGlobal), rows: &[(&str, &[Parts])]) -> Result<(), Fail> {
-    for (text, wanted) in rows {
-        let stream = TokenStream::from_str(text, &mut SourceMap::new())?;
-        check_trees(rt, stream.trees(), text, wanted)?;
+fn check(rt: &(impl Abort + AllocGlobal), rows: &[(&str, &[Parts])]) {
+    for &(text, wanted) in rows {
+        let stream = parsed(rt, text);
+        check_trees(rt, stream.trees(), text, wanted);
+        release(stream);
     }
-    Ok(())
+}
+
+fn parts_of(parameter: Parameter<'_>) -> Parts {
+    let given = parameter.attributes.len();
+    let pattern = parameter.pattern.len();
+    match parameter.kind {
+        ParameterKind::Receiver => Parts::Receiver(given, pattern),
+        ParameterKind::TypedReceiver(ty) => Parts::TypedReceiver(given, pattern, ty.len()),
+        ParameterKind::Typed(ty) => Parts::Typed(given, pattern, ty.len()),
+        ParameterKind::Variadic => Parts::Variadic(given, pattern),
+    }
+}
+
+fn next_parts(list: &mut Parameters<'_>) -> Option<Parts> {
+    match list.next() {
+        Some(Ok(parameter)) => Some(parts_of(parameter)),
+        Some(Err(fault)) => Some(Parts::Fault(fault.at)),
+        None => None,
+    }
 }
 
 /// Checks the parameters that the trees are.
-fn check_trees(
-    rt: &(impl Abort + AllocGlobal),
-    trees: &[TokenTree],
-    text: &str,
-    wanted: &[Parts],
-) -> Result<(), Fail> {
+fn check_trees(rt: &impl Abort, trees: &[TokenTree], text: &str, wanted: &[Parts]) {
     let mut list = Parameters { left: trees };
-    for one in wanted {
-        match list.next() {
-            Some(Ok(parameter)) => {
-                let given = parameter.attributes.len();
-                let pattern = parameter.pattern.len();
-                let parts = match parameter.kind {
-                    ParameterKind::Receiver => Parts::Receiver(given, pattern),
-                    ParameterKind::TypedReceiver(ty) => {
-                        Parts::TypedReceiver(given, pattern, ty.len())
-                    }
-                    ParameterKind::Typed(ty) => Parts::Typed(given, pattern, ty.len()),
-                    ParameterKind::Variadic => Parts::Variadic(given, pattern),
-                };
-                assert_eq!(parts, *one, "{text:?}");
-            }
-            Some(Err(fault)) => assert_eq!(Parts::Fault(fault.at), *one, "{text:?}"),
-            None => assert!(false, "{text:?}"),
-        }
+    for &parts in wanted {
+        check_answer(rt, text, &next_parts(&mut list), &Some(parts));
     }
-    assert!(list.next().is_none(), "{text:?}");
-    Ok(())
+    check_answer(rt, text, &next_parts(&mut list), &None);
+}
+
+/// Checks the parameters that the trees of the stream are.
+fn check_stream(rt: &(impl Abort + AllocGlobal), stream: TokenStream, wanted: &[Parts]) {
+    let text = display_text(rt, &stream);
+    check_trees(rt, stream.trees(), text.as_str(), wanted);
+    release((stream, text));
 }
 
 // A macro by example passes `$l:lifetime` in a group without delimiters. Each row is the text before the lifetime `'a`,
 // the number of groups around it, the text after it, and the parameters.
 #[test]
-fn a_lifetime_may_be_in_a_group_without_delimiters() -> Result<(), Fail> {
+fn a_lifetime_may_be_in_a_group_without_delimiters() {
     let rt = HostRuntime;
     let rows: &[(&str, usize, &str, &[Parts])] = &[
         ("&", 1, "self", &[Parts::Receiver(0, 3)]),
@@ -76,22 +80,13 @@ fn a_lifetime_may_be_in_a_group_without_delimiters() -> Result<(), Fail> {
         ("x: &", 2, "str", &[Parts::Typed(0, 1, 3)]),
         ("&", 1, "x: u8", &[Parts::Fault(2)]),
     ];
-    for (before, groups, after, wanted) in rows {
-        let mut map = SourceMap::new();
-        let mut held = TokenStream::from_str("'a", &mut map)?;
-        for _ in 0..*groups {
-            let group = Group::new(Delimiter::None, held);
-            held = TokenStream::from_tree(TokenTree::Group(group))?;
-        }
-        let mut stream = TokenStream::from_str(before, &mut map)?;
-        stream.extend_streams([held, TokenStream::from_str(after, &mut map)?])?;
-        check_trees(&rt, stream.trees(), before, wanted)?;
+    for &(before, groups, after, wanted) in rows {
+        check_stream(&rt, held_stream(&rt, (before, "'a", groups, after)), wanted);
     }
-    Ok(())
 }
 
 #[test]
-fn receivers_have_all_their_forms() -> Result<(), Fail> {
+fn receivers_have_all_their_forms() {
     let rt = HostRuntime;
     check(
         &rt,
@@ -113,11 +108,11 @@ fn receivers_have_all_their_forms() -> Result<(), Fail> {
             ),
             ("#[a] #[b(c)] &self", &[Parts::Receiver(4, 2)]),
         ],
-    )
+    );
 }
 
 #[test]
-fn patterns_end_at_their_colons() -> Result<(), Fail> {
+fn patterns_end_at_their_colons() {
     let rt = HostRuntime;
     check(
         &rt,
@@ -153,11 +148,11 @@ fn patterns_end_at_their_colons() -> Result<(), Fail> {
             ),
             ("#[a] x: u8", &[Parts::Typed(2, 1, 1)]),
         ],
-    )
+    );
 }
 
 #[test]
-fn types_end_at_their_commas() -> Result<(), Fail> {
+fn types_end_at_their_commas() {
     let rt = HostRuntime;
     check(
         &rt,
@@ -188,11 +183,11 @@ fn types_end_at_their_commas() -> Result<(), Fail> {
                 &[Parts::Typed(0, 1, 5), Parts::Typed(0, 1, 1)],
             ),
         ],
-    )
+    );
 }
 
 #[test]
-fn dots_are_the_last() -> Result<(), Fail> {
+fn dots_are_the_last() {
     let rt = HostRuntime;
     check(
         &rt,
@@ -203,11 +198,11 @@ fn dots_are_the_last() -> Result<(), Fail> {
             ),
             ("#[a] mut rest: ...", &[Parts::Variadic(2, 2)]),
         ],
-    )
+    );
 }
 
 #[test]
-fn a_fault_ends_the_parameters() -> Result<(), Fail> {
+fn a_fault_ends_the_parameters() {
     let rt = HostRuntime;
     check(
         &rt,
@@ -232,26 +227,31 @@ fn a_fault_ends_the_parameters() -> Result<(), Fail> {
             // The crate syn reads this as `self` with `...`.
             ("self: ...", &[Parts::Fault(2)]),
         ],
-    )
+    );
+}
+
+/// The number of trees in the pattern of the first parameter, and after the parameter.
+fn first_of(trees: &[TokenTree]) -> Option<(usize, usize)> {
+    match parse_parameter(trees) {
+        Ok((parameter, rest)) => Some((parameter.pattern.len(), rest.len())),
+        Err(_) => None,
+    }
+}
+
+/// The number of trees in the pattern that comes first, and after it.
+fn pattern_of(trees: &[TokenTree]) -> Option<(usize, usize)> {
+    match split_pattern(trees) {
+        Ok((pattern, rest)) => Some((pattern.len(), rest.len())),
+        Err(_) => None,
+    }
 }
 
 #[test]
-fn the_first_parameter_leaves_the_rest() -> Result<(), Fail> {
+fn the_first_parameter_leaves_the_rest() {
     let rt = HostRuntime;
-    let stream = TokenStream::from_str("(a, b): (A, B), c: C", &mut SourceMap::new())?;
-    match parse_parameter(stream.trees()) {
-        Ok((parameter, rest)) => {
-            assert_eq!(parameter.pattern.len(), 1);
-            assert_eq!(rest.len(), 4);
-        }
-        Err(fault) => assert!(false, "{fault}"),
-    }
-    match split_pattern(stream.trees()) {
-        Ok((pattern, rest)) => {
-            assert_eq!(pattern.len(), 1);
-            assert_eq!(rest.len(), 6);
-        }
-        Err(fault) => assert!(false, "{fault}"),
-    }
-    Ok(())
+    let text = "(a, b): (A, B), c: C";
+    let stream = parsed(&rt, text);
+    check_answer(&rt, text, &first_of(stream.trees()), &Some((1, 4)));
+    check_answer(&rt, text, &pattern_of(stream.trees()), &Some((1, 6)));
+    release(stream);
 }

@@ -3,14 +3,14 @@
 use crate::shim::prelude::{AllocGlobal, HostRuntime};
 
 // The part that each text begins with.
+use crate::declarations_tests::checks::{HeldText, check_answer, check_held, held_stream, parsed, release};
 use proved_tokens::declarations::{
     Fault, split_any_item, split_attributes, split_bounds, split_expression, split_field,
     split_fields, split_generics, split_inner_attributes, split_item, split_tuple_field,
     split_tuple_fields, split_type, split_variant, split_variants, split_visibility, split_where,
 };
-use proved_tokens::proc_macro2::{Delimiter, Group, SourceMap, TokenStream, TokenTree};
+use proved_tokens::proc_macro2::TokenTree;
 use crate::shim::process::Abort;
-use crate::shim::test::Fail;
 
 #[derive(Clone, Copy, Debug, PartialEq, Eq)]
 enum Part {
@@ -72,36 +72,36 @@ fn read(part: Part, trees: &[TokenTree]) -> Answer {
     }
 }
 
-fn check(rt: &(impl Abort + AllocGlobal), part: Part, rows: &[(&str, Answer)]) -> Result<(), Fail> {
-    for (text, wanted) in rows {
-        let stream = TokenStream::from_str(text, &mut SourceMap::new())?;
-        let found = read(part, stream.trees());
-        assert!(found == *wanted, "{part:?} of {text:?}: {found:?}");
+fn check_text(rt: &(impl Abort + AllocGlobal), part: Part, text: &str, wanted: Answer) {
+    let stream = parsed(rt, text);
+    let found = read(part, stream.trees());
+    release(stream);
+    check_answer(rt, text, &(part, found), &(part, wanted));
+}
+
+fn check(rt: &(impl Abort + AllocGlobal), part: Part, rows: &[(&str, Answer)]) {
+    for &(text, wanted) in rows {
+        check_text(rt, part, text, wanted);
     }
-    Ok(())
+}
+
+/// Checks the part in trees with groups without delimiters.
+fn check_groups(rt: &(impl Abort + AllocGlobal), part: Part, text: HeldText<'_>, wanted: Answer) {
+    let stream = held_stream(rt, text);
+    let found = read(part, stream.trees());
+    release(stream);
+    check_held(rt, text, &(part, found), &(part, wanted));
 }
 
 /// Checks the part in trees that begin with a group without delimiters. The group holds the first text.
-fn check_unseen(
-    rt: &(impl Abort + AllocGlobal),
-    part: Part,
-    rows: &[(&str, &str, Answer)],
-) -> Result<(), Fail> {
-    for (inside, after, wanted) in rows {
-        let mut map = SourceMap::new();
-        let group = Group::new(Delimiter::None, TokenStream::from_str(inside, &mut map)?);
-        let mut stream = TokenStream::from_tree(TokenTree::Group(group))?;
-        stream.extend_streams([TokenStream::from_str(after, &mut map)?])?;
-        let found = read(part, stream.trees());
-        assert!(found == *wanted,
-            "{part:?} of {inside:?} before {after:?}: {found:?}"
-        );
+fn check_unseen(rt: &(impl Abort + AllocGlobal), part: Part, rows: &[(&str, &str, Answer)]) {
+    for &(inside, after, wanted) in rows {
+        check_groups(rt, part, ("", inside, 1, after), wanted);
     }
-    Ok(())
 }
 
 #[test]
-fn a_type_ends_where_an_operand_stands_and_no_step_follows() -> Result<(), Fail> {
+fn a_type_ends_where_an_operand_stands_and_no_step_follows() {
     let rt = HostRuntime;
     check(
         &rt,
@@ -129,7 +129,7 @@ fn a_type_ends_where_an_operand_stands_and_no_step_follows() -> Result<(), Fail>
             ("struct", FaultAt(0)),
             ("", FaultAt(0)),
         ],
-    )?;
+    );
     check(
         &rt,
         Part::Bounds,
@@ -138,11 +138,11 @@ fn a_type_ends_where_an_operand_stands_and_no_step_follows() -> Result<(), Fail>
             ("", Reads(0)),
             ("?Sized>", Reads(2)),
         ],
-    )
+    );
 }
 
 #[test]
-fn parentheses_restrict_a_visibility_or_are_a_type() -> Result<(), Fail> {
+fn parentheses_restrict_a_visibility_or_are_a_type() {
     let rt = HostRuntime;
     check(
         &rt,
@@ -158,7 +158,7 @@ fn parentheses_restrict_a_visibility_or_are_a_type() -> Result<(), Fail> {
             ("pub[crate] x", Reads(1)),
             ("crate x", Reads(0)),
         ],
-    )?;
+    );
     check(
         &rt,
         Part::TupleFields,
@@ -166,12 +166,12 @@ fn parentheses_restrict_a_visibility_or_are_a_type() -> Result<(), Fail> {
             "pub (A, B), pub(crate) A, pub (crate::A), pub(in a::b) (A), crate::A",
             Reads(18),
         )],
-    )?;
-    check(&rt, Part::TupleField, &[("pub (crate)", FaultAt(2))])
+    );
+    check(&rt, Part::TupleField, &[("pub (crate)", FaultAt(2))]);
 }
 
 #[test]
-fn groups_without_delimiters_are_what_they_hold() -> Result<(), Fail> {
+fn groups_without_delimiters_are_what_they_hold() {
     let rt = HostRuntime;
     check_unseen(
         &rt,
@@ -183,7 +183,7 @@ fn groups_without_delimiters_are_what_they_hold() -> Result<(), Fail> {
             ("pub (A)", "x", Reads(0)),
             ("pub x", "x", Reads(0)),
         ],
-    )?;
+    );
     check_unseen(
         &rt,
         Part::TupleField,
@@ -192,30 +192,30 @@ fn groups_without_delimiters_are_what_they_hold() -> Result<(), Fail> {
             ("A", ", B", Reads(1)),
             ("", "", FaultAt(1)),
         ],
-    )?;
-    check_unseen(&rt, Part::Field, &[("", "a: u8, b", Reads(4))])?;
-    check_unseen(&rt, Part::Item, &[("pub", "struct S;", Reads(4))])?;
+    );
+    check_unseen(&rt, Part::Field, &[("", "a: u8, b", Reads(4))]);
+    check_unseen(&rt, Part::Item, &[("pub", "struct S;", Reads(4))]);
     check_unseen(
         &rt,
         Part::AnyItem,
         &[("struct S;", "fn", Reads(1)), ("", "fn f() {}", Reads(5))],
-    )?;
+    );
     check_unseen(
         &rt,
         Part::Expression,
         &[("1 + 2", "* 3, B", Reads(3)), ("{ 1 }", "+ 1", Reads(3))],
-    )?;
-    check_unseen(&rt, Part::Type, &[("", "", FaultAt(0))])
+    );
+    check_unseen(&rt, Part::Type, &[("", "", FaultAt(0))]);
 }
 
 #[test]
-fn fields_have_attributes_names_and_types() -> Result<(), Fail> {
+fn fields_have_attributes_names_and_types() {
     let rt = HostRuntime;
     check(
         &rt,
         Part::Attributes,
         &[("#[a] #[b(c)] pub x", Reads(4)), ("#(a)", FaultAt(1))],
-    )?;
+    );
     check(
         &rt,
         Part::Fields,
@@ -227,7 +227,7 @@ fn fields_have_attributes_names_and_types() -> Result<(), Fail> {
             ("a: A, #[x]", FaultAt(6)),
             ("", Reads(0)),
         ],
-    )?;
+    );
     check(
         &rt,
         Part::Field,
@@ -236,7 +236,7 @@ fn fields_have_attributes_names_and_types() -> Result<(), Fail> {
             ("fn: A", FaultAt(0)),
             ("", FaultAt(0)),
         ],
-    )?;
+    );
     check(
         &rt,
         Part::Variant,
@@ -246,11 +246,11 @@ fn fields_have_attributes_names_and_types() -> Result<(), Fail> {
             ("B = 1, C", Reads(3)),
             ("B =", FaultAt(2)),
         ],
-    )
+    );
 }
 
 #[test]
-fn a_discriminant_ends_at_a_comma_that_is_in_no_brackets() -> Result<(), Fail> {
+fn a_discriminant_ends_at_a_comma_that_is_in_no_brackets() {
     let rt = HostRuntime;
     check(
         &rt,
@@ -296,7 +296,7 @@ fn a_discriminant_ends_at_a_comma_that_is_in_no_brackets() -> Result<(), Fail> {
             (", 1", FaultAt(0)),
             ("", FaultAt(0)),
         ],
-    )?;
+    );
     check(
         &rt,
         Part::Variants,
@@ -311,11 +311,11 @@ fn a_discriminant_ends_at_a_comma_that_is_in_no_brackets() -> Result<(), Fail> {
             ("A = , B", FaultAt(2)),
             ("", Reads(0)),
         ],
-    )
+    );
 }
 
 #[test]
-fn generics_and_where_clauses_end_before_the_body() -> Result<(), Fail> {
+fn generics_and_where_clauses_end_before_the_body() {
     let rt = HostRuntime;
     check(
         &rt,
@@ -329,7 +329,7 @@ fn generics_and_where_clauses_end_before_the_body() -> Result<(), Fail> {
             ("<,>", FaultAt(1)),
             ("(T)", Reads(0)),
         ],
-    )?;
+    );
     check(
         &rt,
         Part::Where,
@@ -340,11 +340,11 @@ fn generics_and_where_clauses_end_before_the_body() -> Result<(), Fail> {
             ("where T {}", FaultAt(2)),
             ("{}", Reads(0)),
         ],
-    )
+    );
 }
 
 #[test]
-fn items_are_structs_enums_and_unions() -> Result<(), Fail> {
+fn items_are_structs_enums_and_unions() {
     let rt = HostRuntime;
     check(
         &rt,
@@ -368,11 +368,11 @@ fn items_are_structs_enums_and_unions() -> Result<(), Fail> {
             ("pub fn f() {}", FaultAt(1)),
             ("", FaultAt(0)),
         ],
-    )
+    );
 }
 
 #[test]
-fn a_file_begins_with_inner_attributes() -> Result<(), Fail> {
+fn a_file_begins_with_inner_attributes() {
     let rt = HostRuntime;
     check(
         &rt,
@@ -382,11 +382,11 @@ fn a_file_begins_with_inner_attributes() -> Result<(), Fail> {
             ("fn", Reads(0)),
             ("#!a", FaultAt(2)),
         ],
-    )
+    );
 }
 
 #[test]
-fn what_is_no_item_has_a_fault() -> Result<(), Fail> {
+fn what_is_no_item_has_a_fault() {
     let rt = HostRuntime;
     check(
         &rt,
@@ -415,37 +415,25 @@ fn what_is_no_item_has_a_fault() -> Result<(), Fail> {
             ("#![a]", FaultAt(0)),
             ("", FaultAt(0)),
         ],
-    )
+    );
 }
 
 /// A text in groups without delimiters between two texts: what comes before, what is in the groups, the number of
 /// groups, what comes after, and the answer.
-type Held<'a> = (&'a str, &'a str, usize, &'a str, Answer);
+type HeldRow<'a> = (&'a str, &'a str, usize, &'a str, Answer);
 
 /// Checks the part in trees with groups without delimiters.
-fn check_held(rt: &(impl Abort + AllocGlobal), part: Part, rows: &[Held<'_>]) -> Result<(), Fail> {
-    for (before, inside, groups, after, wanted) in rows {
-        let mut map = SourceMap::new();
-        let mut held = TokenStream::from_str(inside, &mut map)?;
-        for _ in 0..*groups {
-            let group = Group::new(Delimiter::None, held);
-            held = TokenStream::from_tree(TokenTree::Group(group))?;
-        }
-        let mut stream = TokenStream::from_str(before, &mut map)?;
-        stream.extend_streams([held, TokenStream::from_str(after, &mut map)?])?;
-        let found = read(part, stream.trees());
-        assert!(found == *wanted,
-            "{part:?} of {before:?}, {inside:?}, {after:?}: {found:?}"
-        );
+fn check_rows(rt: &(impl Abort + AllocGlobal), part: Part, rows: &[HeldRow<'_>]) {
+    for &(before, inside, groups, after, wanted) in rows {
+        check_groups(rt, part, (before, inside, groups, after), wanted);
     }
-    Ok(())
 }
 
 // A macro by example passes `$l:lifetime`, `$l:literal` and `$v:vis` so.
 #[test]
-fn a_group_without_delimiters_has_the_class_of_what_it_holds() -> Result<(), Fail> {
+fn a_group_without_delimiters_has_the_class_of_what_it_holds() {
     let rt = HostRuntime;
-    check_held(
+    check_rows(
         &rt,
         Part::Type,
         &[
@@ -461,8 +449,8 @@ fn a_group_without_delimiters_has_the_class_of_what_it_holds() -> Result<(), Fai
             ("extern", "f()", 1, "fn(), x", Reads(2)),
             ("", "Vec<A>", 5, "::B, x", Reads(4)),
         ],
-    )?;
-    check_held(
+    );
+    check_rows(
         &rt,
         Part::Generics,
         &[
@@ -470,16 +458,16 @@ fn a_group_without_delimiters_has_the_class_of_what_it_holds() -> Result<(), Fai
             ("<T:", "'a", 3, "> x", Reads(5)),
             ("<T:", "'a", 1, " + B> x", Reads(7)),
         ],
-    )?;
-    check_held(
+    );
+    check_rows(
         &rt,
         Part::Where,
         &[
             ("where T:", "'a", 1, ", {}", Reads(5)),
             ("where", "'a", 2, ": 'b {}", Reads(5)),
         ],
-    )?;
-    check_held(
+    );
+    check_rows(
         &rt,
         Part::Visibility,
         &[
@@ -488,14 +476,14 @@ fn a_group_without_delimiters_has_the_class_of_what_it_holds() -> Result<(), Fai
             ("", "pub(crate)", 9, "x", Reads(1)),
             ("", "'a", 2, "x", Reads(0)),
         ],
-    )
+    );
 }
 
 // A macro by example passes `$b:block` so. Braces of other items are no blocks.
 #[test]
-fn a_block_is_a_body_a_constant_or_an_operand_of_an_expression() -> Result<(), Fail> {
+fn a_block_is_a_body_a_constant_or_an_operand_of_an_expression() {
     let rt = HostRuntime;
-    check_held(
+    check_rows(
         &rt,
         Part::AnyItem,
         &[
@@ -508,8 +496,8 @@ fn a_block_is_a_body_a_constant_or_an_operand_of_an_expression() -> Result<(), F
             ("m!", "{}", 1, "", FaultAt(2)),
             ("", "{}", 1, "", FaultAt(0)),
         ],
-    )?;
-    check_held(
+    );
+    check_rows(
         &rt,
         Part::Type,
         &[
@@ -517,19 +505,19 @@ fn a_block_is_a_body_a_constant_or_an_operand_of_an_expression() -> Result<(), F
             ("A +", "{ N }", 1, "", Reads(2)),
             ("", "{ N }", 1, ", x", FaultAt(0)),
         ],
-    )?;
-    check_held(
+    );
+    check_rows(
         &rt,
         Part::Generics,
         &[("<const N: u8 =", "{ 1 }", 2, ", T> x", Reads(10))],
-    )?;
-    check_held(
+    );
+    check_rows(
         &rt,
         Part::Expression,
         &[
             ("1 +", "{ 2 }", 1, ", x", Reads(3)),
             ("1 as", "{ 2 }", 2, "* 3, x", Reads(5)),
         ],
-    )?;
-    check_held(&rt, Part::Variant, &[("V", "{ x: u8 }", 1, "", Reads(1))])
+    );
+    check_rows(&rt, Part::Variant, &[("V", "{ x: u8 }", 1, "", Reads(1))]);
 }

@@ -3,10 +3,10 @@
 use crate::shim::prelude::{AllocGlobal, HostRuntime};
 
 // The paths of types. The expected numbers of trees are counted in the texts by hand.
+use crate::declarations_tests::checks::{HeldText, check_answer, check_held, held_stream, parsed, release};
 use proved_tokens::declarations::{GenericArguments, PathArguments, parse_type_path};
-use proved_tokens::proc_macro2::{Delimiter, Group, SourceMap, TokenStream, TokenTree};
+use proved_tokens::proc_macro2::TokenTree;
 use crate::shim::process::Abort;
-use crate::shim::test::Fail;
 
 /// What `parse_type_path` returns.
 #[derive(Clone, Copy, Debug, PartialEq, Eq)]
@@ -63,18 +63,23 @@ fn read(trees: &[TokenTree], name: &str) -> Answer {
     }
 }
 
+// Checks a text that is a path with this last name, or that is not.
+fn check_text(rt: &(impl Abort + AllocGlobal), name: &str, text: &str, wanted: Answer) {
+    let stream = parsed(rt, text);
+    let found = read(stream.trees(), name);
+    release(stream);
+    check_answer(rt, text, &found, &wanted);
+}
+
 // Checks texts that are paths with this last name, and texts that are not.
-fn check(rt: &(impl Abort + AllocGlobal), name: &str, rows: &[(&str, Answer)]) -> Result<(), Fail> {
-    for (text, wanted) in rows {
-        let stream = TokenStream::from_str(text, &mut SourceMap::new())?;
-        let found = read(stream.trees(), name);
-        assert!(found == *wanted, "{text:?}: {found:?}");
+fn check(rt: &(impl Abort + AllocGlobal), name: &str, rows: &[(&str, Answer)]) {
+    for &(text, wanted) in rows {
+        check_text(rt, name, text, wanted);
     }
-    Ok(())
 }
 
 #[test]
-fn the_last_segment_has_the_name() -> Result<(), Fail> {
+fn the_last_segment_has_the_name() {
     let rt = HostRuntime;
     check(
         &rt,
@@ -95,17 +100,17 @@ fn the_last_segment_has_the_name() -> Result<(), Fail> {
             ("T::a", OtherName),
             ("r#T", OtherName),
         ],
-    )?;
-    check(&rt, "Self", &[("Self", Plain(0))])?;
+    );
+    check(&rt, "Self", &[("Self", Plain(0))]);
     check(
         &rt,
         "union",
         &[("union", Plain(0)), ("auto::union", Plain(3))],
-    )
+    );
 }
 
 #[test]
-fn arguments_are_in_angle_brackets_or_parentheses() -> Result<(), Fail> {
+fn arguments_are_in_angle_brackets_or_parentheses() {
     let rt = HostRuntime;
     check(
         &rt,
@@ -135,11 +140,11 @@ fn arguments_are_in_angle_brackets_or_parentheses() -> Result<(), Fail> {
             ("a::A(B) -> c::A", Round(3, 1, 4)),
             ("A::(B) -> C", Round(0, 1, 1)),
         ],
-    )
+    );
 }
 
 #[test]
-fn other_types_and_broken_paths_are_rejected() -> Result<(), Fail> {
+fn other_types_and_broken_paths_are_rejected() {
     let rt = HostRuntime;
     check(
         &rt,
@@ -181,49 +186,33 @@ fn other_types_and_broken_paths_are_rejected() -> Result<(), Fail> {
             ("A<N = 3>", FaultAt(4)),
             ("A<T as B>", FaultAt(3)),
         ],
-    )
+    );
 }
 
-// The trees in this many groups without delimiters.
-fn wrap_text(
-    rt: &(impl Abort + AllocGlobal),
-    text: &str,
-    times: usize,
-) -> Result<TokenStream, Fail> {
-    let mut stream = TokenStream::from_str(text, &mut SourceMap::new())?;
-    for _ in 0..times {
-        let group = Group::new(Delimiter::None, stream);
-        stream = TokenStream::from_tree(TokenTree::Group(group))?;
-    }
-    Ok(stream)
+// Checks the path in groups without delimiters, whose last name should be `A`.
+fn check_groups(rt: &(impl Abort + AllocGlobal), text: HeldText<'_>, wanted: Answer) {
+    let stream = held_stream(rt, text);
+    let found = read(stream.trees(), "A");
+    release(stream);
+    check_held(rt, text, &found, &wanted);
 }
 
 #[test]
-fn groups_without_delimiters_are_looked_through() -> Result<(), Fail> {
+fn groups_without_delimiters_are_looked_through() {
     let rt = HostRuntime;
-    for times in [0usize, 1usize, 2usize, 5usize] {
-        let stream = wrap_text(&rt, "a::A<T>", times)?;
-        assert!(read(stream.trees(), "A") == Angle(3, 1, 1));
-        let other = wrap_text(&rt, "A + B", times)?;
-        assert!(read(other.trees(), "A") == FaultAt(1));
-        let none = wrap_text(&rt, "", times)?;
-        assert!(read(none.trees(), "A") == EndsAt(0));
+    for &times in &[0, 1, 2, 5] {
+        check_groups(&rt, ("", "a::A<T>", times, ""), Angle(3, 1, 1));
+        check_groups(&rt, ("", "A + B", times, ""), FaultAt(1));
+        check_groups(&rt, ("", "", times, ""), EndsAt(0));
     }
-    Ok(())
 }
 
 // A macro by example passes `$b:block` so, also through several macros.
 #[test]
-fn a_block_in_groups_without_delimiters_is_an_argument() -> Result<(), Fail> {
+fn a_block_in_groups_without_delimiters_is_an_argument() {
     let rt = HostRuntime;
-    for times in [1usize, 2usize, 5usize] {
-        let mut map = SourceMap::new();
-        let mut stream = TokenStream::from_str("a::A<", &mut map)?;
-        let after = TokenStream::from_str(", T>", &mut map)?;
-        stream.extend_streams([wrap_text(&rt, "{ N + 1 }", times)?, after])?;
-        assert!(read(stream.trees(), "A") == Angle(3, 3, 2));
-        let alone = wrap_text(&rt, "{ N + 1 }", times)?;
-        assert!(read(alone.trees(), "A") == FaultAt(0));
+    for &times in &[1, 2, 5] {
+        check_groups(&rt, ("a::A<", "{ N + 1 }", times, ", T>"), Angle(3, 3, 2));
+        check_groups(&rt, ("", "{ N + 1 }", times, ""), FaultAt(0));
     }
-    Ok(())
 }

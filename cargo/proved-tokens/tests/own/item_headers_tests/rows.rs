@@ -1,6 +1,6 @@
 // Made from crates/item_headers_tests/src/rows.rt by dev/erase: change that file, not this one.
 
-use crate::shim::prelude::{AllocGlobal, HostRuntime, format};
+use crate::shim::prelude::{AllocGlobal, Grow, GrowText, HostRuntime, format};
 
 // Items, and the printed text of each call for them. The text is parsed again.
 use proved_tokens::declarations::{ItemKind, TypeItem, parse_item, parse_type_item, split_expression};
@@ -9,9 +9,26 @@ use proved_tokens::item_headers::{
     where_clause, where_clause_with, where_clause_with_bound,
 };
 use proved_tokens::proc_macro2::{Delimiter, Group, SourceMap, TokenStream, TokenTree};
-use crate::shim::alloc::AllocError;
+use crate::shim::fmt::Debug;
 use crate::shim::process::Abort;
-use crate::shim::test::Fail;
+
+// These functions return no errors, and stop the test if memory runs out, because each `?` in a test makes its proof
+// longer. For the same reason tests let go of streams by `release`.
+
+/// Drops the value.
+fn release<T>(value: T) {
+    let _value = value;
+}
+
+/// Asserts that the answer for a text is the expected one.
+fn check_answer<T: PartialEq + Debug>(rt: &impl Abort, text: &str, answer: &T, want: &T) {
+    assert!(answer == want, "{answer:?} and not {want:?} of {text:?}");
+}
+
+/// The stream of the text, which parses and is the first file of a new map.
+fn parsed(rt: &(impl Abort + AllocGlobal), text: &str) -> TokenStream {
+    TokenStream::from_str(text, &mut SourceMap::new()).expect(text)
+}
 
 /// An item, and the printed text of each call with the trait `Z<'b>`, the predicate `X: Y` and the bound `Z<'b>`. A
 /// header is `front` and a where clause.
@@ -98,25 +115,38 @@ fn check_printed(
     row: Row,
     found: Result<TokenStream, HeaderError>,
     wanted: &str,
-) -> Result<(), Fail> {
-    let stream = found?;
-    let text = format!("{stream}")?;
-    assert!(text.as_str() == wanted, "of {:?}: {text:?}", row.item);
-    Ok(())
+) {
+    let stream = found.expect(row.item);
+    let text = format!("{stream}").expect(row.item);
+    check_answer(rt, row.item, &text.as_str(), &wanted);
+    release(stream);
 }
 
-fn header_text(row: Row, clause: &str) -> Result<String, AllocError> {
-    if clause.is_empty() {
-        return format!("{}", row.front);
+fn header_text(rt: &(impl Abort + AllocGlobal), row: Row, clause: &str) -> String {
+    let mut text = String::from_str_fallibly(row.front).expect(row.front);
+    if !clause.is_empty() {
+        text.push_fallibly(' ').expect(row.front);
+        text.push_str_fallibly(clause).expect(clause);
     }
-    format!("{} {clause}", row.front)
+    text
 }
 
-fn check_parts(rt: &(impl Abort + AllocGlobal), row: Row, item: &TypeItem<'_>) -> Result<(), Fail> {
-    check_printed(rt, row, impl_generics(item), row.impl_generics)?;
-    check_printed(rt, row, type_generics(item), row.type_generics)?;
-    check_printed(rt, row, turbofish(item), row.turbofish)?;
-    check_printed(rt, row, where_clause(item), row.where_clause)
+fn check_parts(rt: &(impl Abort + AllocGlobal), row: Row, item: &TypeItem<'_>) {
+    check_printed(rt, row, impl_generics(item), row.impl_generics);
+    check_printed(rt, row, type_generics(item), row.type_generics);
+    check_printed(rt, row, turbofish(item), row.turbofish);
+    check_printed(rt, row, where_clause(item), row.where_clause);
+}
+
+/// Asserts that the header is the front of the row and this where clause.
+fn check_header(
+    rt: &(impl Abort + AllocGlobal),
+    row: Row,
+    header: Result<TokenStream, HeaderError>,
+    clause: &str,
+) {
+    let wanted = header_text(rt, row, clause);
+    check_printed(rt, row, header, wanted.as_str());
 }
 
 fn check_bounds(
@@ -124,123 +154,129 @@ fn check_bounds(
     row: Row,
     item: &TypeItem<'_>,
     path: &TokenStream,
-) -> Result<(), Fail> {
-    let wanted = header_text(row, row.where_clause)?;
-    check_printed(rt, row, impl_header(item, path), &wanted)?;
-    let clause = where_clause_with_bound(item, path)?;
-    let wanted = header_text(row, row.bound)?;
-    check_printed(
-        rt,
-        row,
-        impl_header_where(item, path, &clause),
-        &wanted,
-    )?;
-    check_printed(rt, row, Ok(clause), row.bound)
+) {
+    check_header(rt, row, impl_header(item, path), row.where_clause);
+    let clause = where_clause_with_bound(item, path).expect(row.item);
+    let header = impl_header_where(item, path, &clause);
+    check_header(rt, row, header, row.bound);
+    check_printed(rt, row, Ok(clause), row.bound);
+}
+
+/// Asserts what each call gives for the item of the row.
+fn check_row(
+    rt: &(impl Abort + AllocGlobal),
+    row: Row,
+    predicate: &TokenStream,
+    path: &TokenStream,
+) {
+    let stream = parsed(rt, row.item);
+    let item = parse_type_item(stream.trees()).expect(row.item);
+    check_parts(rt, row, &item);
+    let clause = where_clause_with(&item, predicate);
+    check_printed(rt, row, clause, row.with);
+    check_bounds(rt, row, &item, path);
+    release(stream);
 }
 
 #[test]
-fn an_impl_has_the_parameters_of_its_type() -> Result<(), Fail> {
+fn an_impl_has_the_parameters_of_its_type() {
     let rt = HostRuntime;
-    let mut map = SourceMap::new();
-    let predicate = TokenStream::from_str("X: Y", &mut map)?;
-    let path = TokenStream::from_str("Z<'b>", &mut map)?;
-    for row in ROWS {
-        let stream = TokenStream::from_str(row.item, &mut map)?;
-        let item = parse_type_item(stream.trees())?;
-        check_parts(&rt, *row, &item)?;
-        check_printed(
-            &rt,
-            *row,
-            where_clause_with(&item, &predicate),
-            row.with,
-        )?;
-        check_bounds(&rt, *row, &item, &path)?;
+    let predicate = parsed(&rt, "X: Y");
+    let path = parsed(&rt, "Z<'b>");
+    for &row in ROWS {
+        check_row(&rt, row, &predicate, &path);
     }
-    Ok(())
+    release((predicate, path));
 }
 
 /// Asserts that the calls give the same trees for an item with the parameters and the where clause that were written.
-fn check_written_again(rt: &(impl Abort + AllocGlobal), row: Row) -> Result<(), Fail> {
-    let text = format!("enum E {} {} {{}}", row.impl_generics, row.where_clause)?;
-    let stream = TokenStream::from_str(&text, &mut SourceMap::new())?;
-    let item = parse_type_item(stream.trees())?;
-    check_parts(rt, row, &item)
+fn check_written_again(rt: &(impl Abort + AllocGlobal), row: Row) {
+    let text = format!("enum E {} {} {{}}", row.impl_generics, row.where_clause);
+    let text = text.expect(row.item);
+    let stream = parsed(rt, text.as_str());
+    let item = parse_type_item(stream.trees()).expect(text.as_str());
+    check_parts(rt, row, &item);
+    release((text, stream));
 }
 
 /// Asserts that a header with braces is one `impl`.
-fn check_impl(rt: &(impl Abort + AllocGlobal), row: Row, clause: &str) -> Result<(), Fail> {
-    let header = header_text(row, clause)?;
-    let text = format!("{header} {{}}")?;
-    let stream = TokenStream::from_str(&text, &mut SourceMap::new())?;
-    let item = parse_item(stream.trees())?;
-    assert!(item.kind == ItemKind::Impl && item.body().is_some(),
-        "{text}"
-    );
-    Ok(())
+fn check_impl(rt: &(impl Abort + AllocGlobal), row: Row, clause: &str) {
+    let mut text = header_text(rt, row, clause);
+    text.push_str_fallibly(" {}").expect(row.item);
+    let stream = parsed(rt, text.as_str());
+    let item = parse_item(stream.trees()).expect(text.as_str());
+    let found = (item.kind, item.body().is_some());
+    check_answer(rt, text.as_str(), &found, &(ItemKind::Impl, true));
+    release((text, stream));
 }
 
-fn check_expression(rt: &(impl Abort + AllocGlobal), row: Row) -> Result<(), Fail> {
-    let text = format!("S {}::new()", row.turbofish)?;
-    let stream = TokenStream::from_str(&text, &mut SourceMap::new())?;
-    let (_, rest) = split_expression(stream.trees())?;
-    assert!(rest.is_empty(), "{text:?} is no expression");
-    Ok(())
+/// Asserts that the type with its parameters is the path of an expression.
+fn check_expression(rt: &(impl Abort + AllocGlobal), row: Row) {
+    let text = format!("S {}::new()", row.turbofish).expect(row.item);
+    let stream = parsed(rt, text.as_str());
+    let (_, rest) = split_expression(stream.trees()).expect(text.as_str());
+    check_answer(rt, text.as_str(), &rest.len(), &0);
+    release((text, stream));
 }
 
 #[test]
-fn what_is_written_is_read_as_it_was_meant() -> Result<(), Fail> {
+fn what_is_written_is_read_as_it_was_meant() {
     let rt = HostRuntime;
-    for row in ROWS {
-        check_written_again(&rt, *row)?;
-        check_impl(&rt, *row, row.where_clause)?;
-        check_impl(&rt, *row, row.bound)?;
-        check_expression(&rt, *row)?;
+    for &row in ROWS {
+        check_written_again(&rt, row);
+        check_impl(&rt, row, row.where_clause);
+        check_impl(&rt, row, row.bound);
+        check_expression(&rt, row);
     }
-    Ok(())
+}
+
+/// Asserts that the parameters or the where clause of the item are a fault.
+fn is_a_fault(rt: &impl Abort, what: &str, found: Result<TokenStream, HeaderError>) {
+    let is_fault = matches!(&found, Err(HeaderError::Fault(_)));
+    release(found);
+    check_answer(rt, what, &is_fault, &true);
 }
 
 #[test]
-fn parts_that_are_no_parameters_are_a_fault() -> Result<(), Fail> {
+fn parts_that_are_no_parameters_are_a_fault() {
     let rt = HostRuntime;
-    let stream = TokenStream::from_str("struct S<T>(T) where T: A;", &mut SourceMap::new())?;
-    let mut item = parse_type_item(stream.trees())?;
+    let stream = parsed(&rt, "struct S<T>(T) where T: A;");
+    let text = parsed(&rt, "where T");
+    let mut item = parse_type_item(stream.trees()).expect("S");
     item.generics = item.where_clause;
-    assert!(matches!(impl_generics(&item), Err(HeaderError::Fault(_))),
-        "no brackets"
-    );
-    let text = TokenStream::from_str("where T", &mut SourceMap::new())?;
+    is_a_fault(&rt, "no brackets", impl_generics(&item));
     item.where_clause = text.trees();
-    assert!(matches!(where_clause(&item), Err(HeaderError::Fault(_))),
-        "no bounds"
-    );
-    Ok(())
+    is_a_fault(&rt, "no bounds", where_clause(&item));
+    release((stream, text));
+}
+
+/// The delimiter of the second of four trees, which is a group among three words, and the number of trees in it.
+fn second_of(trees: &[TokenTree]) -> Option<(Delimiter, usize)> {
+    match trees {
+        [
+            TokenTree::Ident(_),
+            TokenTree::Group(group),
+            TokenTree::Ident(_),
+            TokenTree::Ident(_),
+        ] => Some((group.delimiter(), group.stream_ref().trees().len())),
+        _ => None,
+    }
+}
+
+/// The stream of the text's trees in a group without delimiters.
+fn in_a_group(rt: &(impl Abort + AllocGlobal), text: &str) -> TokenStream {
+    let group = TokenTree::Group(Group::new(Delimiter::None, parsed(rt, text)));
+    TokenStream::from_tree(group).expect(text)
 }
 
 #[test]
-fn a_group_without_delimiters_is_put_in_as_it_is() -> Result<(), Fail> {
+fn a_group_without_delimiters_is_put_in_as_it_is() {
     let rt = HostRuntime;
-    let stream = TokenStream::from_str("struct S;", &mut SourceMap::new())?;
-    let item = parse_type_item(stream.trees())?;
-    let inside = TokenStream::from_str("a::B", &mut SourceMap::new())?;
-    let group = Group::new(Delimiter::None, inside);
-    let path = TokenStream::from_tree(TokenTree::Group(group))?;
-    let header = impl_header(&item, &path)?;
-    assert!(matches!(
-            header.trees(),
-            [
-                TokenTree::Ident(_),
-                TokenTree::Group(_),
-                TokenTree::Ident(_),
-                TokenTree::Ident(_),
-            ]
-        ),
-        "a path in a group"
-    );
-    let mut found = Delimiter::Brace;
-    if let Some(TokenTree::Group(group)) = header.trees().get(1) {
-        found = group.delimiter();
-        assert_eq!(group.stream_ref().trees().len(), 4);
-    }
-    assert!(found == Delimiter::None, "the group of the path");
-    Ok(())
+    let stream = parsed(&rt, "struct S;");
+    let item = parse_type_item(stream.trees()).expect("struct S;");
+    let path = in_a_group(&rt, "a::B");
+    let header = impl_header(&item, &path).expect("a::B");
+    let found = second_of(header.trees());
+    check_answer(&rt, "a::B", &found, &Some((Delimiter::None, 4)));
+    release((stream, path, header));
 }

@@ -1,16 +1,14 @@
 // Made from crates/quoting_tests/src/random_trees.rt by dev/erase: change that file, not this one.
 
-use crate::shim::prelude::{HostRuntime, format, vec};
+use crate::shim::prelude::{AllocGlobal, HostRuntime};
 
 // Short lists of random trees: `finish` returns a stream exactly if some choice of spacings is well spaced. All
 // choices are tried.
 
-use proved_tokens::proc_macro2::{
-    Delimiter, Group, Ident, Literal, Punct, SourceMap, Spacing, Span, TokenStream, TokenTree,
-};
+use crate::quoting_tests::checks::{check_answer, comes_back, release};
+use proved_tokens::proc_macro2::{Delimiter, Group, Ident, Literal, Punct, Spacing, Span, TokenStream, TokenTree};
 use proved_tokens::quoting::{Quote, QuoteError};
 use crate::shim::process::Abort;
-use crate::shim::test::Fail;
 
 /// The number of lists.
 const LISTS: u32 = 600;
@@ -79,94 +77,147 @@ fn choice_of(number: u32) -> Choice {
     }
 }
 
-/// Returns a leaf of this kind, Joint or Alone if it is a mark.
-fn leaf(kind: u64, joint: bool) -> Result<TokenTree, Fail> {
-    let spacing = if joint {
+/// Returns the spacing of a mark.
+fn spacing_of(joint: bool) -> Spacing {
+    if joint {
         Spacing::Joint
     } else {
         Spacing::Alone
-    };
-    Ok(match kind {
-        0 => TokenTree::Ident(Ident::new("a", Span::call_site())?),
-        1 => TokenTree::Ident(Ident::new_raw("b", Span::call_site())?),
-        2 => TokenTree::Literal(Literal::character('b')?),
-        3 => TokenTree::Literal(Literal::byte_string(b"x")?),
-        4 => TokenTree::Literal(Literal::byte_character(120)?),
-        5 => TokenTree::Literal(Literal::u8_unsuffixed(1)?),
-        6 => TokenTree::Punct(Punct::new('/', spacing)),
-        7 => TokenTree::Punct(Punct::new('*', spacing)),
-        8 => TokenTree::Punct(Punct::new('+', spacing)),
-        _ => TokenTree::Punct(Punct::new('\'', spacing)),
-    })
+    }
 }
 
-/// Returns the trees of the case with this choice of spacings: three leaves, a group of two, and a leaf.
-fn trees(case: Case, joint: Choice) -> Result<Vec<TokenTree>, Fail> {
-    let delimiter = match case.delimiter {
+/// Returns the identifier `a`, or `r#b` if it is raw.
+fn word(rt: &(impl Abort + AllocGlobal), is_raw: bool) -> TokenTree {
+    let span = Span::call_site();
+    let ident = if is_raw {
+        Ident::new_raw("b", span)
+    } else {
+        Ident::new("a", span)
+    };
+    TokenTree::Ident(ident.expect("a word"))
+}
+
+/// Returns the literal of this kind, from 2 to 5.
+fn literal(rt: &(impl Abort + AllocGlobal), kind: u64) -> TokenTree {
+    let literal = match kind {
+        2 => Literal::character('b'),
+        3 => Literal::byte_string(b"x"),
+        4 => Literal::byte_character(120),
+        _ => Literal::u8_unsuffixed(1),
+    };
+    TokenTree::Literal(literal.expect("a literal"))
+}
+
+/// Returns a leaf of this kind, Joint or Alone if it is a mark.
+fn leaf(rt: &(impl Abort + AllocGlobal), kind: u64, joint: bool) -> TokenTree {
+    match kind {
+        0..=1 => word(rt, kind == 1),
+        2..=5 => literal(rt, kind),
+        6 => TokenTree::Punct(Punct::new('/', spacing_of(joint))),
+        7 => TokenTree::Punct(Punct::new('*', spacing_of(joint))),
+        8 => TokenTree::Punct(Punct::new('+', spacing_of(joint))),
+        _ => TokenTree::Punct(Punct::new('\'', spacing_of(joint))),
+    }
+}
+
+/// Returns the delimiter of the group.
+fn delimiter_of(case: Case) -> Delimiter {
+    match case.delimiter {
         0 => Delimiter::None,
         1..=3 => Delimiter::Brace,
         4..=6 => Delimiter::Bracket,
         _ => Delimiter::Parenthesis,
-    };
-    let inside = vec![leaf(case.inner, joint.inner)?,
-        leaf(case.innermost, joint.innermost)?,
-    ]?;
-    let group = Group::new(delimiter, TokenStream::from_trees(inside)?);
-    Ok(vec![leaf(case.first, joint.first)?,
-        leaf(case.second, joint.second)?,
-        leaf(case.third, joint.third)?,
-        TokenTree::Group(group),
-        leaf(case.last, joint.last)?,
-    ]?)
+    }
+}
+
+/// Returns the group of the case with this choice of spacings, of two leaves.
+fn group(rt: &(impl Abort + AllocGlobal), case: Case, joint: Choice) -> TokenTree {
+    let leaves = [
+        leaf(rt, case.inner, joint.inner),
+        leaf(rt, case.innermost, joint.innermost),
+    ];
+    let inside = TokenStream::from_trees(leaves).expect("a group");
+    TokenTree::Group(Group::new(delimiter_of(case), inside))
+}
+
+/// Returns the trees of the case with this choice of spacings: three leaves, a group of two, and a leaf.
+fn trees(rt: &(impl Abort + AllocGlobal), case: Case, joint: Choice) -> [TokenTree; 5] {
+    [
+        leaf(rt, case.first, joint.first),
+        leaf(rt, case.second, joint.second),
+        leaf(rt, case.third, joint.third),
+        group(rt, case, joint),
+        leaf(rt, case.last, joint.last),
+    ]
+}
+
+/// Returns whether the choice of this number is well spaced.
+fn is_spaced(rt: &(impl Abort + AllocGlobal), case: Case, number: u32) -> bool {
+    let trees = trees(rt, case, choice_of(number));
+    let stream = TokenStream::from_trees(trees).expect("a stream");
+    let spaced = stream.is_well_spaced();
+    release(stream);
+    spaced
 }
 
 /// Returns whether some choice of spacings is well spaced.
-fn has_a_choice(case: Case) -> Result<bool, Fail> {
+fn has_a_choice(rt: &(impl Abort + AllocGlobal), case: Case) -> bool {
     for number in 0..64 {
-        let trees = trees(case, choice_of(number))?;
-        if TokenStream::from_trees(trees)?.is_well_spaced() {
-            return Ok(true);
+        if is_spaced(rt, case, number) {
+            return true;
         }
     }
-    Ok(false)
+    false
 }
 
 /// Returns the quote of the case with the choice of this number.
-fn quote_with(case: Case, number: u32) -> Result<Quote, Fail> {
+fn quote_with(rt: &(impl Abort + AllocGlobal), case: Case, number: u32) -> Quote {
     let mut quote = Quote::new();
-    for tree in trees(case, choice_of(number))? {
-        quote.push(tree)?;
+    for tree in trees(rt, case, choice_of(number)) {
+        quote.push(tree).expect("a tree");
     }
-    Ok(quote)
+    quote
 }
 
-/// Returns whether the printed text parses to the same tokens.
-fn comes_back(stream: &TokenStream) -> Result<bool, Fail> {
-    let text = format!("{stream}")?;
-    let back = TokenStream::from_str(text.as_str(), &mut SourceMap::new())?;
-    Ok(stream.same_tokens(&back))
+/// Returns whether the quote has a stream, and whether the stream reads back from its printed text if there is one.
+/// Stops the test if memory runs out.
+fn is_given(
+    rt: &(impl Abort + AllocGlobal),
+    found: &Result<TokenStream, QuoteError>,
+) -> (bool, bool) {
+    match found {
+        Ok(stream) => (true, comes_back(rt, stream)),
+        Err(error) => {
+            assert!(!matches!(error, QuoteError::Memory(_)), "{error:?}");
+            (false, true)
+        }
+    }
+}
+
+/// Asserts that the quote of the case with the choice of this number has a stream exactly if some choice is well
+/// spaced, and that the stream reads back. Returns whether there is a stream.
+fn check_case(rt: &(impl Abort + AllocGlobal), case: Case, number: u32) -> bool {
+    let may = has_a_choice(rt, case);
+    let quote = quote_with(rt, case, number);
+    let found = quote.finish();
+    let answer = is_given(rt, &found);
+    release((quote, found));
+    assert!(answer == (may, true), "{answer:?} of {case:?}");
+    may
 }
 
 #[test]
-fn a_stream_is_given_exactly_where_some_choice_is_well_spaced() -> Result<(), Fail> {
+fn a_stream_is_given_exactly_where_some_choice_is_well_spaced() {
     let rt = HostRuntime;
     let mut random = Random { state: 7 };
     let mut given: u32 = 0;
     for _ in 0..LISTS {
         let case = random.case();
         let number = random.below(64) as u32;
-        let may = has_a_choice(case)?;
-        match quote_with(case, number)?.finish() {
-            Ok(stream) => {
-                assert!(may, "of {case:?}");
-                assert!(comes_back(&stream)?, "of {case:?}");
-                given = given.saturating_add(1);
-            }
-            Err(QuoteError::Memory(error)) => return Err(Fail::from(error)),
-            Err(_) => assert!(!may, "of {case:?}"),
+        if check_case(&rt, case, number) {
+            given = given.saturating_add(1);
         }
     }
     // Both results occurred.
     assert!(given > 100 && given < 500, "{given}");
-    Ok(())
 }

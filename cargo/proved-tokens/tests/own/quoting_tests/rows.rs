@@ -1,17 +1,15 @@
 // Made from crates/quoting_tests/src/rows.rt by dev/erase: change that file, not this one.
 
-use crate::shim::prelude::{AllocGlobal, HostRuntime, format};
+use crate::shim::prelude::{AllocGlobal, HostRuntime};
 
 // The printed text of each kind of tree. The text is parsed again and compared.
+use crate::quoting_tests::checks::{check_answer, comes_back, displays, finished, parse_text, release, shows};
 use crate::quoting_tests::trees::{Inner, Leaf, Tree, quote_with};
 use proved_tokens::proc_macro2::{
     Delimiter, Group, ParseError, Punct, SourceMap, Spacing, Span, TokenStream, TokenTree,
 };
 use proved_tokens::quoting::{Quote, QuoteError, TemplateError};
-use crate::shim::alloc::AllocError;
-use crate::shim::fmt::{Debug, Display};
 use crate::shim::process::Abort;
-use crate::shim::test::Fail;
 
 /// Trees, and the printed text of their quote. The first ones are the examples of the README.
 const PRINTED: &[(&[Tree], &str)] = &[
@@ -125,133 +123,133 @@ const NESTED: &[Tree] = &[
     ),
 ];
 
-/// Returns whether the text parses to the same tokens as the stream.
-fn comes_back(stream: &TokenStream, text: &str) -> Result<bool, ParseError> {
-    let back = TokenStream::from_str(text, &mut SourceMap::new())?;
-    Ok(stream.same_tokens(&back))
-}
-
 /// Asserts that the stream has the printed text, and reads back from it.
-fn check_stream(
-    rt: &(impl Abort + AllocGlobal),
-    stream: &TokenStream,
-    want: &str,
-) -> Result<(), ParseError> {
-    let text = format!("{stream}")?;
-    assert_eq!(text.as_str(), want);
-    assert!(comes_back(stream, text.as_str())?,
-        "of {want:?}"
-    );
-    Ok(())
+fn check_stream(rt: &(impl Abort + AllocGlobal), stream: &TokenStream, want: &str) {
+    displays(rt, stream, want, want);
+    check_answer(rt, want, &comes_back(rt, stream), &true);
 }
 
 /// Asserts that the quote has the printed text, and reads back from it.
-pub fn check_quote(rt: &(impl Abort + AllocGlobal), quote: &Quote, want: &str) -> Result<(), Fail> {
-    let stream = quote.finish()?;
-    check_stream(rt, &stream, want)?;
-    Ok(())
+pub fn check_quote(rt: &(impl Abort + AllocGlobal), quote: &Quote, want: &str) {
+    let stream = finished(rt, quote, want);
+    check_stream(rt, &stream, want);
+    release(stream);
 }
 
 /// Asserts that the quote of the trees has the printed text, and reads back from it.
-fn check_printed(rt: &(impl Abort + AllocGlobal), trees: &[Tree], want: &str) -> Result<(), Fail> {
-    let quote = quote_with(rt, trees)?;
-    check_quote(rt, &quote, want)
+fn check_printed(rt: &(impl Abort + AllocGlobal), trees: &[Tree], want: &str) {
+    let quote = quote_with(rt, trees);
+    check_quote(rt, &quote, want);
+    release(quote);
 }
 
-/// Asserts that the quote of the trees has this error.
-fn check_refused(
-    rt: &(impl Abort + AllocGlobal),
-    trees: &[Tree],
-    is_lone_quote: bool,
-) -> Result<(), Fail> {
-    let quote = quote_with(rt, trees)?;
-    match quote.finish() {
-        Err(QuoteError::LoneQuote) => assert!(is_lone_quote),
-        Err(QuoteError::NoneGroup) => assert!(!is_lone_quote),
-        _ => assert!(false),
+/// Returns whether the error is `LoneQuote`, if it is this or `NoneGroup`.
+fn is_lone_quote(found: &Result<TokenStream, QuoteError>) -> Option<bool> {
+    match found {
+        Err(QuoteError::LoneQuote) => Some(true),
+        Err(QuoteError::NoneGroup) => Some(false),
+        _ => None,
     }
-    Ok(())
+}
+
+/// Asserts that the quote of the trees, which are those of this row, has this error.
+fn check_refused(rt: &(impl Abort + AllocGlobal), row: usize, trees: &[Tree], want: bool) {
+    let quote = quote_with(rt, trees);
+    let found = quote.finish();
+    let error = is_lone_quote(&found);
+    release((quote, found));
+    check_answer(rt, "a row of REFUSED", &(row, error), &(row, Some(want)));
 }
 
 #[test]
-fn trees_are_printed_so_that_they_come_back() -> Result<(), Fail> {
+fn trees_are_printed_so_that_they_come_back() {
     let rt = HostRuntime;
     for &(trees, want) in PRINTED {
-        check_printed(&rt, trees, want)?;
+        check_printed(&rt, trees, want);
     }
-    Ok(())
 }
 
 #[test]
-fn what_no_spacing_mends_is_reported() -> Result<(), Fail> {
+fn what_no_spacing_mends_is_reported() {
     let rt = HostRuntime;
-    for &(trees, is_lone_quote) in REFUSED {
-        check_refused(&rt, trees, is_lone_quote)?;
+    for (row, &(trees, is_lone_quote)) in REFUSED.iter().enumerate() {
+        check_refused(&rt, row, trees, is_lone_quote);
     }
-    Ok(())
-}
-
-/// Returns the `Debug` text of the quote's stream.
-fn debug_text(rt: &(impl Abort + AllocGlobal), trees: &[Tree]) -> Result<String, Fail> {
-    let stream = quote_with(rt, trees)?.finish()?;
-    Ok(format!("{stream:?}")?)
 }
 
 #[test]
-fn the_last_mark_is_alone_and_others_stay_joint() -> Result<(), Fail> {
+fn the_last_mark_is_alone_and_others_stay_joint() {
     let rt = HostRuntime;
     let colons = &[Tree::One(Leaf::Joint(':')), Tree::One(Leaf::Joint(':'))];
-    let shown = debug_text(&rt, colons)?;
+    let quote = quote_with(&rt, colons);
+    let stream = finished(&rt, &quote, "::");
     let want =
         "TokenStream [Punct { char: ':', spacing: Joint }, Punct { char: ':', spacing: Alone }]";
-    assert_eq!(shown.as_str(), want);
-    Ok(())
+    shows(&rt, &stream, want);
+    release((quote, stream));
 }
 
 #[test]
-fn marks_in_groups_are_respaced_and_the_quote_stays() -> Result<(), Fail> {
+fn marks_in_groups_are_respaced_and_the_quote_stays() {
     let rt = HostRuntime;
-    let quote = quote_with(&rt, NESTED)?;
+    let quote = quote_with(&rt, NESTED);
     for _ in 0..2 {
-        check_quote(&rt, &quote, "a { (b) [+] -> }")?;
+        check_quote(&rt, &quote, "a { (b) [+] -> }");
     }
-    Ok(())
+    release(quote);
+}
+
+/// Returns the stream in parentheses.
+fn in_parentheses(rt: &(impl Abort + AllocGlobal), stream: TokenStream) -> TokenStream {
+    let group = TokenTree::Group(Group::new(Delimiter::Parenthesis, stream));
+    TokenStream::from_tree(group).expect("a group")
 }
 
 /// Returns nested parentheses around a mark that is Joint.
-fn deep_groups(levels: u32) -> Result<TokenStream, Fail> {
+fn deep_groups(rt: &(impl Abort + AllocGlobal), levels: u32) -> TokenStream {
     let mut stream = TokenStream::new();
-    stream.extend_puncts([Punct::new('+', Spacing::Joint)])?;
+    let plus = Punct::new('+', Spacing::Joint);
+    stream.extend_puncts([plus]).expect("+");
     for _ in 0..levels {
-        let group = Group::new(Delimiter::Parenthesis, stream);
-        stream = TokenStream::from_tree(TokenTree::Group(group))?;
+        stream = in_parentheses(rt, stream);
     }
-    Ok(stream)
+    stream
 }
 
-/// Returns a quote of the stream.
-pub fn quote_of(stream: TokenStream) -> Result<Quote, Fail> {
-    let mut quote = Quote::new();
-    quote.push_stream(stream)?;
-    Ok(quote)
+/// Asserts that the quote has a well spaced stream of this many trees.
+fn is_spaced(rt: &impl Abort, quote: &Quote, row: &str, count: usize) {
+    let stream = finished(rt, quote, row);
+    let answer = (stream.trees().len(), stream.is_well_spaced());
+    release(stream);
+    check_answer(rt, row, &answer, &(count, true));
 }
 
 #[test]
-fn deep_groups_are_respaced_without_a_deep_stack() -> Result<(), Fail> {
+fn deep_groups_are_respaced_without_a_deep_stack() {
     let rt = HostRuntime;
-    let quote = quote_of(deep_groups(100_000)?)?;
-    assert!(quote.finish()?.is_well_spaced());
-    Ok(())
+    let mut quote = Quote::new();
+    let stream = deep_groups(&rt, 100_000);
+    quote.push_stream(stream).expect("deep groups");
+    is_spaced(&rt, &quote, "deep groups", 1);
+    release(quote);
+}
+
+/// Adds the tree to the quote.
+fn push(rt: &impl Abort, quote: &mut Quote, tree: TokenTree) {
+    quote.push(tree).expect("a tree");
 }
 
 /// Returns what a quote has after these were pushed: an Alone quote, the stream in a group without delimiters, and a
 /// Joint mark.
-fn quote_of_pushes(stream: TokenStream) -> Result<TokenStream, Fail> {
+fn quote_of_pushes(rt: &(impl Abort + AllocGlobal), stream: TokenStream) -> TokenStream {
     let mut quote = Quote::new();
-    quote.push(TokenTree::Punct(Punct::new('\'', Spacing::Alone)))?;
-    quote.push(TokenTree::Group(Group::new(Delimiter::None, stream)))?;
-    quote.push(TokenTree::Punct(Punct::new('+', Spacing::Joint)))?;
-    Ok(quote.into_stream())
+    let first = TokenTree::Punct(Punct::new('\'', Spacing::Alone));
+    push(rt, &mut quote, first);
+    let group = TokenTree::Group(Group::new(Delimiter::None, stream));
+    push(rt, &mut quote, group);
+    let last = TokenTree::Punct(Punct::new('+', Spacing::Joint));
+    push(rt, &mut quote, last);
+    quote.into_stream()
 }
 
 /// Returns the spacing of the mark before a group, the group's delimiter and first tree, and the spacing of the mark
@@ -278,86 +276,67 @@ fn text_of(map: &SourceMap, span: Span) -> Option<&str> {
     }
 }
 
+/// Returns the parts of the stream, with the text of the first tree in the group.
+fn texts_of<'m>(
+    map: &'m SourceMap,
+    stream: &TokenStream,
+) -> Option<(Spacing, Delimiter, Option<&'m str>, Spacing)> {
+    let (first, delimiter, name, last) = parts_of(stream)?;
+    Some((first, delimiter, text_of(map, name.span()), last))
+}
+
 #[test]
-fn a_stream_has_exactly_what_was_pushed() -> Result<(), Fail> {
+fn a_stream_has_exactly_what_was_pushed() {
     let rt = HostRuntime;
     let mut map = SourceMap::new();
-    let name = TokenStream::from_str("a", &mut map)?;
-    let stream = quote_of_pushes(name)?;
-    let found = match parts_of(&stream) {
-        Some((first, delimiter, name, last)) => {
-            Some((first, delimiter, text_of(&map, name.span()), last))
-        }
-        None => None,
-    };
+    let name = TokenStream::from_str("a", &mut map).expect("a");
+    let stream = quote_of_pushes(&rt, name);
     let want = (Spacing::Alone, Delimiter::None, Some("a"), Spacing::Joint);
-    assert_eq!(found, Some(want));
-    Ok(())
-}
-
-/// Asserts that the error has this message.
-fn says<T: Display>(
-    rt: &(impl Abort + AllocGlobal),
-    error: &T,
-    want: &str,
-) -> Result<(), AllocError> {
-    let text = format!("{error}")?;
-    assert_eq!(text.as_str(), want);
-    Ok(())
-}
-
-/// Asserts that the error has this `Debug` text.
-fn shows<T: Debug>(
-    rt: &(impl Abort + AllocGlobal),
-    error: &T,
-    want: &str,
-) -> Result<(), AllocError> {
-    let text = format!("{error:?}")?;
-    assert_eq!(text.as_str(), want);
-    Ok(())
+    check_answer(&rt, "' a +", &texts_of(&map, &stream), &Some(want));
+    release((map, stream));
 }
 
 #[test]
-fn errors_say_why() -> Result<(), AllocError> {
+fn errors_say_why() {
     let rt = HostRuntime;
-    says(&rt, &QuoteError::NoneGroup, "a group has no delimiters")?;
-    shows(&rt, &QuoteError::LoneQuote, "LoneQuote")?;
+    let no_delimiters = "a group has no delimiters";
+    displays(&rt, &QuoteError::NoneGroup, "NoneGroup", no_delimiters);
+    shows(&rt, &QuoteError::LoneQuote, "LoneQuote");
     let no_hole = TemplateError::NoHole(Span::call_site());
-    shows(&rt, &no_hole, "NoHole(bytes(0..0))")?;
+    shows(&rt, &no_hole, "NoHole(bytes(0..0))");
     let map_full = TemplateError::Parse(ParseError::MapFull);
-    shows(&rt, &map_full, "Parse(MapFull)")
+    shows(&rt, &map_full, "Parse(MapFull)");
+    release((no_hole, map_full));
 }
 
 /// Adds a Joint mark, which `finish` makes Alone, and a group of a name to the quote.
-fn push_pair(rt: &(impl Abort + AllocGlobal), quote: &mut Quote) -> Result<(), Fail> {
-    quote.push(TokenTree::Punct(Punct::new('+', Spacing::Joint)))?;
-    let name = TokenStream::from_str("x", &mut SourceMap::new())?;
-    quote.push(TokenTree::Group(Group::new(Delimiter::Parenthesis, name)))?;
-    Ok(())
+fn push_pair(rt: &(impl Abort + AllocGlobal), quote: &mut Quote) {
+    let mark = TokenTree::Punct(Punct::new('+', Spacing::Joint));
+    push(rt, quote, mark);
+    let group = Group::new(Delimiter::Parenthesis, parse_text(rt, "x"));
+    push(rt, quote, TokenTree::Group(group));
 }
 
 #[test]
-fn forty_thousand_trees_are_finished() -> Result<(), Fail> {
+fn forty_thousand_trees_are_finished() {
     let rt = HostRuntime;
     let mut quote = Quote::new();
     for _ in 0..20_000 {
-        push_pair(&rt, &mut quote)?;
+        push_pair(&rt, &mut quote);
     }
-    let stream = quote.finish()?;
-    assert_eq!(stream.trees().len(), 40_000);
-    assert!(stream.is_well_spaced());
-    Ok(())
+    is_spaced(&rt, &quote, "+ (x) and so on", 40_000);
+    release(quote);
 }
 
 #[test]
-fn the_trees_of_a_text_go_between_others() -> Result<(), Fail> {
+fn the_trees_of_a_text_go_between_others() {
     let rt = HostRuntime;
-    let mut quote = quote_with(
-        &rt,
-        &[Tree::One(Leaf::Name("x")), Tree::One(Leaf::Alone(':'))],
-    )?;
-    let kind = TokenStream::from_str("std::vec::Vec<u8>", &mut SourceMap::new())?;
-    quote.push_stream(kind)?;
-    quote.push(TokenTree::Punct(Punct::new(',', Spacing::Joint)))?;
-    check_quote(&rt, &quote, "x : std :: vec :: Vec < u8 > ,")
+    let before = &[Tree::One(Leaf::Name("x")), Tree::One(Leaf::Alone(':'))];
+    let mut quote = quote_with(&rt, before);
+    let kind = parse_text(&rt, "std::vec::Vec<u8>");
+    quote.push_stream(kind).expect("a type");
+    let comma = TokenTree::Punct(Punct::new(',', Spacing::Joint));
+    push(&rt, &mut quote, comma);
+    check_quote(&rt, &quote, "x : std :: vec :: Vec < u8 > ,");
+    release(quote);
 }

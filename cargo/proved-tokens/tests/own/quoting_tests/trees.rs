@@ -6,7 +6,6 @@ use crate::shim::prelude::{AllocGlobal, Grow};
 use proved_tokens::proc_macro2::{Delimiter, Group, Ident, Literal, Punct, Spacing, Span, TokenStream, TokenTree};
 use proved_tokens::quoting::Quote;
 use crate::shim::process::Abort;
-use crate::shim::test::Fail;
 
 /// A tree that is not a group.
 #[derive(Clone, Copy)]
@@ -49,67 +48,87 @@ fn mark(rt: &impl Abort, mark: char, spacing: Spacing) -> TokenTree {
     TokenTree::Punct(Punct::new(mark, spacing))
 }
 
+/// Returns the identifier of this name.
+fn word(rt: &(impl Abort + AllocGlobal), name: &str) -> TokenTree {
+    TokenTree::Ident(Ident::new(name, Span::call_site()).expect(name))
+}
+
+/// Returns the literal of this character.
+fn character(rt: &(impl Abort + AllocGlobal), character: char) -> TokenTree {
+    TokenTree::Literal(Literal::character(character).expect("a character"))
+}
+
+/// Returns the literal of these bytes.
+fn bytes(rt: &(impl Abort + AllocGlobal), text: &str) -> TokenTree {
+    TokenTree::Literal(Literal::byte_string(text.as_bytes()).expect(text))
+}
+
+/// Returns the literal of this number.
+fn number(rt: &(impl Abort + AllocGlobal), number: i32) -> TokenTree {
+    TokenTree::Literal(Literal::i32_suffixed(number).expect("a number"))
+}
+
 /// Returns the leaf as a tree.
-fn leaf_tree(rt: &(impl Abort + AllocGlobal), leaf: Leaf) -> Result<TokenTree, Fail> {
-    Ok(match leaf {
-        Leaf::Name(name) => TokenTree::Ident(Ident::new(name, Span::call_site())?),
+fn leaf_tree(rt: &(impl Abort + AllocGlobal), leaf: Leaf) -> TokenTree {
+    match leaf {
+        Leaf::Name(name) => word(rt, name),
         Leaf::Joint(c) => mark(rt, c, Spacing::Joint),
         Leaf::Alone(c) => mark(rt, c, Spacing::Alone),
-        Leaf::Character(c) => TokenTree::Literal(Literal::character(c)?),
-        Leaf::Bytes(text) => TokenTree::Literal(Literal::byte_string(text.as_bytes())?),
-        Leaf::Number(number) => TokenTree::Literal(Literal::i32_suffixed(number)?),
-    })
+        Leaf::Character(c) => character(rt, c),
+        Leaf::Bytes(text) => bytes(rt, text),
+        Leaf::Number(value) => number(rt, value),
+    }
 }
 
 /// Returns a group of the trees.
 fn group(
-    rt: &impl AllocGlobal,
+    rt: &(impl Abort + AllocGlobal),
     delimiter: Delimiter,
     trees: Vec<TokenTree>,
-) -> Result<TokenTree, Fail> {
-    let inside = TokenStream::from_trees(trees)?;
-    Ok(TokenTree::Group(Group::new(delimiter, inside)))
+) -> TokenTree {
+    let inside = TokenStream::from_trees(trees).expect("a group");
+    TokenTree::Group(Group::new(delimiter, inside))
 }
 
 /// Returns the leaves as trees.
-fn leaves(rt: &(impl Abort + AllocGlobal), leaves: &[Leaf]) -> Result<Vec<TokenTree>, Fail> {
+fn leaves(rt: &(impl Abort + AllocGlobal), leaves: &[Leaf]) -> Vec<TokenTree> {
     let mut trees = Vec::new();
-    for it in leaves {
-        trees.push_fallibly(leaf_tree(rt, *it)?)?;
+    for &leaf in leaves {
+        trees.push_fallibly(leaf_tree(rt, leaf)).expect("a leaf");
     }
-    Ok(trees)
+    trees
 }
 
 /// Returns a leaf or a group of leaves as a tree.
-fn inner_tree(rt: &(impl Abort + AllocGlobal), tree: Inner) -> Result<TokenTree, Fail> {
+fn inner_tree(rt: &(impl Abort + AllocGlobal), tree: Inner) -> TokenTree {
     match tree {
-        Inner::One(it) => leaf_tree(rt, it),
-        Inner::Of(delimiter, inside) => group(rt, delimiter, leaves(rt, inside)?),
+        Inner::One(leaf) => leaf_tree(rt, leaf),
+        Inner::Of(delimiter, inside) => group(rt, delimiter, leaves(rt, inside)),
     }
 }
 
 /// Returns leaves and groups of leaves as trees.
-fn inners(rt: &(impl Abort + AllocGlobal), inside: &[Inner]) -> Result<Vec<TokenTree>, Fail> {
+fn inners(rt: &(impl Abort + AllocGlobal), inside: &[Inner]) -> Vec<TokenTree> {
     let mut trees = Vec::new();
-    for it in inside {
-        trees.push_fallibly(inner_tree(rt, *it)?)?;
+    for &inner in inside {
+        trees.push_fallibly(inner_tree(rt, inner)).expect("a tree");
     }
-    Ok(trees)
+    trees
 }
 
 /// Returns the tree of the library.
-fn outer_tree(rt: &(impl Abort + AllocGlobal), tree: Tree) -> Result<TokenTree, Fail> {
+fn outer_tree(rt: &(impl Abort + AllocGlobal), tree: Tree) -> TokenTree {
     match tree {
-        Tree::One(it) => leaf_tree(rt, it),
-        Tree::Of(delimiter, inside) => group(rt, delimiter, inners(rt, inside)?),
+        Tree::One(leaf) => leaf_tree(rt, leaf),
+        Tree::Of(delimiter, inside) => group(rt, delimiter, inners(rt, inside)),
     }
 }
 
 /// Returns a quote of the trees.
-pub fn quote_with(rt: &(impl Abort + AllocGlobal), trees: &[Tree]) -> Result<Quote, Fail> {
+pub fn quote_with(rt: &(impl Abort + AllocGlobal), trees: &[Tree]) -> Quote {
     let mut quote = Quote::new();
-    for it in trees {
-        quote.push(outer_tree(rt, *it)?)?;
+    for &tree in trees {
+        quote.push(outer_tree(rt, tree)).expect("a tree");
     }
-    Ok(quote)
+    quote
 }
