@@ -301,6 +301,8 @@ if has proc-macro2-1 && has unicode-ident-1 && command -v python3 > /dev/null; t
 else
     skip "what would be published: no proc-macro2, unicode-ident or python3"
 fi
+try "the example of a lint" in_copy examples/arms test --offline --quiet
+neat arms
 if has proc-macro2-1 && has unicode-ident-1; then
     try "the bridge over the public crate" bridge test --offline --quiet --all-features
     # Macros over the bridge: their own tests, and the lines and columns at which they tell errors.

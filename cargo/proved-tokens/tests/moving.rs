@@ -188,6 +188,7 @@ fn calls_in_place_of_syns_on_attributes_parameters_and_errors() -> Outcome {
     assert!(missing.span().is_none() && missing.within(list).span().is_some());
     let body = list;
     let fault = parse_entry(body.stream_ref().trees()).err().ok_or("it is an entry")?;
+    assert_eq!(format!("expected {} here", fault.expected()), "expected an expression here");
     assert!(fault.span().is_none() && fault.within(body).span().is_some());
 
     let stream: TokenStream = "pub const fn f(&self, x: u8) -> u8 { x }".parse()?;

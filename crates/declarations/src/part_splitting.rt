@@ -231,9 +231,9 @@ pub fn split_variants(trees: &[TokenTree]) -> Result<(&[TokenTree], &[TokenTree]
 
 /// Returns the expression at the start of the trees, and the trees after it.
 ///
-/// Like the discriminant of a variant, it ends at a `,` outside of angle brackets, or with the trees. It is not parsed;
-/// only its end is found, so `a => b` is one expression. For `f::<X, Y>() as A<B, C>, D` it is everything
-/// before the last `,`.
+/// Like the discriminant of a variant, it ends before a `,`, a `;` or a second operand, outside of angle brackets and
+/// a closure's bars, or with the trees. It is not parsed; only its end is found, so `a => b` is one expression. For
+/// `f::<X, Y>() as A<B, C>, D` it is everything before the last `,`.
 pub fn split_expression(trees: &[TokenTree]) -> Result<(&[TokenTree], &[TokenTree]), Fault>
     ensures ok { IfOk result (λ found. Reads IsExpression trees.now found.0.now found.1.now) }
     ensures only { IfOk result (λ found. IsOnly IsExpression trees.now found.0.now found.1.now) }
