@@ -16,7 +16,7 @@ use Rattle.pm_stream.specs.Forest.{Forest, nil, leaf, group, flattening, chain}
 use Rattle.pm_token.specs.Outcome.{IfLex}
 use Rattle.pm_token.specs.declared.errors.ParseError.{ParseError}
 use Rattle.pm_token.specs.declared.errors.ParseError.TheVariants.{Lex, MapFull, Memory}
-use Rattle.pm_stream.specs.Parsing.{ParsesTo, is_first, StopsAt, FaultAt, HasNoFault, IsOnlyFault}
+use Rattle.pm_stream.specs.Parsing.{ParsesTo, is_first, StopsAt, FaultAt, HasNoFault, IsOnlyFault, ReportsFault}
 use Rattle.pm_stream.specs.Fault.{IsFault}
 use Rattle.pm_stream.specs.OpenGroups.{Opened, unclosed_onto, FitsInnermost}
 use Rattle.pm_stream.proofs.CoverLemmas.{expansion-append}
@@ -282,24 +282,17 @@ has_outcome base source =
 
 -- ---- the results of parsing, and that there are no others
 
-pub faultless : {A : Type 0} (P : A → Type 0) (base begin : ℕ) (source : List ℕ) (result : Result A ParseError)
-    → ((value : A) → P value → (stream : Forest) × ParsesTo base source stream) → base ≡ begin
-    → IfOk result P → IfOk result (λ value. HasNoFault begin source)
-faultless P base begin source (Ok value) of e h = λ position.
-    parses_or_not begin source (of value h).0 position (subst (λ n. ParsesTo n source (of value h).0) e (of value h).1)
-faultless P base begin source (Err error) of e h = tt
-
-pub parsed_faultless : (base begin : ℕ) (source : List ℕ) (result : Result Forest ParseError) → base ≡ begin
-    → IfOk result (ParsesTo base source) → IfOk result (λ stream. HasNoFault begin source)
-parsed_faultless base begin source result =
-    faultless (ParsesTo base source) base begin source result (λ stream h. (stream, h))
-
 only_fault : (base : ℕ) (source : List ℕ) (position : ℕ) → FaultAt base source position
     → IsOnlyFault base source position
 only_fault base source position h = (
   λ stream parsed. parses_or_not base source stream position parsed h,
   λ other fault. one_fault base source other position fault h,
 )
+
+pub parsed_faultless : (base begin : ℕ) (source : List ℕ) (stream : Forest) → base ≡ begin
+    → ParsesTo base source stream → HasNoFault begin source
+parsed_faultless base begin source stream e h = λ position.
+    parses_or_not begin source stream position (subst (λ n. ParsesTo n source stream) e h)
 
 pub refused_only : {A : Type 0} (base begin : ℕ) (source : List ℕ) (result : Result A ParseError) → base ≡ begin
     → IfErr result (IsFault base source)
@@ -309,3 +302,21 @@ refused_only base begin source (Err (Lex fault)) e h =
     only_fault begin source fault.lo (subst (λ n. FaultAt n source fault.lo) e h.1)
 refused_only base begin source (Err MapFull) e h = tt
 refused_only base begin source (Err (Memory error)) e h = tt
+
+-- if each value means that the source parses, and each error is its fault, the result reports its fault
+pub reported : {A : Type 0} (P : A → Type 0) (base begin : ℕ) (source : List ℕ) (result : Result A ParseError)
+    → ((value : A) → P value → (stream : Forest) × ParsesTo base source stream) → base ≡ begin
+    → IfOk result P → IfErr result (IsFault base source) → ReportsFault IfLex begin source result
+reported P base begin source (Ok value) of e h is =
+    record { apart = parsed_faultless base begin source (of value h).0 e (of value h).1; lex = tt; only = tt }
+reported P base begin source (Err (Lex fault)) of e h is =
+    let at = subst (λ n. FaultAt n source fault.lo) e is.1 in
+    record { apart = tt; lex = (is.0, at); only = only_fault begin source fault.lo at }
+reported P base begin source (Err MapFull) of e h is = record { apart = tt; lex = tt; only = tt }
+reported P base begin source (Err (Memory error)) of e h is = record { apart = tt; lex = tt; only = tt }
+
+pub parsed_reported : (base begin : ℕ) (source : List ℕ) (result : Result Forest ParseError) → base ≡ begin
+    → IfOk result (ParsesTo base source) → IfErr result (IsFault base source)
+    → ReportsFault IfLex begin source result
+parsed_reported base begin source result =
+    reported (ParsesTo base source) base begin source result (λ stream h. (stream, h))

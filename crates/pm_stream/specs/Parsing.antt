@@ -1,7 +1,9 @@
 -- What a source parses to, and the position of its fault. Positions count characters; the source begins at `base`.
 use Rattle.std.specs.Prelude.{ℕ, Bool, true, false, ◌+◌, ◌≡◌, ◌≢◌, ◌⊎◌, List, [], ◌∷◌, ◌++◌, length}
+use Rattle.std.specs.Prelude.{Result, IfOk, IfErr}
 use Rattle.lexical.specs.Piece.{Piece, Close, IsPiece, HasNoPiece}
 use Rattle.lexical.specs.Cover.{CoversUpTo, IsCover, width}
+use Rattle.pm_span.specs.Extent.{Extent}
 use Rattle.pm_token.specs.declared.delimiters.Delimiter.{Delimiter}
 use Rattle.pm_stream.specs.Delimited.{delimiter_of}
 use Rattle.pm_stream.specs.Events.{Event, Opens, Closes, expansion, Balanced, CanGoOn}
@@ -61,3 +63,10 @@ abbrev pub IsOnlyFault : ℕ → List ℕ → ℕ → Type 0
 IsOnlyFault base source position =
     ((stream : Forest) → ParsesTo base source stream → ⊥)
     × ((other : ℕ) → FaultAt base source other → other ≡ position)
+
+-- a value comes only if the source has no fault, and a syntax error has the only fault, as an empty extent
+pub record ReportsFault {A E : Type 0} (IfFault : E → (Extent → Type 0) → Type 0) (base : ℕ) (source : List ℕ)
+    (result : Result A E) : Type 0 where
+  pub apart : IfOk result (λ value. HasNoFault base source)
+  pub lex : IfErr result (λ error. IfFault error (λ fault. (fault.lo ≡ fault.hi) × FaultAt base source fault.lo))
+  pub only : IfErr result (λ error. IfFault error (λ fault. IsOnlyFault base source fault.lo))

@@ -13,7 +13,7 @@ ghost use Rattle.pm_stream.specs.Fault.{IsFault};
 ghost use Rattle.pm_stream.specs.Forest.{flat_onto, IsBuilt};
 ghost use Rattle.pm_stream.specs.HeldSpans.{HoldsAll};
 ghost use Rattle.pm_stream.specs.ParserState.{Adds, Parses};
-ghost use Rattle.pm_stream.specs.Parsing.{ParsesTo, FaultAt, HasNoFault, IsOnlyFault};
+ghost use Rattle.pm_stream.specs.Parsing.{ParsesTo, ReportsFault};
 ghost use Rattle.pm_stream.specs.Trees.{alone, forest, GoesInside};
 ghost use Rattle.pm_stream.specs.declared.stream.TokenTree.TheVariants as trees;
 
@@ -46,15 +46,11 @@ impl TokenStream {
     pub fn from_str(text: &str, map: &mut SourceMap) -> Result<TokenStream, ParseError>
         ensures ok { IfOk result (λ stream. ParsesTo (next_lo map.old) (chars text.now) stream) }
         ensures built { IfOk result IsBuilt }
-        ensures apart { IfOk result (λ _. HasNoFault (next_lo map.old) (chars text.now)) }
         ensures spans { IfOk result (HoldsAll map.new) }
         ensures within { IsTrue (was_read result) → Fits map.old (length (chars text.now)) }
 
         // The fault has one position, and the map holds it.
-        ensures lex { IfErr result (λ error. IfLex error (λ fault.
-            (fault.lo ≡ fault.hi) × FaultAt (next_lo map.old) (chars text.now) fault.lo)) }
-        ensures only { IfErr result (λ error. IfLex error (λ fault.
-            IsOnlyFault (next_lo map.old) (chars text.now) fault.lo)) }
+        ensures fault { ReportsFault IfLex (next_lo map.old) (chars text.now) result }
         ensures held { IfErr result (λ error. IfLex error (Holds map.new)) }
         ensures map_full { (result ≡ Err ParseError.MapFull)
             ↔ (Fits map.old (length (chars text.now)) → ⊥) }
@@ -84,11 +80,7 @@ impl TokenStream {
     pub fn parse_unmapped(alloc: Global, text: &str) -> Result<TokenStream, ParseError>
         ensures ok { IfOk result (λ stream. ParsesTo (next_lo new_map) (chars text.now) stream) }
         ensures built { IfOk result IsBuilt }
-        ensures apart { IfOk result (λ _. HasNoFault (next_lo new_map) (chars text.now)) }
-        ensures lex { IfErr result (λ error. IfLex error (λ fault.
-            (fault.lo ≡ fault.hi) × FaultAt (next_lo new_map) (chars text.now) fault.lo)) }
-        ensures only { IfErr result (λ error. IfLex error (λ fault.
-            IsOnlyFault (next_lo new_map) (chars text.now) fault.lo)) }
+        ensures fault { ReportsFault IfLex (next_lo new_map) (chars text.now) result }
         ensures map_full { (result ≡ Err ParseError.MapFull)
             ↔ (Fits new_map (length (chars text.now)) → ⊥) }
     {

@@ -6,7 +6,7 @@ ghost use Rattle.pm_span.specs.Files.{Fits, new_map, next_lo};
 ghost use Rattle.pm_span.specs.Line.{is_one_line};
 ghost use Rattle.pm_token.specs.Outcome.{IfLex};
 ghost use Rattle.pm_stream.specs.Fault.{IsFault};
-ghost use Rattle.pm_stream.specs.Parsing.{FaultAt, HasNoFault, IsOnlyFault};
+ghost use Rattle.pm_stream.specs.Parsing.{ReportsFault};
 ghost use Rattle.pm_stream.specs.Places.{ArePlaced, moved_past};
 ghost use Rattle.pm_stream.specs.PlacerState.{Places, doc_places};
 ghost use Rattle.pm_stream.specs.Taken.{IsLexed, IsTakenTo};
@@ -65,11 +65,7 @@ pub struct PlacedTree {
 /// the fault is 2..2.
 pub fn place_trees(alloc: Global, text: &str) -> Result<Vec<PlacedTree>, ParseError>
     ensures ok { IfOk result (λ trees. ArePlaced (next_lo new_map) (chars text.now) trees.items) }
-    ensures apart { IfOk result (λ _. HasNoFault (next_lo new_map) (chars text.now)) }
-    ensures lex { IfErr result (λ error. IfLex error (λ fault.
-        (fault.lo ≡ fault.hi) × FaultAt (next_lo new_map) (chars text.now) fault.lo)) }
-    ensures only { IfErr result (λ error. IfLex error (λ fault.
-        IsOnlyFault (next_lo new_map) (chars text.now) fault.lo)) }
+    ensures fault { ReportsFault IfLex (next_lo new_map) (chars text.now) result }
     ensures map_full { (result ≡ Err ParseError.MapFull)
         ↔ (Fits new_map (length (chars text.now)) → ⊥) }
 {

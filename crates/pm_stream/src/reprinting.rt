@@ -5,7 +5,7 @@ ghost use Rattle.std.specs.Str.{chars};
 ghost use Rattle.lexical.specs.Token.{Mark, Token, token_text};
 ghost use Rattle.pm_span.specs.Files.{Fits, new_map, next_lo};
 ghost use Rattle.pm_token.specs.Outcome.{IfLex};
-ghost use Rattle.pm_stream.specs.Parsing.{FaultAt, HasNoFault, IsOnlyFault};
+ghost use Rattle.pm_stream.specs.Parsing.{ReportsFault};
 ghost use Rattle.pm_stream.specs.Events.{One, doc_onto};
 ghost use Rattle.pm_stream.specs.Fault.{IsFault};
 ghost use Rattle.pm_stream.specs.Delimited.{opening};
@@ -33,11 +33,7 @@ use std::alloc::{AllocError, Global};
 /// `a+=b` gives `a += b`, and `{x}` gives `{ x }`. The fault of `(]` is 2..2.
 pub fn reprint(alloc: Global, text: &str) -> Result<String, ParseError>
     ensures ok { IfOk result (λ out. PrintsText (next_lo new_map) (chars text.now) (string_bytes out)) }
-    ensures apart { IfOk result (λ _. HasNoFault (next_lo new_map) (chars text.now)) }
-    ensures lex { IfErr result (λ error. IfLex error (λ fault.
-        (fault.lo ≡ fault.hi) × FaultAt (next_lo new_map) (chars text.now) fault.lo)) }
-    ensures only { IfErr result (λ error. IfLex error (λ fault.
-        IsOnlyFault (next_lo new_map) (chars text.now) fault.lo)) }
+    ensures fault { ReportsFault IfLex (next_lo new_map) (chars text.now) result }
     ensures map_full { (result ≡ Err ParseError.MapFull)
         ↔ (Fits new_map (length (chars text.now)) → ⊥) }
 {

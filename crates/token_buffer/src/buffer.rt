@@ -2,12 +2,11 @@
 ghost use Rattle.std.specs.Prelude.{◌≡◌, ◌≤◌, ◌+◌, ◌<◌, ◌^◌, ◌↔◌, ◌⊎◌, IfOk, IfErr, length};
 ghost use Rattle.std.specs.Str.{chars};
 ghost use Rattle.pm_span.specs.Files.{Fits, new_map, next_lo};
-ghost use Rattle.pm_token.specs.Outcome.{IfLex};
 ghost use Rattle.pm_stream.specs.Forest.{flattening};
-ghost use Rattle.pm_stream.specs.Parsing.{FaultAt, HasNoFault, IsOnlyFault, ParsesTo};
+ghost use Rattle.pm_stream.specs.Parsing.{ParsesTo, ReportsFault};
 ghost use Rattle.token_buffer.specs.Reads.{left};
 ghost use Rattle.token_buffer.specs.Many.{HasManyTokens};
-ghost use Rattle.token_buffer.specs.Refused.{IfParse, IfTooLong};
+ghost use Rattle.token_buffer.specs.Refused.{IfFault, IfTooLong};
 
 use crate::cursor::Cursor;
 use crate::entry::Entry;
@@ -62,11 +61,7 @@ impl<'a> TokenBuffer<'a> {
     /// `a += (b)` has the identifier `a`, the marks `+` and `=`, and the group of `b`.
     pub fn new(alloc: Global, text: &'a str) -> Result<TokenBuffer<'a>, BufferError>
         ensures ok { IfOk result (λ buffer. ParsesTo (next_lo new_map) (chars text.now) buffer) }
-        ensures apart { IfOk result (λ _. HasNoFault (next_lo new_map) (chars text.now)) }
-        ensures lex { IfErr result (λ error. IfParse error (λ parse. IfLex parse (λ fault.
-            (fault.lo ≡ fault.hi) × FaultAt (next_lo new_map) (chars text.now) fault.lo))) }
-        ensures only { IfErr result (λ error. IfParse error (λ parse. IfLex parse (λ fault.
-            IsOnlyFault (next_lo new_map) (chars text.now) fault.lo))) }
+        ensures fault { ReportsFault IfFault (next_lo new_map) (chars text.now) result }
         ensures map_full { (result ≡ Err (BufferError.Parse ParseError.MapFull))
             ↔ ((length text.now < 2 ^ 32) × (Fits new_map (length (chars text.now)) → ⊥)) }
         ensures few { IfOk result (λ buffer. (length text.now < 2 ^ 32) × (length (flattening buffer) < 2 ^ 32)) }

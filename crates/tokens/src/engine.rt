@@ -1,12 +1,12 @@
 //! A run, which goes from the bytes of a source to the bytes of a sink.
-ghost use Rattle.std.specs.Prelude.{◌≡◌, ◌≢◌, ◌↔◌, IfErr, IfOk, IsFalse, alloc_error, length};
+ghost use Rattle.std.specs.Prelude.{◌≡◌, ◌≢◌, ◌↔◌, IfOk, IsFalse, alloc_error, length};
 ghost use Rattle.std.specs.Str.{IsUtf8, chars};
 ghost use Rattle.proc_macro2.specs.declared.LineColumn.{LineColumn};
 ghost use Rattle.proc_macro2.specs.Files.{Fits, Holds, new_map, next_lo};
 ghost use Rattle.proc_macro2.specs.Forest.{Forest};
 ghost use Rattle.proc_macro2.specs.Lookup.{StartsAt};
 ghost use Rattle.proc_macro2.specs.Outcome.{IfLex};
-ghost use Rattle.proc_macro2.specs.Parsing.{IsOnlyFault, ParsesTo};
+ghost use Rattle.proc_macro2.specs.Parsing.{ParsesTo, ReportsFault};
 ghost use Rattle.tokens.specs.Answer.{is_io};
 ghost use Rattle.tokens.specs.Output.{IsOutput, IsOutputOf, IsReadable, IsTooLong, HasFaultAt, output_bytes};
 ghost use Rattle.tokens.specs.Run.{Runs, seen_by};
@@ -71,8 +71,7 @@ fn output_of(alloc: Global, mode: OutputMode, input: Vec<u8>) -> Result<RunOutpu
 /// line.
 fn output_of_text(alloc: Global, mode: OutputMode, text: &str) -> Result<RunOutput, ParseError>
     ensures ok { IfOk result (IsOutputOf mode (chars text.now)) }
-    ensures only { IfErr result (λ error. IfLex error (λ fault.
-        IsOnlyFault (next_lo new_map) (chars text.now) fault.lo)) }
+    ensures fault { ReportsFault IfLex (next_lo new_map) (chars text.now) result }
     ensures map_full { (result ≡ Err ParseError.MapFull)
         ↔ (Fits new_map (length (chars text.now)) → ⊥) }
 {

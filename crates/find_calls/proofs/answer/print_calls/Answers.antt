@@ -22,14 +22,15 @@ pub parse_failure-requires : goal.parse_failure-requires
 parse_failure-requires g c =
     let map = c.in_ok-add_file.ensures.ok ∙ ap (λ (m : Files). with_file m (chars c.args.text.now)) c.new-map.ensures in
     let is = c.in-Err-Parse.field-0-is ∙ ap Parse (sym c.in-Err-Parse.error-is) in
-    fault_is_held _ (chars c.args.text.now) _ map (lex_of c.in-Err-Parse.field-0 _ is _ c.in-Err-Parse.ensures.lex)
+    fault_is_held _ (chars c.args.text.now) _ map
+    (lex_of c.in-Err-Parse.field-0 _ is _ c.in-Err-Parse.ensures.fault.lex)
 
 pub returns-in-Err-Parse-clause-err : goal.returns-in-Err-Parse-clause-err
 returns-in-Err-Parse-clause-err g c =
     let map = c.in_ok-add_file.ensures.ok ∙ ap (λ (m : Files). with_file m (chars c.args.text.now)) c.new-map.ensures in
     let is = c.in-Err-Parse.field-0-is ∙ ap Parse (sym c.in-Err-Parse.error-is) in
     inl (unread_may_fail (chars c.args.text.now) _ _ _ _ map
-    (lex_of c.in-Err-Parse.field-0 _ is _ c.in-Err-Parse.ensures.lex)
+    (lex_of c.in-Err-Parse.field-0 _ is _ c.in-Err-Parse.ensures.fault.lex)
     (λ full. (c.in-Err-Parse.ensures.map_full.0 (ap Err (is ∙ ap Parse full))).1) c.parse_failure.ensures.fault
     c.parse_failure.ensures.map_full c.parse_failure.ensures.memory)
 

@@ -7,5 +7,5 @@ pub returns-in-Err-clause-err : goal.returns-in-Err-clause-err
 returns-in-Err-clause-err c =
     let full = rw c.new-map.ensures at c.in-Err.ensures.map_full.0 in
     unparsed_may_fail TokenStream _ None _ _ _ (rw c.new-map.ensures at c.in-Err.ensures.kept)
-    (rw c.new-map.ensures at c.in-Err.ensures.lex) (λ is. full (ap Err is))
+    (rw c.new-map.ensures at c.in-Err.ensures.fault.lex) (λ is. full (ap Err is))
     c.parse_failure.ensures.fault c.parse_failure.ensures.map_full c.parse_failure.ensures.memory

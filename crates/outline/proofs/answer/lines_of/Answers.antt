@@ -8,13 +8,13 @@ pub parse_failure-requires : goal.parse_failure-requires
 parse_failure-requires c =
     let is = c.in-Err-Parse.field-0-is ∙ ap Parse (sym c.in-Err-Parse.error-is) in
     fault_is_held c.in_ok-map.map (chars c.args.text.now) c.in-Err-Parse.error c.in_ok-map.ensures.ok
-    (lex_of c.in-Err-Parse.field-0 c.in-Err-Parse.error is _ c.in-Err-Parse.ensures.lex)
+    (lex_of c.in-Err-Parse.field-0 c.in-Err-Parse.error is _ c.in-Err-Parse.ensures.fault.lex)
 
 pub returns-in-Err-Parse-clause-err : goal.returns-in-Err-Parse-clause-err
 returns-in-Err-Parse-clause-err c =
     let is = c.in-Err-Parse.field-0-is ∙ ap Parse (sym c.in-Err-Parse.error-is) in
     unread_may_fail (chars c.args.text.now) c.in_ok-map.map c.in-Err-Parse.error c.parse_failure.result
-    c.in_ok-map.ensures.ok (lex_of c.in-Err-Parse.field-0 c.in-Err-Parse.error is _ c.in-Err-Parse.ensures.lex)
+    c.in_ok-map.ensures.ok (lex_of c.in-Err-Parse.field-0 c.in-Err-Parse.error is _ c.in-Err-Parse.ensures.fault.lex)
     (λ full. (c.in-Err-Parse.ensures.map_full.0 (ap Err (is ∙ ap Parse full))).1) c.parse_failure.ensures.fault
     c.parse_failure.ensures.map_full c.parse_failure.ensures.memory
 

@@ -12,7 +12,7 @@ returns-clause-err g c =
     let full = rw c.new-map.ensures at c.in-Err.ensures.map_full.0 in
     rw (← c.split_script.ensures.code)
     (unparsed_may_fail TokenStream _ _ _ _ _ (rw c.new-map.ensures at c.in-Err.ensures.kept)
-    (rw c.new-map.ensures at c.in-Err.ensures.lex) (λ is. full (ap Err is))
+    (rw c.new-map.ensures at c.in-Err.ensures.fault.lex) (λ is. full (ap Err is))
     c.parse_failure.ensures.fault c.parse_failure.ensures.map_full c.parse_failure.ensures.memory)
 
 pub returns-in-Ok-clause-err : goal.returns-in-Ok-clause-err

@@ -9,5 +9,5 @@ refusal_of-requires c =
     let same : c.as_str.result.now ≡ c.as_str-in-Err-Lex.result.now
     = c.as_str.ensures.value ∙ sym c.as_str-in-Err-Lex.ensures.value in
     let only : IsOnlyFault (next_lo new_map) (chars c.as_str.result.now) c.in-Err-Lex.field-0-0.lo
-    = rw c.in-Err-Lex.field-0-is at c.in-Err-Lex.ensures.only in
+    = rw c.in-Err-Lex.field-0-is at c.in-Err-Lex.ensures.fault.only in
     (subst (λ text. IsOnlyFault (next_lo new_map) (chars text) c.in-Err-Lex.field-0-0.lo) same only).0

@@ -1,23 +1,18 @@
 use Rattle.std.specs.Str.{chars}
 use Rattle.pm_stream.proofs.FaultLemmas.{parsed_held}
-use Rattle.pm_stream.proofs.LawLemmas.{parsed_faultless, refused_only}
+use Rattle.pm_stream.proofs.LawLemmas.{parsed_reported}
 use Rattle.pm_stream.proofs.SpanLemmas.{parsed_spans}
 use Rattle.pm_stream.proofs.stream.TokenStream.from_str.Goals as goal
-
-pub returns-clause-apart : goal.returns-clause-apart
-returns-clause-apart c =
-    parsed_faultless c.in-Some.lo _ (chars c.args.text.now) c.parse-parsed.result c.in-Some.ensures.found.1
-    c.parse-parsed.ensures.ok
 
 pub returns-clause-spans : goal.returns-clause-spans
 returns-clause-spans c =
     parsed_spans c.args.map.now c.add_file.new.map c.in-Some.lo (chars c.args.text.now) c.parse-parsed.result
     c.in-Some.ensures.found.1 c.in_ok-add_file.ensures.ok c.parse-parsed.ensures.ok
 
-pub returns-clause-only : goal.returns-clause-only
-returns-clause-only c =
-    refused_only c.in-Some.lo _ (chars c.args.text.now) c.parse-parsed.result c.in-Some.ensures.found.1
-    c.parse-parsed.ensures.lex
+pub returns-clause-fault : goal.returns-clause-fault
+returns-clause-fault c =
+    parsed_reported c.in-Some.lo _ (chars c.args.text.now) c.parse-parsed.result c.in-Some.ensures.found.1
+    c.parse-parsed.ensures.ok c.parse-parsed.ensures.lex
 
 pub returns-clause-held : goal.returns-clause-held
 returns-clause-held c =

@@ -1,4 +1,4 @@
-use Rattle.std.proofs.Common.{◌<◌, ◌≤◌, ◌^◌, Ok, inr, length, subst, arith, rules}
+use Rattle.std.proofs.Common.{◌<◌, ◌≤◌, ◌^◌, inr, length, subst, arith, rules}
 use Rattle.std.specs.Str.{chars}
 use Rattle.pm_span.specs.Files.{new_map, next_lo}
 use Rattle.pm_stream.proofs.LawLemmas.{parsed_faultless, refused_only}
@@ -7,11 +7,11 @@ use Rattle.token_buffer.proofs.BuiltLemmas.{parsed_text_built}
 use Rattle.token_buffer.proofs.FilledLemmas.{filled_few, filled_many, filled_parses}
 use Rattle.token_buffer.proofs.buffer.TokenBuffer.new.Goals as goal
 
-pub returns-in_err-read-clause-only : goal.returns-in_err-read-clause-only
-returns-in_err-read-clause-only c =
+pub returns-in_err-read-clause-fault : goal.returns-in_err-read-clause-fault
+returns-in_err-read-clause-fault c =
     let only = refused_only _ (next_lo new_map) (chars c.args.text.now) c.read.result c.in-Some.ensures.found.1
     c.read.ensures.lex in
-    search rules
+    record { apart = search rules; lex = search rules; only = search rules }
 
 pub returns-then-len-clause-many : goal.returns-then-len-clause-many
 returns-then-len-clause-many c =
@@ -27,10 +27,14 @@ invariant_of-result c =
       parsed_text_built _ c.args.text.now _ c.utf8.text (filled_parses _ _ c.read.new.sink all),
     )
 
-pub returns-clause-apart : goal.returns-clause-apart
-returns-clause-apart c =
-    parsed_faultless _ (next_lo new_map) (chars c.args.text.now) (Ok _) c.in-Some.ensures.found.1
-    c.in_ok-read.ensures.ok.parses
+pub returns-clause-fault : goal.returns-clause-fault
+returns-clause-fault c = record {
+  apart =
+      parsed_faultless _ (next_lo new_map) (chars c.args.text.now) _ c.in-Some.ensures.found.1
+      c.in_ok-read.ensures.ok.parses;
+  lex = tt;
+  only = tt;
+}
 
 pub returns-clause-few : goal.returns-clause-few
 returns-clause-few c =
