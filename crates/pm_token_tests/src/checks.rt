@@ -1,4 +1,5 @@
-//! Assertions that the tests share.
+//! Assertions that the tests share. They return nothing, and stop the test if memory runs out, because each `?` in a
+//! test makes its proof longer. For the same reason tests let go of tokens by `release`.
 use pm_span::{SourceMap, Span};
 use pm_token::{Ident, IdentError, Literal, ParseError};
 use std::alloc::{AllocError, Global};
@@ -8,6 +9,11 @@ use std::process::Abort;
 /// Asserts that the result in a row of a test is the expected one. The row is printed if it fails.
 pub fn check_same<T: PartialEq + Debug>(rt: &impl Abort, row: &str, answer: &T, want: &T) {
     assert_eq!(rt; answer, want, "at {row:?}");
+}
+
+/// Drops the value.
+pub fn release<T: Drop>(value: T) {
+    let _value = value;
 }
 
 /// Reads the literal of the text, as the first text of a new map.
@@ -36,54 +42,44 @@ fn text_of(literal: &Result<Literal, AllocError>) -> Option<&str> {
 /// Asserts that the literal was made, and has this text.
 pub fn is_written(rt: &impl Abort, literal: Result<Literal, AllocError>, want: &str) {
     check_same(rt, want, &text_of(&literal), &Some(want));
+    release(literal);
 }
 
 /// Asserts the `Display` text of a value.
-pub fn displays<T: Display>(
-    rt: &impl Abort,
-    alloc: Global,
-    value: &T,
-    want: &str,
-) -> Result<(), AllocError> {
-    let shown = format!(in alloc; "{value}")?;
+pub fn displays<T: Display>(rt: &impl Abort, alloc: Global, value: &T, want: &str) {
+    let shown = format!(in alloc; "{value}").expect(rt, want);
     check_same(rt, want, &shown.as_str(), &want);
-    Ok(())
 }
 
 /// Asserts the `Debug` text of a value.
-pub fn shows<T: Debug>(
+pub fn shows<T: Debug>(rt: &impl Abort, alloc: Global, value: &T, want: &str) {
+    let shown = format!(in alloc; "{value:?}").expect(rt, want);
+    check_same(rt, want, &shown.as_str(), &want);
+}
+
+/// Asserts the `Debug` text of a value, if it was made.
+pub fn made_shows<T: Debug + Drop, E: Debug + Drop>(
     rt: &impl Abort,
     alloc: Global,
-    value: &T,
+    made: Result<T, E>,
     want: &str,
-) -> Result<(), AllocError> {
-    let shown = format!(in alloc; "{value:?}")?;
-    check_same(rt, want, &shown.as_str(), &want);
-    Ok(())
+) {
+    let value = made.expect(rt, want);
+    shows(rt, alloc, &value, want);
 }
 
 /// Asserts the `Debug` text of each value of the table.
-pub fn are_shown<T: Debug>(
-    rt: &impl Abort,
-    alloc: Global,
-    rows: &[(T, &str)],
-) -> Result<(), AllocError> {
+pub fn are_shown<T: Debug>(rt: &impl Abort, alloc: Global, rows: &[(T, &str)]) {
     for (value, want) in rows {
-        shows(rt, alloc, value, want)?;
+        shows(rt, alloc, value, want);
     }
-    Ok(())
 }
 
 /// Asserts the `Display` text of each value of the table.
-pub fn are_displayed<T: Display>(
-    rt: &impl Abort,
-    alloc: Global,
-    rows: &[(T, &str)],
-) -> Result<(), AllocError> {
+pub fn are_displayed<T: Display>(rt: &impl Abort, alloc: Global, rows: &[(T, &str)]) {
     for (value, want) in rows {
-        displays(rt, alloc, value, want)?;
+        displays(rt, alloc, value, want);
     }
-    Ok(())
 }
 
 /// Asserts that each value of the table is equal to itself, and to none of the others.
@@ -98,6 +94,6 @@ fn is_distinct<T: PartialEq + Debug>(rt: &impl Abort, values: &[T], at: usize, v
     for (index, other) in values.iter().enumerate() {
         let answers = (value == other, value != other);
         let want = (at == index, at != index);
-        assert_eq!(rt; answers, want, "of {value:?} and {other:?}");
+        assert!(rt; answers == want, "of {value:?} and {other:?}");
     }
 }

@@ -6,13 +6,13 @@ use std::alloc::AllocError;
 
 #[test]
 fn delimiters_are_equal_to_themselves_alone(rt: HostRuntime) {
-    let delimiters = [
+    let delimiters = &[
         Delimiter::Parenthesis,
         Delimiter::Brace,
         Delimiter::Bracket,
         Delimiter::None,
     ];
-    are_distinct(&rt, &delimiters);
+    are_distinct(&rt, delimiters);
 }
 
 #[test]

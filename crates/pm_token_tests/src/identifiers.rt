@@ -1,12 +1,11 @@
-use crate::checks::{check_same, displays, make_ident, shows};
+use crate::checks::{check_same, displays, make_ident, release, shows};
 use pm_span::parts::{bounds, span_of};
 use pm_token::{Ident, IdentError};
 use std::alloc::Global;
 use std::collections::{BTreeMap, HashMap};
 use std::process::Abort;
-use std::test::Fail;
 
-fn refusal(outcome: Result<Ident, IdentError>) -> &'static str {
+fn refusal(outcome: &Result<Ident, IdentError>) -> &'static str {
     match outcome {
         Ok(_) => "made",
         Err(IdentError::Empty) => "empty",
@@ -17,33 +16,36 @@ fn refusal(outcome: Result<Ident, IdentError>) -> &'static str {
     }
 }
 
+/// Returns the results for the name, as a plain identifier and as a raw one.
+fn answers(alloc: Global, name: &str) -> (&'static str, &'static str) {
+    let (plain, raw) = (
+        make_ident(alloc, name, false),
+        make_ident(alloc, name, true),
+    );
+    let answers = (refusal(&plain), refusal(&raw));
+    release((plain, raw));
+    answers
+}
+
 /// Asserts the result for each name, as a plain identifier and as a raw one.
 fn are_answered(rt: &impl Abort, alloc: Global, rows: &[(&str, &str, &str)]) {
     for &(name, plain, raw) in rows {
-        let as_plain = refusal(make_ident(alloc, name, false));
-        let as_raw = refusal(make_ident(alloc, name, true));
-        check_same(rt, name, &(as_plain, as_raw), &(plain, raw));
+        check_same(rt, name, &answers(alloc, name), &(plain, raw));
     }
 }
 
 /// Asserts the `Display` text of the identifier with the name, and returns the identifier.
-fn check_display(
-    rt: &impl Abort,
-    alloc: Global,
-    name: &str,
-    raw: bool,
-    want: &str,
-) -> Result<Ident, Fail> {
-    let ident = make_ident(alloc, name, raw)?;
-    displays(rt, alloc, &ident, want)?;
-    Ok(ident)
+fn check_display(rt: &impl Abort, alloc: Global, name: &str, raw: bool, want: &str) -> Ident {
+    let ident = make_ident(alloc, name, raw).expect(rt, name);
+    displays(rt, alloc, &ident, want);
+    ident
 }
 
 /// Asserts that the identifier is equal to the plain one of the name, which has the span 0..0.
-fn is_equal(rt: &impl Abort, alloc: Global, ident: &Ident, name: &str) -> Result<(), Fail> {
-    let other = make_ident(alloc, name, false)?;
+fn is_equal(rt: &impl Abort, alloc: Global, ident: &Ident, name: &str) {
+    let other = make_ident(alloc, name, false).expect(rt, name);
     check_same(rt, name, ident, &other);
-    Ok(())
+    release(other);
 }
 
 /// Asserts for each text whether the raw identifier and the plain one are written like it.
@@ -55,13 +57,14 @@ fn stand_for(rt: &impl Abort, raw: &Ident, plain: &Ident, rows: &[(&str, bool, b
 }
 
 /// Returns the identifiers of the names in their order.
-fn sort_names(alloc: Global, rows: &[(&str, bool)]) -> Result<Vec<Ident>, Fail> {
+fn sort_names(rt: &impl Abort, alloc: Global, rows: &[(&str, bool)]) -> Vec<Ident> {
     let mut idents = Vec::new(alloc);
     for &(name, raw) in rows {
-        idents.push(make_ident(alloc, name, raw)?)?;
+        let ident = make_ident(alloc, name, raw).expect(rt, name);
+        idents.push(ident).expect(rt, name);
     }
-    idents.sort()?;
-    Ok(idents)
+    idents.sort().expect(rt, "the names");
+    idents
 }
 
 /// Asserts that the identifiers are written as these texts.
@@ -74,16 +77,20 @@ fn are_written(rt: &impl Abort, idents: &[Ident], texts: &[&str]) {
 
 /// Puts the values of the rows into both maps.
 fn fill(
+    rt: &impl Abort,
     alloc: Global,
     hashed: &mut HashMap<Ident, i32>,
     ordered: &mut BTreeMap<Ident, i32>,
     rows: &[(&str, bool, i32)],
-) -> Result<(), Fail> {
+) {
     for &(name, raw, value) in rows {
-        hashed.insert(make_ident(alloc, name, raw)?, value)?;
-        ordered.insert(make_ident(alloc, name, raw)?, value)?;
+        let key = make_ident(alloc, name, raw).expect(rt, name);
+        let inserted: Result<_, _> = hashed.insert(key, value);
+        let _ = inserted.expect(rt, name);
+        let key = make_ident(alloc, name, raw).expect(rt, name);
+        let inserted: Result<_, _> = ordered.insert(key, value);
+        let _ = inserted.expect(rt, name);
     }
-    Ok(())
 }
 
 /// Asserts what both maps, first the hashed one, have at these keys, which are raw or not.
@@ -93,13 +100,13 @@ fn values_are(
     hashed: &HashMap<Ident, i32>,
     ordered: &BTreeMap<Ident, i32>,
     rows: &[(&str, bool, Option<i32>)],
-) -> Result<(), Fail> {
+) {
     for &(name, raw, want) in rows {
-        let key = make_ident(alloc, name, raw)?;
+        let key = make_ident(alloc, name, raw).expect(rt, name);
         let values = (raw, hashed.get(&key).copied(), ordered.get(&key).copied());
         check_same(rt, name, &values, &(raw, want, want));
+        release(key);
     }
-    Ok(())
 }
 
 #[test]
@@ -128,19 +135,18 @@ fn the_first_fault_of_a_name_is_answered(rt: HostRuntime) {
 
 /// No contract can say that memory suffices for a long name, which is not kept in place.
 #[test]
-fn a_long_name_is_made_where_memory_suffices(rt: HostRuntime) -> Result<(), Fail> {
+fn a_long_name_is_made_where_memory_suffices(rt: HostRuntime) {
     let mut name = String::new(rt.alloc());
     for _ in 0..300 {
-        name.push('a')?;
+        name.push('a').expect(&rt, "a long name");
     }
     are_answered(&rt, rt.alloc(), &[(name.as_str(), "made", "made")]);
-    Ok(())
 }
 
 #[test]
-fn an_identifier_is_written_with_its_front(rt: HostRuntime) -> Result<(), Fail> {
-    let raw = check_display(&rt, rt.alloc(), "fn", true, "r#fn")?;
-    let plain = check_display(&rt, rt.alloc(), "fn", false, "fn")?;
+fn an_identifier_is_written_with_its_front(rt: HostRuntime) {
+    let raw = check_display(&rt, rt.alloc(), "fn", true, "r#fn");
+    let plain = check_display(&rt, rt.alloc(), "fn", false, "fn");
     let rows = &[
         ("r#fn", true, false),
         ("fn", false, true),
@@ -149,18 +155,19 @@ fn an_identifier_is_written_with_its_front(rt: HostRuntime) -> Result<(), Fail> 
         ("", false, false),
     ];
     stand_for(&rt, &raw, &plain, rows);
-    Ok(())
+    release((raw, plain));
 }
 
 #[test]
-fn identifiers_are_ordered_as_they_are_written(rt: HostRuntime) -> Result<(), Fail> {
-    let idents = sort_names(rt.alloc(), &[("a", true), ("ra", false), ("r", false)])?;
+fn identifiers_are_ordered_as_they_are_written(rt: HostRuntime) {
+    let rows = &[("a", true), ("ra", false), ("r", false)];
+    let idents = sort_names(&rt, rt.alloc(), rows);
     are_written(&rt, idents.as_slice(), &["r", "r#a", "ra"]);
-    Ok(())
+    release(idents);
 }
 
 #[test]
-fn a_map_keeps_raw_and_plain_keys_apart(rt: HostRuntime) -> Result<(), Fail> {
+fn a_map_keeps_raw_and_plain_keys_apart(rt: HostRuntime) {
     let mut hashed = HashMap::new(rt.alloc());
     let mut ordered = BTreeMap::new(rt.alloc());
     let rows = &[
@@ -169,22 +176,24 @@ fn a_map_keeps_raw_and_plain_keys_apart(rt: HostRuntime) -> Result<(), Fail> {
         ("b", false, 3),
         ("a", false, 4),
     ];
-    fill(rt.alloc(), &mut hashed, &mut ordered, rows)?;
+    fill(&rt, rt.alloc(), &mut hashed, &mut ordered, rows);
     let rows = &[
         ("a", false, Some(4)),
         ("a", true, Some(2)),
         ("b", false, Some(3)),
         ("b", true, None),
     ];
-    values_are(&rt, rt.alloc(), &hashed, &ordered, rows)
+    values_are(&rt, rt.alloc(), &hashed, &ordered, rows);
+    release((hashed, ordered));
 }
 
 #[test]
-fn a_span_is_set_and_does_not_count(rt: HostRuntime) -> Result<(), Fail> {
-    let mut ident = Ident::new(rt.alloc(), "a", span_of(1, 2))?;
+fn a_span_is_set_and_does_not_count(rt: HostRuntime) {
+    let mut ident = Ident::new(rt.alloc(), "a", span_of(1, 2)).expect(&rt, "a");
     let want = "Ident { sym: a, span: bytes(1..2) }";
-    shows(&rt, rt.alloc(), &ident, want)?;
+    shows(&rt, rt.alloc(), &ident, want);
     ident.set_span(span_of(3, 5));
     check_same(&rt, want, &bounds(ident.span()), &(3, 5));
-    is_equal(&rt, rt.alloc(), &ident, "a")
+    is_equal(&rt, rt.alloc(), &ident, "a");
+    release(ident);
 }

@@ -1,67 +1,54 @@
 // A text of at most 22 bytes is kept in its token, and a longer one in memory. Both are kept unchanged and copied.
-use crate::checks::{check_same, make_ident};
-use pm_token::{Ident, IdentError, Literal};
-use std::alloc::{AllocError, Global};
+use crate::checks::{check_same, make_ident, release};
+use pm_token::Literal;
+use std::alloc::Global;
+use std::fmt::{Debug, Display};
 use std::process::Abort;
-use std::test::Fail;
 
-/// Copies the identifier of the name.
-fn copy_ident(alloc: Global, name: &str, raw: bool) -> Result<Ident, IdentError> {
-    Ok(make_ident(alloc, name, raw)?.clone()?)
-}
-
-/// Copies the string literal of the text.
-fn copied_literal(alloc: Global, text: &str) -> Result<Literal, AllocError> {
-    let literal = Literal::string(alloc, text)?;
-    literal.clone()
-}
-
-/// Returns how a copy of the identifier of the name is written.
-fn copy_text(alloc: Global, name: &str, raw: bool) -> Result<String, IdentError> {
-    let copy = copy_ident(alloc, name, raw)?;
-    Ok(format!(in alloc; "{copy}")?)
-}
-
-/// Returns how a copy of the string literal of the text is written.
-fn written_literal(alloc: Global, text: &str) -> Result<String, AllocError> {
-    let copy = copied_literal(alloc, text)?;
-    format!(in alloc; "{copy}")
+/// Returns how a copy of what was made is written.
+fn copy_text<T: Clone + Display + Drop, E: Debug + Drop>(
+    rt: &impl Abort,
+    alloc: Global,
+    made: Result<T, E>,
+    name: &str,
+) -> String {
+    let value = made.expect(rt, name);
+    let copy = value.clone().expect(rt, name);
+    release(value);
+    format!(in alloc; "{copy}").expect(rt, name)
 }
 
 /// Asserts how a copy of the plain identifier of the name is written.
-fn is_kept(rt: &impl Abort, alloc: Global, name: &str) -> Result<(), IdentError> {
-    let plain = copy_text(alloc, name, false)?;
+fn is_kept(rt: &impl Abort, alloc: Global, name: &str) {
+    let plain = copy_text(rt, alloc, make_ident(alloc, name, false), name);
     check_same(rt, name, &plain.as_str(), &name);
-    Ok(())
 }
 
 /// Asserts how a copy of the raw identifier of the name is written.
-fn is_kept_raw(rt: &impl Abort, alloc: Global, name: &str) -> Result<(), IdentError> {
-    let raw = copy_text(alloc, name, true)?;
+fn is_kept_raw(rt: &impl Abort, alloc: Global, name: &str) {
+    let raw = copy_text(rt, alloc, make_ident(alloc, name, true), name);
     check_same(rt, name, &raw.as_str().strip_prefix("r#"), &Some(name));
-    Ok(())
 }
 
 /// Asserts how a copy of the string literal of the text is written.
-fn is_quoted(rt: &impl Abort, alloc: Global, text: &str) -> Result<(), AllocError> {
-    let quoted = written_literal(alloc, text)?;
+fn is_quoted(rt: &impl Abort, alloc: Global, text: &str) {
+    let quoted = copy_text(rt, alloc, Literal::string(alloc, text), text);
     let inside = quoted.as_str().strip_prefix('"').unwrap_or("");
     check_same(rt, text, &inside.strip_suffix('"'), &Some(text));
-    Ok(())
 }
 
 /// Makes a text of 100,000 bytes.
-fn long_text(alloc: Global) -> Result<String, AllocError> {
+fn long_text(rt: &impl Abort, alloc: Global) -> String {
     let mut text = String::new(alloc);
     for _ in 0..10_000 {
-        text.push_str("abcdefghij")?;
+        text.push_str("abcdefghij").expect(rt, "a long text");
     }
-    Ok(text)
+    text
 }
 
 #[test]
-fn a_name_of_any_length_is_kept(rt: HostRuntime) -> Result<(), Fail> {
-    let names = [
+fn a_name_of_any_length_is_kept(rt: HostRuntime) {
+    let names = &[
         "a",
         "abcdefghijklmnopqrstu",
         "abcdefghijklmnopqrstuv",
@@ -69,26 +56,23 @@ fn a_name_of_any_length_is_kept(rt: HostRuntime) -> Result<(), Fail> {
         "\u{E9}\u{E9}\u{E9}\u{E9}\u{E9}\u{E9}\u{E9}\u{E9}\u{E9}\u{E9}\u{E9}",
         "a\u{E9}\u{E9}\u{E9}\u{E9}\u{E9}\u{E9}\u{E9}\u{E9}\u{E9}\u{E9}\u{E9}",
     ];
-    for name in &names {
-        is_kept(&rt, rt.alloc(), name)?;
-        is_kept_raw(&rt, rt.alloc(), name)?;
+    for name in names {
+        is_kept(&rt, rt.alloc(), name);
+        is_kept_raw(&rt, rt.alloc(), name);
     }
-    Ok(())
 }
 
 #[test]
-fn a_literal_of_any_length_is_kept(rt: HostRuntime) -> Result<(), AllocError> {
+fn a_literal_of_any_length_is_kept(rt: HostRuntime) {
     for text in &["", "abcdefghijklmnopqrst", "abcdefghijklmnopqrstu"] {
-        is_quoted(&rt, rt.alloc(), text)?;
+        is_quoted(&rt, rt.alloc(), text);
     }
-    Ok(())
 }
 
 #[test]
-fn a_text_of_100000_bytes_is_kept(rt: HostRuntime) -> Result<(), Fail> {
-    let text = long_text(rt.alloc())?;
-    is_kept(&rt, rt.alloc(), text.as_str())?;
-    is_kept_raw(&rt, rt.alloc(), text.as_str())?;
-    is_quoted(&rt, rt.alloc(), text.as_str())?;
-    Ok(())
+fn a_text_of_100000_bytes_is_kept(rt: HostRuntime) {
+    let text = long_text(&rt, rt.alloc());
+    is_kept(&rt, rt.alloc(), text.as_str());
+    is_kept_raw(&rt, rt.alloc(), text.as_str());
+    is_quoted(&rt, rt.alloc(), text.as_str());
 }

@@ -1,10 +1,9 @@
-use crate::checks::{check_same, shows};
+use crate::checks::{check_same, release, shows};
 use pm_span::{LineColumn, SourceMap};
-use std::alloc::{AllocFailed, Global};
+use std::alloc::Global;
 use std::cmp::Ordering;
 use std::collections::{BTreeMap, HashMap};
 use std::process::Abort;
-use std::test::Fail;
 
 fn line_column((line, column): (usize, usize)) -> LineColumn {
     LineColumn { line, column }
@@ -21,17 +20,18 @@ fn are_compared(rt: &impl Abort, rows: &[((usize, usize), (usize, usize), Orderi
 }
 
 /// Returns how many of them differ, for a map that hashes them and one that orders them.
-fn count(
-    alloc: Global,
-    numbers: &[(usize, usize)],
-) -> Result<(usize, usize), AllocFailed<(LineColumn, ())>> {
+fn count(rt: &impl Abort, alloc: Global, numbers: &[(usize, usize)]) -> (usize, usize) {
     let mut hashed = HashMap::new(alloc);
     let mut ordered = BTreeMap::new(alloc);
     for &at in numbers {
-        hashed.insert(line_column(at), ())?;
-        ordered.insert(line_column(at), ())?;
+        let inserted: Result<_, _> = hashed.insert(line_column(at), ());
+        let _ = inserted.expect(rt, "a key");
+        let inserted: Result<_, _> = ordered.insert(line_column(at), ());
+        let _ = inserted.expect(rt, "a key");
     }
-    Ok((hashed.len(), ordered.len()))
+    let counts = (hashed.len(), ordered.len());
+    release((hashed, ordered));
+    counts
 }
 
 #[test]
@@ -48,25 +48,25 @@ fn lines_with_columns_are_ordered_by_line_and_then_by_column(rt: HostRuntime) {
 }
 
 #[test]
-fn a_map_keys_them_by_line_and_column(rt: HostRuntime) -> Result<(), Fail> {
+fn a_map_keys_them_by_line_and_column(rt: HostRuntime) {
     let counts = count(
+        &rt,
         rt.alloc(),
         &[(1, 2), (2, 1), (1, 2), (1, 1), (2, 2), (2, 1)],
-    )?;
+    );
     check_same(&rt, "counts", &counts, &(4, 4));
-    Ok(())
 }
 
 #[test]
-fn they_show_their_line_and_their_column(rt: HostRuntime) -> Result<(), Fail> {
+fn they_show_their_line_and_their_column(rt: HostRuntime) {
     let want = "LineColumn { line: 2, column: 3 }";
-    shows(&rt, rt.alloc(), &line_column((2, 3)), want)?;
-    Ok(())
+    shows(&rt, rt.alloc(), &line_column((2, 3)), want);
 }
 
 #[test]
-fn a_source_map_shows_its_files_and_its_limit(rt: HostRuntime) -> Result<(), Fail> {
+fn a_source_map_shows_its_files_and_its_limit(rt: HostRuntime) {
     let want = "SourceMap { alloc: Global, files: [], limit: 7 }";
-    shows(&rt, rt.alloc(), &SourceMap::with_limit(rt.alloc(), 7), want)?;
-    Ok(())
+    let map = SourceMap::with_limit(rt.alloc(), 7);
+    shows(&rt, rt.alloc(), &map, want);
+    release(map);
 }

@@ -1,6 +1,5 @@
 use crate::checks::{check_same, displays, shows};
 use pm_token::{Punct, Spacing};
-use std::alloc::AllocError;
 
 /// The 22 marks.
 const MARKS: &str = "~!@#$%^&*-=+|;:,<.>/?'";
@@ -10,13 +9,14 @@ fn the_marks_are_22_characters_of_ascii(rt: HostRuntime) {
     check_same(&rt, MARKS, &MARKS.len(), &22);
     for code in 0..128 {
         let c = char::from(code);
-        assert_eq!(rt; Punct::is_punct_char(c), MARKS.contains(c), "of {c:?}");
+        let (answer, want) = (Punct::is_punct_char(c), MARKS.contains(c));
+        check_same(&rt, MARKS, &(c, answer), &(c, want));
     }
 }
 
 #[test]
 fn no_character_past_ascii_is_a_mark(rt: HostRuntime) {
-    for c in [
+    for &c in &[
         '\u{80}',
         '×',
         '\u{2019}',
@@ -24,14 +24,14 @@ fn no_character_past_ascii_is_a_mark(rt: HostRuntime) {
         '\u{FF0B}',
         '\u{10FFFF}',
     ] {
-        assert!(rt; !Punct::is_punct_char(c), "{c:?}");
+        check_same(&rt, MARKS, &(c, Punct::is_punct_char(c)), &(c, false));
     }
 }
 
 #[test]
-fn a_new_mark_stands_nowhere(rt: HostRuntime) -> Result<(), AllocError> {
+fn a_new_mark_stands_nowhere(rt: HostRuntime) {
     let alloc = rt.alloc();
     let mark = Punct::new('\'', Spacing::Joint);
-    displays(&rt, alloc, &mark, "'")?;
-    shows(&rt, alloc, &mark, "Punct { char: '\\'', spacing: Joint }")
+    displays(&rt, alloc, &mark, "'");
+    shows(&rt, alloc, &mark, "Punct { char: '\\'', spacing: Joint }");
 }

@@ -5,7 +5,7 @@ use literal_escaper::{EscapeError, MixedUnit, Mode, NonZeroChar, NonZeroU8};
 
 #[test]
 fn errors_are_equal_to_themselves_alone(rt: HostRuntime) {
-    let errors = [
+    let errors = &[
         EscapeError::ZeroChars,
         EscapeError::MoreThanOneChar,
         EscapeError::LoneSlash,
@@ -30,12 +30,12 @@ fn errors_are_equal_to_themselves_alone(rt: HostRuntime) {
         EscapeError::UnskippedWhitespaceWarning,
         EscapeError::MultipleSkippedLinesWarning,
     ];
-    are_distinct(&rt, &errors);
+    are_distinct(&rt, errors);
 }
 
 #[test]
 fn kinds_of_literals_are_equal_to_themselves_alone(rt: HostRuntime) {
-    let modes = [
+    let modes = &[
         Mode::Char,
         Mode::Byte,
         Mode::Str,
@@ -45,7 +45,7 @@ fn kinds_of_literals_are_equal_to_themselves_alone(rt: HostRuntime) {
         Mode::CStr,
         Mode::RawCStr,
     ];
-    are_distinct(&rt, &modes);
+    are_distinct(&rt, modes);
 }
 
 #[test]

@@ -1,11 +1,10 @@
 // The `Debug` texts of the types of contents.
 use crate::checks::are_shown;
 use literal_escaper::{EscapeError, MixedUnit, Mode, NonZeroChar, NonZeroU8};
-use std::alloc::AllocError;
 
 #[test]
-fn an_error_shows_its_name(rt: HostRuntime) -> Result<(), AllocError> {
-    let rows = [
+fn an_error_shows_its_name(rt: HostRuntime) {
+    let rows = &[
         (EscapeError::ZeroChars, "ZeroChars"),
         (EscapeError::MoreThanOneChar, "MoreThanOneChar"),
         (EscapeError::LoneSlash, "LoneSlash"),
@@ -57,12 +56,12 @@ fn an_error_shows_its_name(rt: HostRuntime) -> Result<(), AllocError> {
             "MultipleSkippedLinesWarning",
         ),
     ];
-    are_shown(&rt, rt.alloc(), &rows)
+    are_shown(&rt, rt.alloc(), rows);
 }
 
 #[test]
-fn a_kind_of_literal_shows_its_name(rt: HostRuntime) -> Result<(), AllocError> {
-    let rows = [
+fn a_kind_of_literal_shows_its_name(rt: HostRuntime) {
+    let rows = &[
         (Mode::Char, "Char"),
         (Mode::Byte, "Byte"),
         (Mode::Str, "Str"),
@@ -72,22 +71,22 @@ fn a_kind_of_literal_shows_its_name(rt: HostRuntime) -> Result<(), AllocError> {
         (Mode::CStr, "CStr"),
         (Mode::RawCStr, "RawCStr"),
     ];
-    are_shown(&rt, rt.alloc(), &rows)
+    are_shown(&rt, rt.alloc(), rows);
 }
 
 #[test]
-fn a_unit_shows_its_type_and_value(rt: HostRuntime) -> Result<(), AllocError> {
+fn a_unit_shows_its_type_and_value(rt: HostRuntime) {
     let characters = [
         (NonZeroChar::new('a'), "Some(NonZeroChar('a'))"),
         (NonZeroChar::new('\''), "Some(NonZeroChar('\\''))"),
         (NonZeroChar::new('\0'), "None"),
     ];
-    are_shown(&rt, rt.alloc(), &characters)?;
+    are_shown(&rt, rt.alloc(), &characters);
     let bytes = [
         (NonZeroU8::new(5), "Some(NonZeroU8(5))"),
         (NonZeroU8::new(0), "None"),
     ];
-    are_shown(&rt, rt.alloc(), &bytes)?;
+    are_shown(&rt, rt.alloc(), &bytes);
     let units = [
         (MixedUnit::try_from('a'), "Ok(Char(NonZeroChar('a')))"),
         (
@@ -107,5 +106,5 @@ fn a_unit_shows_its_type_and_value(rt: HostRuntime) -> Result<(), AllocError> {
         (MixedUnit::try_from(0x80), "Ok(HighByte(NonZeroU8(128)))"),
         (MixedUnit::try_from(0), "Err(NulInCStr)"),
     ];
-    are_shown(&rt, rt.alloc(), &units)
+    are_shown(&rt, rt.alloc(), &units);
 }

@@ -1,15 +1,16 @@
-use crate::checks::{check_same, read_literal};
-use pm_token::{ConversionErrorKind, ParseError};
+use crate::checks::{check_same, read_literal, release};
+use pm_token::ConversionErrorKind;
 use std::alloc::Global;
 use std::process::Abort;
-use std::test::Fail;
 
 type Value<T> = Result<T, ConversionErrorKind>;
 
 /// Returns the value of the text's literal as a character, and as a byte.
-fn single_values(alloc: Global, text: &str) -> Result<(Value<char>, Value<u8>), ParseError> {
-    let literal = read_literal(alloc, text)?;
-    Ok((literal.char_value(), literal.byte_value()))
+fn single_values(rt: &impl Abort, alloc: Global, text: &str) -> (Value<char>, Value<u8>) {
+    let literal = read_literal(alloc, text).expect(rt, text);
+    let values = (literal.char_value(), literal.byte_value());
+    release(literal);
+    values
 }
 
 /// Returns this value, or the error for another kind of literal.
@@ -22,25 +23,17 @@ fn right_kind<T>(value: Option<T>) -> Value<T> {
 
 /// Asserts the values of each text's literal as a character and as a byte. If it has none, the error is
 /// `InvalidLiteralKind`.
-fn single_values_are(
-    rt: &impl Abort,
-    alloc: Global,
-    rows: &[(&str, Option<char>, Option<u8>)],
-) -> Result<(), Fail> {
+fn single_values_are(rt: &impl Abort, alloc: Global, rows: &[(&str, Option<char>, Option<u8>)]) {
     for &(text, character, byte) in rows {
-        let values = single_values(alloc, text)?;
-        check_same(
-            rt,
-            text,
-            &values,
-            &(right_kind(character), right_kind(byte)),
-        );
+        let values = single_values(rt, alloc, text);
+        let want = (right_kind(character), right_kind(byte));
+        check_same(rt, text, &values, &want);
+        release((values, want));
     }
-    Ok(())
 }
 
 #[test]
-fn a_character_has_the_character_between_its_quotes(rt: HostRuntime) -> Result<(), Fail> {
+fn a_character_has_the_character_between_its_quotes(rt: HostRuntime) {
     let rows = &[
         ("'\\''", Some('\''), None),
         ("' '", Some(' '), None),
@@ -51,22 +44,22 @@ fn a_character_has_the_character_between_its_quotes(rt: HostRuntime) -> Result<(
         ("'\\x7F'", Some('\u{7F}'), None),
         ("'\\u{10_FFFF}'", Some('\u{10FFFF}'), None),
     ];
-    single_values_are(&rt, rt.alloc(), rows)
+    single_values_are(&rt, rt.alloc(), rows);
 }
 
 #[test]
-fn a_byte_has_the_byte_between_its_quotes(rt: HostRuntime) -> Result<(), Fail> {
+fn a_byte_has_the_byte_between_its_quotes(rt: HostRuntime) {
     let rows = &[
         ("b'\\xFF'", None, Some(255)),
         ("b'a'", None, Some(b'a')),
         ("b'\\''", None, Some(b'\'')),
         ("b'\\0'", None, Some(0)),
     ];
-    single_values_are(&rt, rt.alloc(), rows)
+    single_values_are(&rt, rt.alloc(), rows);
 }
 
 #[test]
-fn other_literals_are_of_another_kind(rt: HostRuntime) -> Result<(), Fail> {
+fn other_literals_are_of_another_kind(rt: HostRuntime) {
     let rows = &[
         ("'a'u8", None, None),
         ("b'a'u8", None, None),
@@ -75,5 +68,5 @@ fn other_literals_are_of_another_kind(rt: HostRuntime) -> Result<(), Fail> {
         ("1", None, None),
         ("-1", None, None),
     ];
-    single_values_are(&rt, rt.alloc(), rows)
+    single_values_are(&rt, rt.alloc(), rows);
 }

@@ -27,7 +27,7 @@ fn check_next(
         Some(next) => Some((next.byte_offset, next.piece.kind, next.text)),
         None => None,
     };
-    assert_eq!(rt; answer, want);
+    check_same(rt, "the next piece", &answer, &want);
 }
 
 /// Returns the kind of a mark.
@@ -104,9 +104,8 @@ fn check_spaced(
         Some(piece) => Some((piece.byte_offset, piece.piece.kind)),
         None => None,
     };
-    assert_eq!(rt; next.white, white);
-    assert_eq!(rt; piece, want);
-    assert_eq!(rt; next.rest, rest);
+    let answer = (next.white, piece, next.rest);
+    check_same(rt, "the next piece", &answer, &(white, want, rest));
 }
 
 #[test]
