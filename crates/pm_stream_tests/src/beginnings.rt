@@ -1,7 +1,7 @@
 //! Tests the laws of parsed and printed streams on many texts, on each beginning of each text, and on the two parts
 //! before and after each of its byte offsets.
 
-use crate::checks::{parse_first, repeat_parts};
+use crate::checks::{check_answer, display_text, parse_first, parsed, release, repeat_parts};
 use pm_span::parts::bounds;
 use proc_macro2::{ParseError, TokenStream};
 use std::alloc::{AllocError, Global};
@@ -206,39 +206,53 @@ const FAULTY: &[&str] = &[
 
 /// Whether a parsed stream is well spaced, and its printed text parses to the same tokens and is printed the same
 /// again.
-fn comes_back(alloc: Global, stream: &TokenStream) -> Result<bool, ParseError> {
-    let text = format!(in alloc; "{stream}")?;
-    let again = parse_first(alloc, text.as_str())?;
-    let again_text = format!(in alloc; "{again}")?;
+fn comes_back(rt: &impl Abort, alloc: Global, stream: &TokenStream) -> bool {
+    let text = display_text(rt, alloc, stream);
+    let again = parsed(rt, alloc, text.as_str());
+    let again_text = display_text(rt, alloc, &again);
     let same = stream.same_tokens(&again) && again.same_tokens(stream);
-    Ok(same && stream.is_well_spaced() && again_text == text)
+    release(again);
+    same && stream.is_well_spaced() && again_text == text
 }
 
 /// Asserts that the text parses to a stream that comes back from its printed text, or that it has a fault at one of its
 /// positions. If `parses` is given, also asserts whether the text parses.
 fn check_text(rt: &(impl Abort + AllocGlobal), text: &str, parses: Option<bool>) {
-    let stream = parse_first(rt.alloc(), text);
+    let found = parse_first(rt.alloc(), text);
     if let Some(parses) = parses {
-        assert_eq!(rt; stream.is_ok(), parses, "of {text:?}");
+        check_answer(rt, text, &found.is_ok(), &parses);
     }
-    match stream {
-        Ok(stream) => {
-            let back = comes_back(rt.alloc(), &stream).expect(rt, text);
-            assert!(rt; back, "of {text:?}");
-        }
-        Err(ParseError::Lex(fault)) => {
-            let (lo, hi) = bounds(fault.span());
-            let last = text.chars().count().saturating_add(1);
-            assert!(rt; lo == hi && lo > 0 && lo as usize <= last, "of {text:?}");
-        }
-        Err(_) => assert!(rt; false, "of {text:?}"),
-    }
+    check_found(rt, text, &found);
+    release(found);
+}
+
+/// Asserts that the stream comes back from its printed text, or that the fault is at a position of the text.
+fn check_found(
+    rt: &(impl Abort + AllocGlobal),
+    text: &str,
+    found: &Result<TokenStream, ParseError>,
+) {
+    let holds = match found {
+        Ok(stream) => comes_back(rt, rt.alloc(), stream),
+        Err(ParseError::Lex(fault)) => lies_in(bounds(fault.span()), text),
+        Err(_) => false,
+    };
+    check_answer(rt, text, &holds, &true);
+}
+
+/// Whether these are twice one position of the text.
+fn lies_in((lo, hi): (u32, u32), text: &str) -> bool {
+    let last = text.chars().count().saturating_add(1);
+    lo == hi && lo > 0 && lo as usize <= last
 }
 
 /// Whether the two streams, one after the other, have the tokens of the text.
-fn gives_both(alloc: Global, text: &str, streams: [TokenStream; 2]) -> Result<bool, ParseError> {
-    let both = TokenStream::from_streams(alloc, streams)?;
-    Ok(parse_first(alloc, text)?.same_tokens(&both))
+fn gives_both(rt: &impl Abort, alloc: Global, text: &str, streams: [TokenStream; 2]) -> bool {
+    let both = TokenStream::from_streams(alloc, streams).expect(rt, text);
+    let stream = parsed(rt, alloc, text);
+    let same = stream.same_tokens(&both);
+    release((both, stream));
+    same
 }
 
 /// Asserts that the two texts with a line feed between them have the trees of both, if each parses and the second
@@ -247,13 +261,27 @@ fn check_joined(rt: &(impl Abort + AllocGlobal), first: &str, second: &str) {
     if second.starts_with('\u{feff}') {
         return;
     }
-    if let (Ok(before), Ok(after)) = (
-        parse_first(rt.alloc(), first),
-        parse_first(rt.alloc(), second),
-    ) {
-        let text = join_lines(rt.alloc(), first, second).expect(rt, first);
-        let same = gives_both(rt.alloc(), text.as_str(), [before, after]).expect(rt, first);
-        assert!(rt; same, "of {text:?}");
+    match parse_first(rt.alloc(), first) {
+        Ok(before) => check_joined_to(rt, first, before, second),
+        Err(error) => release(error),
+    }
+}
+
+/// Asserts that the two texts with a line feed between them have the trees of the first, which are these, and those of
+/// the second, if it parses.
+fn check_joined_to(
+    rt: &(impl Abort + AllocGlobal),
+    first: &str,
+    before: TokenStream,
+    second: &str,
+) {
+    match parse_first(rt.alloc(), second) {
+        Ok(after) => {
+            let text = join_lines(rt.alloc(), first, second).expect(rt, first);
+            let same = gives_both(rt, rt.alloc(), text.as_str(), [before, after]);
+            check_answer(rt, text.as_str(), &same, &true);
+        }
+        Err(error) => release((before, error)),
     }
 }
 
@@ -297,8 +325,8 @@ fn two_texts_are_joined_by_a_line_feed(rt: HostRuntime) {
 }
 
 #[test]
-fn beginnings_of_long_texts_keep_the_laws(rt: HostRuntime) -> Result<(), AllocError> {
-    let rows: [(&[(&str, u32)], bool); 7] = [
+fn beginnings_of_long_texts_keep_the_laws(rt: HostRuntime) {
+    let rows: &[(&[(&str, u32)], bool)] = &[
         (&[("r", 1), ("#", 255), ("\"\"", 1), ("#", 255)], true),
         (&[("r", 1), ("#", 256), ("\"\"", 1), ("#", 256)], false),
         (&[("(", 100), (")", 100)], true),
@@ -307,9 +335,8 @@ fn beginnings_of_long_texts_keep_the_laws(rt: HostRuntime) -> Result<(), AllocEr
         (&[("/*", 100), ("*/", 100), ("x", 1)], true),
         (&[("/*", 100), ("*/", 99)], false),
     ];
-    for (parts, parses) in rows {
-        let text = repeat_parts(rt.alloc(), parts)?;
+    for &(parts, parses) in rows {
+        let text = repeat_parts(&rt, rt.alloc(), parts);
         check_beginnings(&rt, text.as_str(), parses);
     }
-    Ok(())
 }

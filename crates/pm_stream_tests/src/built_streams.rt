@@ -2,7 +2,7 @@
 ghost use Rattle.std.specs.Prelude.{IfOk};
 ghost use Rattle.pm_stream.specs.Trees.{GoesInside};
 
-use crate::checks::{prints, shows};
+use crate::checks::{check_answer, display_text, prints, release, shows};
 use pm_span::Span;
 use pm_span::parts::span_of;
 use pm_stream::parts::{group, stream};
@@ -68,24 +68,19 @@ fn name_between(alloc: Global, delimiter: Delimiter) -> Result<TokenTree, AllocE
 }
 
 /// Asserts what a group is printed as when it is empty, and when it has a name in it.
-fn check_delimiter(
-    rt: &impl Abort,
-    alloc: Global,
-    delimiter: Delimiter,
-    empty: &str,
-    full: &str,
-) -> Result<(), AllocError> {
-    prints(rt, alloc, empty_group(alloc, delimiter), empty)?;
-    prints(rt, alloc, name_between(alloc, delimiter)?, full)
+fn check_delimiter(rt: &impl Abort, alloc: Global, delimiter: Delimiter, empty: &str, full: &str) {
+    prints(rt, alloc, empty_group(alloc, delimiter), empty);
+    let group = name_between(alloc, delimiter).expect(rt, full);
+    prints(rt, alloc, group, full);
 }
 
 #[test]
-fn a_group_is_printed_by_its_delimiter(rt: HostRuntime) -> Result<(), AllocError> {
+fn a_group_is_printed_by_its_delimiter(rt: HostRuntime) {
     let alloc = rt.alloc();
-    check_delimiter(&rt, alloc, Delimiter::Parenthesis, "()", "(_)")?;
-    check_delimiter(&rt, alloc, Delimiter::Brace, "{ }", "{ _ }")?;
-    check_delimiter(&rt, alloc, Delimiter::Bracket, "[]", "[_]")?;
-    check_delimiter(&rt, alloc, Delimiter::None, "", "_")
+    check_delimiter(&rt, alloc, Delimiter::Parenthesis, "()", "(_)");
+    check_delimiter(&rt, alloc, Delimiter::Brace, "{ }", "{ _ }");
+    check_delimiter(&rt, alloc, Delimiter::Bracket, "[]", "[_]");
+    check_delimiter(&rt, alloc, Delimiter::None, "", "_");
 }
 
 fn name_in_parentheses(alloc: Global) -> Result<TokenStream, AllocError> {
@@ -97,20 +92,21 @@ fn name_in_parentheses(alloc: Global) -> Result<TokenStream, AllocError> {
 }
 
 #[test]
-fn trees_are_shown_with_their_spans(rt: HostRuntime) -> Result<(), AllocError> {
-    let stream = name_in_parentheses(rt.alloc())?;
+fn trees_are_shown_with_their_spans(rt: HostRuntime) {
+    let stream = name_in_parentheses(rt.alloc()).expect(&rt, "(_)");
     let want = "TokenStream [Group { delimiter: Parenthesis, stream: TokenStream [\
         Ident { sym: _, span: bytes(2..3) }], span: bytes(1..4) }]";
-    shows(&rt, rt.alloc(), &stream, want)
+    shows(&rt, rt.alloc(), &stream, want);
+    release(stream);
 }
 
 #[test]
-fn a_mark_with_no_span_is_shown_on_lines(rt: HostRuntime) -> Result<(), AllocError> {
-    let stream = one(rt.alloc(), plus(Spacing::Alone))?;
-    let shown = format!(in rt.alloc(); "{stream:#?}")?;
+fn a_mark_with_no_span_is_shown_on_lines(rt: HostRuntime) {
+    let stream = one(rt.alloc(), plus(Spacing::Alone)).expect(&rt, "+");
+    let shown = format!(in rt.alloc(); "{stream:#?}").expect(&rt, "+");
     let want = "TokenStream [\n    Punct {\n        char: '+',\n        spacing: Alone,\n    },\n]";
-    assert_eq!(rt; shown.as_str(), want);
-    Ok(())
+    check_answer(&rt, "+", &shown.as_str(), &want);
+    release(stream);
 }
 
 /// Bracket groups inside one another, `levels` deep, with marks before and after each.
@@ -124,9 +120,10 @@ fn deep(alloc: Global, levels: u32) -> Result<TokenStream, AllocError> {
 }
 
 #[test]
-fn groups_nest_deep_without_stack(rt: HostRuntime) -> Result<(), AllocError> {
-    let stream = deep(rt.alloc(), 300000)?;
-    let printed = format!(in rt.alloc(); "{stream}")?;
-    assert_eq!(rt; printed.as_str().len(), 5 * 300000, "each level is `+[] +`");
-    Ok(())
+fn groups_nest_deep_without_stack(rt: HostRuntime) {
+    let stream = deep(rt.alloc(), 300000).expect(&rt, "deep groups");
+    let printed = display_text(&rt, rt.alloc(), &stream);
+    let row = "each level is `+[] +`";
+    check_answer(&rt, row, &printed.as_str().len(), &(5 * 300000));
+    release(stream);
 }

@@ -11,10 +11,10 @@ ghost use Rattle.proc_macro2.specs.Printed.{printed};
 ghost use Rattle.proc_macro2.specs.Text.{IsText};
 ghost use Rattle.proc_macro2.specs.WellSpaced.{IsWellSpaced};
 
+use crate::checks::{check_answer, release};
 use proc_macro2::{
     Group, Ident, Literal, ParseError, Punct, SourceMap, TokenStream, TokenTree, laws,
 };
-use std::test::Fail;
 
 /// Parses a text. The stream comes back from its printed text.
 fn read(text: &str, map: &mut SourceMap) -> Result<TokenStream, ParseError>
@@ -111,15 +111,20 @@ fn kind_is_built(tree: &TokenTree) {
 }
 
 #[test]
-fn what_laws_say_of_a_stream_is_seen_in_its_printed_text(rt: HostRuntime) -> Result<(), Fail> {
+fn what_laws_say_of_a_stream_is_seen_in_its_printed_text(rt: HostRuntime) {
     let mut map = SourceMap::new(rt.alloc());
-    let stream = read("a+=(1)", &mut map)?;
+    let stream = read("a+=(1)", &mut map).expect(&rt, "a+=(1)");
     comes_back(&stream);
-    assert!(rt; prints_faithfully(&stream));
-    assert_eq!(rt; print_alike(&stream, &stream), Some(true));
-    each_is_built(&stream);
+    let answers = (prints_faithfully(&stream), print_alike(&stream, &stream));
+    check_answer(&rt, "a+=(1)", &answers, &(true, Some(true)));
+    show_trees(&stream);
+    release((stream, map));
+}
+
+/// Shows what is true of the stream's trees.
+fn show_trees(stream: &TokenStream) {
+    each_is_built(stream);
     for tree in stream.trees() {
         kind_is_built(tree);
     }
-    Ok(())
 }

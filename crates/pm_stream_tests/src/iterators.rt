@@ -1,93 +1,117 @@
 // Tests of the iterator that takes a stream apart.
 use crate::built_streams::one;
-use crate::checks::{displays, parse_first, repeat_parts, shows};
+use crate::checks::{check_answer, displays, parsed, prints, release, repeat_parts, shows};
 use proc_macro2::{TokenStream, TokenTree, token_stream};
-use std::alloc::{AllocError, Global};
+use std::alloc::Global;
+use std::fmt::Display;
 use std::process::Abort;
-use std::test::Fail;
 
 /// The printed text of each tree that the iterator gives, in brackets.
-fn bracketed_trees(alloc: Global, trees: token_stream::IntoIter) -> Result<String, AllocError> {
+fn bracketed_trees(rt: &impl Abort, alloc: Global, trees: token_stream::IntoIter) -> String {
     let mut all = String::new(alloc);
     for tree in trees {
-        let text = format!(in alloc; "<{tree}>")?;
-        all.push_str(text.as_str())?;
+        add_bracketed(rt, alloc, &mut all, tree);
     }
-    Ok(all)
+    all
+}
+
+/// Appends the printed text of the value, in brackets.
+fn add_bracketed<T: Display + Drop>(rt: &impl Abort, alloc: Global, all: &mut String, value: T) {
+    let text = format!(in alloc; "<{value}>").expect(rt, "a text");
+    all.push_str(text.as_str()).expect(rt, "a text");
+}
+
+/// The iterator over the trees of the stream.
+fn trees_of(rt: &impl Abort, stream: TokenStream) -> token_stream::IntoIter {
+    stream.into_iter().expect(rt, "an iterator")
+}
+
+/// The iterator over the trees of the text.
+fn trees_in(rt: &impl Abort, alloc: Global, text: &str) -> token_stream::IntoIter {
+    trees_of(rt, parsed(rt, alloc, text))
+}
+
+/// Drops the next tree of the iterator, if there is one.
+fn skip(trees: &mut token_stream::IntoIter) {
+    release(trees.next());
+}
+
+/// Asserts what the `size_hint` of the iterator is.
+fn hints_at(rt: &impl Abort, trees: &token_stream::IntoIter, count: usize) {
+    check_answer(rt, "size_hint", &trees.size_hint(), &(count, Some(count)));
+}
+
+/// Asserts whether the iterator gives another tree, and drops the tree.
+fn has_next(rt: &impl Abort, trees: &mut token_stream::IntoIter, want: bool) {
+    let next = trees.next();
+    check_answer(rt, "the next tree", &next.is_some(), &want);
+    release(next);
 }
 
 /// Asserts which trees the iterator gives.
-fn gives(
-    rt: &impl Abort,
-    alloc: Global,
-    trees: token_stream::IntoIter,
-    want: &str,
-) -> Result<(), AllocError> {
-    let all = bracketed_trees(alloc, trees)?;
-    assert_eq!(rt; all.as_str(), want);
-    Ok(())
+fn gives(rt: &impl Abort, alloc: Global, trees: token_stream::IntoIter, want: &str) {
+    let all = bracketed_trees(rt, alloc, trees);
+    check_answer(rt, want, &all.as_str(), &want);
 }
 
 #[test]
-fn groups_are_given_whole(rt: HostRuntime) -> Result<(), Fail> {
+fn groups_are_given_whole(rt: HostRuntime) {
     let alloc = rt.alloc();
-    let trees = parse_first(alloc, "a b (c d) e")?.into_iter()?;
-    assert_eq!(rt; trees.size_hint(), (4, Some(4)));
-    gives(&rt, alloc, trees, "<a><b><(c d)><e>")?;
-    let none = TokenStream::new(alloc).into_iter()?;
-    assert_eq!(rt; none.size_hint(), (0, Some(0)));
-    gives(&rt, alloc, none, "")?;
-    Ok(())
+    let trees = trees_in(&rt, alloc, "a b (c d) e");
+    hints_at(&rt, &trees, 4);
+    gives(&rt, alloc, trees, "<a><b><(c d)><e>");
+    let none = trees_of(&rt, TokenStream::new(alloc));
+    hints_at(&rt, &none, 0);
+    gives(&rt, alloc, none, "");
 }
 
 #[test]
-fn a_copy_of_a_half_used_iterator_gives_the_rest(rt: HostRuntime) -> Result<(), Fail> {
+fn a_copy_of_a_half_used_iterator_gives_the_rest(rt: HostRuntime) {
     let alloc = rt.alloc();
-    let mut trees = parse_first(alloc, "a b (c d) e")?.into_iter()?;
-    let _ = trees.next();
-    let _ = trees.next();
-    let copy = trees.clone()?;
-    assert_eq!(rt; trees.size_hint(), (2, Some(2)));
-    assert_eq!(rt; copy.size_hint(), (2, Some(2)));
-    gives(&rt, alloc, trees, "<(c d)><e>")?;
-    gives(&rt, alloc, copy, "<(c d)><e>")?;
-    Ok(())
+    let mut trees = trees_in(&rt, alloc, "a b (c d) e");
+    skip(&mut trees);
+    skip(&mut trees);
+    let copy = trees.clone().expect(&rt, "a copy");
+    hints_at(&rt, &trees, 2);
+    hints_at(&rt, &copy, 2);
+    gives(&rt, alloc, trees, "<(c d)><e>");
+    gives(&rt, alloc, copy, "<(c d)><e>");
 }
 
 /// The printed text of each tree of the stream, as a stream of that tree alone, in brackets. Each tree from the
 /// iterator may be put into a stream again, which needs no proof here.
-fn each_alone(alloc: Global, stream: TokenStream) -> Result<String, AllocError> {
+fn each_alone(rt: &impl Abort, alloc: Global, stream: TokenStream) -> String {
     let mut all = String::new(alloc);
-    for tree in stream.into_iter()? {
-        let alone = one(alloc, tree)?;
-        let text = format!(in alloc; "<{alone}>")?;
-        all.push_str(text.as_str())?;
+    for tree in trees_of(rt, stream) {
+        let alone = one(alloc, tree).expect(rt, "a stream");
+        add_bracketed(rt, alloc, &mut all, alone);
     }
-    Ok(all)
+    all
 }
 
 #[test]
-fn each_tree_may_stand_in_another_stream(rt: HostRuntime) -> Result<(), Fail> {
+fn each_tree_may_stand_in_another_stream(rt: HostRuntime) {
     let alloc = rt.alloc();
-    let all = each_alone(alloc, parse_first(alloc, "a (b c) -1 'd \"\"")?)?;
-    assert_eq!(rt; all.as_str(), "<a><(b c)><-><1><'><d><\"\">");
-    Ok(())
+    let stream = parsed(&rt, alloc, "a (b c) -1 'd \"\"");
+    let all = each_alone(&rt, alloc, stream);
+    let want = "<a><(b c)><-><1><'><d><\"\">";
+    check_answer(&rt, want, &all.as_str(), &want);
 }
 
 #[test]
-fn an_iterator_ends_again_after_its_end(rt: HostRuntime) -> Result<(), Fail> {
-    let mut trees = parse_first(rt.alloc(), "a")?.into_iter()?;
-    assert!(rt; trees.next().is_some());
-    assert!(rt; trees.next().is_none());
-    assert!(rt; trees.next().is_none());
-    Ok(())
+fn an_iterator_ends_again_after_its_end(rt: HostRuntime) {
+    let mut trees = trees_in(&rt, rt.alloc(), "a");
+    has_next(&rt, &mut trees, true);
+    has_next(&rt, &mut trees, false);
+    has_next(&rt, &mut trees, false);
+    release(trees);
 }
 
 #[test]
-fn an_iterator_shows_the_trees_that_are_left(rt: HostRuntime) -> Result<(), Fail> {
+fn an_iterator_shows_the_trees_that_are_left(rt: HostRuntime) {
     let alloc = rt.alloc();
-    let mut trees = parse_first(alloc, "a (b) +")?.into_iter()?;
-    let _ = trees.next();
+    let mut trees = trees_in(&rt, alloc, "a (b) +");
+    skip(&mut trees);
     shows(
         &rt,
         alloc,
@@ -95,34 +119,34 @@ fn an_iterator_shows_the_trees_that_are_left(rt: HostRuntime) -> Result<(), Fail
         "TokenStream [Group { delimiter: Parenthesis, stream: TokenStream [\
          Ident { sym: b, span: bytes(4..5) }], span: bytes(3..6) }, \
          Punct { char: '+', spacing: Alone, span: bytes(7..8) }]",
-    )?;
-    let _ = trees.next();
-    let _ = trees.next();
-    shows(&rt, alloc, &trees, "TokenStream []")?;
-    Ok(())
+    );
+    skip(&mut trees);
+    skip(&mut trees);
+    shows(&rt, alloc, &trees, "TokenStream []");
+    release(trees);
 }
 
 #[test]
-fn a_shared_stream_keeps_what_the_other_gives(rt: HostRuntime) -> Result<(), Fail> {
+fn a_shared_stream_keeps_what_the_other_gives(rt: HostRuntime) {
     let alloc = rt.alloc();
-    let stream = parse_first(alloc, "a (b) +")?;
-    let mut trees = stream.clone()?.into_iter()?;
-    let _ = trees.next();
-    displays(&rt, alloc, &stream, "a (b) +")?;
-    gives(&rt, alloc, trees, "<(b)><+>")?;
-    displays(&rt, alloc, &stream, "a (b) +")?;
-    Ok(())
+    let stream = parsed(&rt, alloc, "a (b) +");
+    let mut trees = trees_of(&rt, stream.clone().expect(&rt, "a clone"));
+    skip(&mut trees);
+    displays(&rt, alloc, &stream, "a (b) +");
+    gives(&rt, alloc, trees, "<(b)><+>");
+    displays(&rt, alloc, &stream, "a (b) +");
+    release(stream);
 }
 
 #[test]
-fn an_iterator_over_deep_groups_is_dropped_in_little_stack(rt: HostRuntime) -> Result<(), Fail> {
+fn an_iterator_over_deep_groups_is_dropped_in_little_stack(rt: HostRuntime) {
     let alloc = rt.alloc();
-    let text = repeat_parts(alloc, &[("[", 100_000), ("]", 100_000)])?;
-    let trees = parse_first(alloc, text.as_str())?.into_iter()?;
-    assert_eq!(rt; trees.size_hint(), (1, Some(1)));
-    let mut given = parse_first(alloc, text.as_str())?.into_iter()?;
-    assert!(rt; given.next().is_some());
-    Ok(())
+    let text = repeat_parts(&rt, alloc, &[("[", 100_000), ("]", 100_000)]);
+    let trees = trees_in(&rt, alloc, text.as_str());
+    hints_at(&rt, &trees, 1);
+    let mut given = trees_in(&rt, alloc, text.as_str());
+    has_next(&rt, &mut given, true);
+    release((trees, given));
 }
 
 /// The upper bound in an iterator's `size_hint`: none, or the greatest number. The lower bound is 0.
@@ -162,19 +186,19 @@ impl Iterator for Hinting {
 }
 
 /// Asserts what `x` is extended to by the trees of the text, from an iterator with this upper bound.
-fn extends(rt: &impl Abort, alloc: Global, text: &str, most: Most, want: &str) -> Result<(), Fail> {
-    let mut stream = parse_first(alloc, "x")?;
-    let trees = parse_first(alloc, text)?.into_iter()?;
-    stream.extend_trees(Hinting { trees, most })?;
-    displays(rt, alloc, &stream, want)?;
-    Ok(())
+fn extends(rt: &impl Abort, alloc: Global, text: &str, most: Most, want: &str) {
+    let mut stream = parsed(rt, alloc, "x");
+    let trees = trees_in(rt, alloc, text);
+    stream
+        .extend_trees(Hinting { trees, most })
+        .expect(rt, text);
+    prints(rt, alloc, stream, want);
 }
 
 #[test]
-fn what_an_iterator_hints_at_changes_nothing(rt: HostRuntime) -> Result<(), Fail> {
+fn what_an_iterator_hints_at_changes_nothing(rt: HostRuntime) {
     for most in [Most::Unknown, Most::Greatest] {
-        extends(&rt, rt.alloc(), "a (b) +", most, "x a (b) +")?;
-        extends(&rt, rt.alloc(), "", most, "x")?;
+        extends(&rt, rt.alloc(), "a (b) +", most, "x a (b) +");
+        extends(&rt, rt.alloc(), "", most, "x");
     }
-    Ok(())
 }

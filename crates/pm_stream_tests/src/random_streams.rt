@@ -3,13 +3,13 @@
 // `bench/twin/random_lists.rs` makes the same lists from the same seed, in the same steps, for the Rust crate.
 ghost use Rattle.std.specs.Prelude.{◌<◌, length};
 
+use crate::checks::{check_answer, display_text, parse_first, release};
 use proc_macro2::{
     Delimiter, Group, Ident, Literal, ParseError, Punct, SourceMap, Spacing, Span, TokenStream,
     TokenTree,
 };
 use std::alloc::{AllocError, Global};
 use std::process::Abort;
-use std::test::Fail;
 
 /// How many streams are made, and how many of them come back. The Rust crate gives the same numbers.
 const STREAMS: u32 = 20000;
@@ -91,79 +91,72 @@ struct RandomTrees {
 
 impl RandomTrees {
     /// Up to 6 trees, in which groups nest 2 deep.
-    fn trees(&mut self, rt: &(impl Abort + AllocGlobal)) -> Result<Vec<TokenTree>, Fail> {
+    fn trees(&mut self, rt: &(impl Abort + AllocGlobal)) -> Vec<TokenTree> {
         let mut trees = Vec::new(rt.alloc());
         for _ in 0..self.below(7) {
-            trees.push(self.tree(rt)?)?;
+            trees.push(self.tree(rt)).expect(rt, "a tree");
         }
-        Ok(trees)
+        trees
     }
 
     /// A tree, in which groups nest 2 deep.
-    fn tree(&mut self, rt: &(impl Abort + AllocGlobal)) -> Result<TokenTree, Fail> {
+    fn tree(&mut self, rt: &(impl Abort + AllocGlobal)) -> TokenTree {
         let kind = self.below(13);
         if kind < 11 {
             return self.leaf(rt, kind);
         }
         let delimiter = self.one_of(DELIMITERS);
-        let inside = self.shallow_trees(rt)?;
-        Ok(group_of(rt.alloc(), delimiter, inside)?)
+        let inside = self.shallow_trees(rt);
+        group_of(rt, rt.alloc(), delimiter, inside)
     }
 
     /// Up to 3 trees. Their groups have no groups in them.
-    fn shallow_trees(&mut self, rt: &(impl Abort + AllocGlobal)) -> Result<Vec<TokenTree>, Fail> {
+    fn shallow_trees(&mut self, rt: &(impl Abort + AllocGlobal)) -> Vec<TokenTree> {
         let mut trees = Vec::new(rt.alloc());
         for _ in 0..self.below(4) {
-            trees.push(self.shallow_tree(rt)?)?;
+            trees.push(self.shallow_tree(rt)).expect(rt, "a tree");
         }
-        Ok(trees)
+        trees
     }
 
     /// A tree. If it is a group, it has no groups in it.
-    fn shallow_tree(&mut self, rt: &(impl Abort + AllocGlobal)) -> Result<TokenTree, Fail> {
+    fn shallow_tree(&mut self, rt: &(impl Abort + AllocGlobal)) -> TokenTree {
         let kind = self.below(13);
         if kind < 11 {
             return self.leaf(rt, kind);
         }
         let delimiter = self.one_of(DELIMITERS);
-        let inside = self.leaves(rt)?;
-        Ok(group_of(rt.alloc(), delimiter, inside)?)
+        let inside = self.leaves(rt);
+        group_of(rt, rt.alloc(), delimiter, inside)
     }
 
     /// Up to 3 trees that are no groups.
-    fn leaves(&mut self, rt: &(impl Abort + AllocGlobal)) -> Result<Vec<TokenTree>, Fail> {
+    fn leaves(&mut self, rt: &(impl Abort + AllocGlobal)) -> Vec<TokenTree> {
         let mut trees = Vec::new(rt.alloc());
         for _ in 0..self.below(4) {
             let kind = self.below(11);
-            trees.push(self.leaf(rt, kind)?)?;
+            trees.push(self.leaf(rt, kind)).expect(rt, "a tree");
         }
-        Ok(trees)
+        trees
     }
 
     /// A tree that is no group, of one of eleven kinds.
-    fn leaf(&mut self, rt: &(impl Abort + AllocGlobal), kind: u64) -> Result<TokenTree, Fail> {
+    fn leaf(&mut self, rt: &(impl Abort + AllocGlobal), kind: u64) -> TokenTree {
         let alloc = rt.alloc();
-        Ok(match kind {
-            0..=1 => TokenTree::Ident(Ident::new(alloc, self.one_of(NAMES), Span::call_site())?),
-            2 => TokenTree::Ident(Ident::new_raw(
-                alloc,
-                self.one_of(RAW_NAMES),
-                Span::call_site(),
-            )?),
+        match kind {
+            0..=1 => TokenTree::Ident(name(rt, alloc, self.one_of(NAMES))),
+            2 => TokenTree::Ident(raw_name(rt, alloc, self.one_of(RAW_NAMES))),
             3..=4 => TokenTree::Punct(self.mark(rt, Spacing::Alone)),
             5..=6 => TokenTree::Punct(self.mark(rt, Spacing::Joint)),
-            7..=9 => {
-                let text = self.one_of(LITERALS);
-                TokenTree::Literal(Literal::from_str(text, &mut SourceMap::new(alloc))?)
-            }
-            _ => TokenTree::Literal(self.integer(alloc)?),
-        })
+            7..=9 => TokenTree::Literal(literal(rt, alloc, self.one_of(LITERALS))),
+            _ => TokenTree::Literal(self.integer(alloc).expect(rt, "an integer")),
+        }
     }
 
     /// A mark.
     fn mark(&mut self, rt: &(impl Abort + AllocGlobal), spacing: Spacing) -> Punct {
         let mark = self.one_of(MARKS);
-        assert!(rt; Punct::is_punct_char(mark), "{mark}");
+        assert!(rt; Punct::is_punct_char(mark));
         Punct::new(mark, spacing)
     }
 
@@ -202,47 +195,69 @@ impl RandomTrees {
     }
 }
 
+/// The identifier of the name.
+fn name(rt: &impl Abort, alloc: Global, name: &str) -> Ident {
+    Ident::new(alloc, name, Span::call_site()).expect(rt, name)
+}
+
+/// The raw identifier of the name.
+fn raw_name(rt: &impl Abort, alloc: Global, name: &str) -> Ident {
+    Ident::new_raw(alloc, name, Span::call_site()).expect(rt, name)
+}
+
+/// The literal of the text, which is the first file of a new map.
+fn literal(rt: &impl Abort, alloc: Global, text: &str) -> Literal {
+    Literal::from_str(text, &mut SourceMap::new(alloc)).expect(rt, text)
+}
+
 /// The group of these trees.
 fn group_of(
+    rt: &impl Abort,
     alloc: Global,
     delimiter: Delimiter,
     trees: Vec<TokenTree>,
-) -> Result<TokenTree, AllocError> {
-    let stream = TokenStream::from_trees(alloc, trees)?;
-    Ok(TokenTree::Group(Group::new(delimiter, stream)))
+) -> TokenTree {
+    TokenTree::Group(Group::new(delimiter, stream_of(rt, alloc, trees)))
 }
 
-/// Whether the printed text parses, in a new map, to the same tokens.
-fn comes_back(alloc: Global, stream: &TokenStream) -> Result<bool, ParseError> {
-    let text = format!(in alloc; "{stream}")?;
-    match TokenStream::from_str(text.as_str(), &mut SourceMap::new(alloc)) {
-        Ok(back) => Ok(stream.same_tokens(&back)),
-        Err(ParseError::Lex(_)) => Ok(false),
-        Err(error) => Err(error),
+/// The stream of these trees.
+fn stream_of(rt: &impl Abort, alloc: Global, trees: Vec<TokenTree>) -> TokenStream {
+    TokenStream::from_trees(alloc, trees).expect(rt, "a stream")
+}
+
+/// Whether the stream was read, and has the same tokens as the other. No error but a syntax error is left.
+fn is_back(rt: &impl Abort, read: &Result<TokenStream, ParseError>, stream: &TokenStream) -> bool {
+    match read {
+        Ok(back) => stream.same_tokens(back),
+        Err(error) => {
+            let is_lex = matches!(error, ParseError::Lex(_));
+            check_answer(rt, "a syntax error", &is_lex, &true);
+            false
+        }
     }
 }
 
 /// Asserts that the stream comes back exactly if it is well spaced, and returns whether it comes back.
-fn check_spacing(
-    rt: &(impl Abort + AllocGlobal),
-    stream: &TokenStream,
-) -> Result<bool, ParseError> {
+fn check_spacing(rt: &impl Abort, alloc: Global, stream: &TokenStream) -> bool {
     let spaced = stream.is_well_spaced();
-    assert_eq!(rt; comes_back(rt.alloc(), stream)?, spaced, "of {stream:?}");
-    Ok(spaced)
+    let text = display_text(rt, alloc, stream);
+    let read = parse_first(alloc, text.as_str());
+    check_answer(rt, text.as_str(), &is_back(rt, &read, stream), &spaced);
+    release(read);
+    spaced
 }
 
 #[test]
-fn what_is_well_spaced_comes_back_and_nothing_else(rt: HostRuntime) -> Result<(), Fail> {
+fn what_is_well_spaced_comes_back_and_nothing_else(rt: HostRuntime) {
     let mut random = RandomTrees { state: 7 };
     let mut come_back: u32 = 0;
     for _ in 0..STREAMS {
-        let trees = random.trees(&rt)?;
-        let stream = TokenStream::from_trees(rt.alloc(), trees)?;
-        if check_spacing(&rt, &stream)? {
+        let trees = random.trees(&rt);
+        let stream = stream_of(&rt, rt.alloc(), trees);
+        if check_spacing(&rt, rt.alloc(), &stream) {
             come_back = come_back.saturating_add(1);
         }
+        release(stream);
     }
-    assert_eq!(rt; come_back, COME_BACK);
-    Ok(())
+    check_answer(&rt, "how many come back", &come_back, &COME_BACK);
 }

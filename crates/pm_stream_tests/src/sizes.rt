@@ -1,11 +1,12 @@
 // Tests how many bytes a tree takes, because a long text has many trees.
+use crate::checks::check_answer;
 use proc_macro2::{Group, TokenStream, TokenTree};
 use std::mem::size_of;
 use std::process::Abort;
 
 /// Asserts that a value of a type takes `want` bytes.
 fn take(rt: &impl Abort, name: &str, bytes: usize, want: usize) {
-    assert_eq!(rt; bytes, want, "of {name:?}");
+    check_answer(rt, name, &bytes, &want);
 }
 
 #[test]

@@ -1,8 +1,8 @@
 //! Callers of the look-ups of spans. They need neither a check nor a proof that the map holds the spans.
 ghost use Rattle.pm_stream.specs.HeldSpans.{HoldsTree};
 
+use crate::checks::{check_answer, release};
 use proc_macro2::{LineColumn, Literal, ParseError, SourceMap, TokenStream, TokenTree};
-use std::test::Fail;
 
 /// Where the last tree of the text begins that is in no group.
 fn start_of_last(text: &str, map: &mut SourceMap) -> Result<Option<LineColumn>, ParseError> {
@@ -44,13 +44,14 @@ fn start_of_literal(text: &str, map: &mut SourceMap) -> Result<LineColumn, Parse
 }
 
 #[test]
-fn the_map_holds_each_span_of_what_was_read(rt: HostRuntime) -> Result<(), Fail> {
+fn the_map_holds_each_span_of_what_was_read(rt: HostRuntime) {
     let mut map = SourceMap::new(rt.alloc());
-    let start = start_of_last("a\n (b\nc)", &mut map)?;
-    assert_eq!(rt; start, Some(LineColumn { line: 2, column: 1 }));
-    let start = start_of_last_inside("a\n (b\nc)", &mut map)?;
-    assert_eq!(rt; start, Some(LineColumn { line: 3, column: 0 }));
-    let start = start_of_literal("-1u8", &mut map)?;
-    assert_eq!(rt; start, LineColumn { line: 1, column: 0 });
-    Ok(())
+    let text = "a\n (b\nc)";
+    let start = start_of_last(text, &mut map).expect(&rt, text);
+    check_answer(&rt, text, &start, &Some(LineColumn { line: 2, column: 1 }));
+    let start = start_of_last_inside(text, &mut map).expect(&rt, text);
+    check_answer(&rt, text, &start, &Some(LineColumn { line: 3, column: 0 }));
+    let start = start_of_literal("-1u8", &mut map).expect(&rt, "-1u8");
+    check_answer(&rt, "-1u8", &start, &LineColumn { line: 1, column: 0 });
+    release(map);
 }
