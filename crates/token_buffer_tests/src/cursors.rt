@@ -1,11 +1,11 @@
 // Tests of cursors on texts that were written by hand. Each call is tested at least once.
 
+use crate::checks::{check_answer, release};
 use pm_span::parts::bounds;
 use pm_stream::TokenStream;
-use pm_token::{Delimiter, ParseError, Spacing};
-use std::alloc::{AllocError, Global};
+use pm_token::{Delimiter, Spacing};
+use std::alloc::Global;
 use std::process::Abort;
-use std::test::Fail;
 use token_buffer::{Cursor, LiteralText, TokenBuffer, TokenText};
 
 /// Asserts what the cursor at the start of `r#f += 'é (\"x\")` returns up to the group.
@@ -21,8 +21,13 @@ fn check_names_and_marks<'a>(rt: &impl Abort, cursor: Cursor<'a>) -> Option<Curs
         ('+', Spacing::Joint),
         "é",
     );
-    assert_eq!(rt; found, want);
+    check_answer(rt, "names and marks", &found, &want);
     Some(rest)
+}
+
+/// The buffer of the text.
+fn buffer_of<'a>(rt: &impl Abort, alloc: Global, text: &'a str) -> TokenBuffer<'a> {
+    TokenBuffer::new(alloc, text).expect(rt, text)
 }
 
 /// Asserts what the cursor before `(\"x\")` returns.
@@ -33,24 +38,25 @@ fn check_group(rt: &impl Abort, cursor: Cursor<'_>) -> Option<()> {
         in_brackets,
         cursor.any_group().is_some(),
     );
-    assert_eq!(rt; start, (Some((11, 16)), false, true));
+    check_answer(rt, "a group", &start, &(Some((11, 16)), false, true));
     let (inside, after) = cursor.group(Delimiter::Parenthesis)?;
     let (literal, end) = inside.literal()?;
     let is_x = matches!(literal, LiteralText::Source("\"x\""));
     let ends = (after.eof(), end.eof(), end.next().is_none());
-    assert_eq!(rt; (is_x, ends), (true, (true, true, true)));
+    let want = (true, (true, true, true));
+    check_answer(rt, "inside a group", &(is_x, ends), &want);
     Some(())
 }
 
 #[test]
-fn tokens_come_one_after_another(rt: HostRuntime) -> Result<(), Fail> {
-    let buffer = TokenBuffer::new(rt.alloc(), "r#f += 'é (\"x\")")?;
+fn tokens_come_one_after_another(rt: HostRuntime) {
+    let buffer = buffer_of(&rt, rt.alloc(), "r#f += 'é (\"x\")");
     let checked = match check_names_and_marks(&rt, buffer.begin()) {
         Some(rest) => check_group(&rt, rest),
         None => None,
     };
-    assert!(rt; checked.is_some());
-    Ok(())
+    check_answer(&rt, "all tokens", &checked, &Some(()));
+    release(buffer);
 }
 
 /// Asserts what the cursor at the start of `//! d`, CR and LF returns. The comment includes the CR before its line
@@ -64,46 +70,60 @@ fn check_doc(rt: &impl Abort, cursor: Cursor<'_>) -> Option<()> {
     let is_d = matches!(text, TokenText::Literal(LiteralText::Doc(" d")));
     let spans = (group.span().map(bounds), rest.span().map(bounds));
     let want = ((Some((1, 7)), Some((1, 7))), ("doc", '=', true));
-    assert_eq!(rt; (spans, (name.text, mark, is_d)), want);
+    let found = (spans, (name.text, mark, is_d));
+    check_answer(rt, "a doc comment", &found, &want);
     Some(())
 }
 
 #[test]
-fn a_doc_comment_is_its_tokens(rt: HostRuntime) -> Result<(), Fail> {
-    let buffer = TokenBuffer::new(rt.alloc(), "//! d\r\n")?;
-    assert!(rt; check_doc(&rt, buffer.begin()).is_some());
-    Ok(())
+fn a_doc_comment_is_its_tokens(rt: HostRuntime) {
+    let buffer = buffer_of(&rt, rt.alloc(), "//! d\r\n");
+    let checked = check_doc(&rt, buffer.begin());
+    check_answer(&rt, "a doc comment", &checked, &Some(()));
+    release(buffer);
 }
 
 /// The printed text of the cursor's tokens.
-fn printed_text(alloc: Global, cursor: Cursor<'_>) -> Result<String, AllocError> {
-    let stream = cursor.to_stream(alloc)?;
-    stream.to_string(alloc)
+fn printed_text(rt: &impl Abort, alloc: Global, cursor: Cursor<'_>) -> String {
+    let stream = stream_of(rt, alloc, cursor);
+    let text = stream.to_string(alloc).expect(rt, "a text");
+    release(stream);
+    text
+}
+
+/// The stream of the cursor's tokens.
+fn stream_of(rt: &impl Abort, alloc: Global, cursor: Cursor<'_>) -> TokenStream {
+    cursor.to_stream(alloc).expect(rt, "a stream")
 }
 
 /// Whether the cursor's tokens are those that the text parses to.
-fn are_those_of(alloc: Global, cursor: Cursor<'_>, text: &str) -> Result<bool, ParseError> {
-    let stream = cursor.to_stream(alloc)?;
-    let parsed = TokenStream::parse_unmapped(alloc, text)?;
-    Ok(stream.same_tokens(&parsed))
+fn are_those_of(rt: &impl Abort, alloc: Global, cursor: Cursor<'_>, text: &str) -> bool {
+    let stream = stream_of(rt, alloc, cursor);
+    let parsed = TokenStream::parse_unmapped(alloc, text).expect(rt, text);
+    let same = stream.same_tokens(&parsed);
+    release((stream, parsed));
+    same
+}
+
+/// The cursor after the first tree of the buffer, which has one.
+fn after_first<'a>(rt: &impl Abort, buffer: &'a TokenBuffer<'a>) -> Cursor<'a> {
+    buffer.begin().skip().expect(rt, "the text has a tree")
 }
 
 #[test]
-fn what_is_left_is_a_stream(rt: HostRuntime) -> Result<(), Fail> {
+fn what_is_left_is_a_stream(rt: HostRuntime) {
     let text = "a (b + [c]) //! d\n'x 1.0";
-    let buffer = TokenBuffer::new(rt.alloc(), text)?;
-    assert!(rt; are_those_of(rt.alloc(), buffer.begin(), text)?);
-    let rest = buffer.begin().skip();
-    assert!(rt; rest.is_some());
-    if let Some(rest) = rest {
-        let text = printed_text(rt.alloc(), rest)?;
-        assert_eq!(rt; text.as_str(), "(b + [c]) # ! [doc = \" d\"] 'x 1.0");
-    }
-    Ok(())
+    let buffer = buffer_of(&rt, rt.alloc(), text);
+    let same = are_those_of(&rt, rt.alloc(), buffer.begin(), text);
+    check_answer(&rt, text, &same, &true);
+    let rest = printed_text(&rt, rt.alloc(), after_first(&rt, &buffer));
+    let want = "(b + [c]) # ! [doc = \" d\"] 'x 1.0";
+    check_answer(&rt, text, &rest.as_str(), &want);
+    release(buffer);
 }
 
 /// Texts, each with the printed text of all its trees but the first.
-const PRINTED: [(&str, &str); 8] = [
+const PRINTED: &[(&str, &str)] = &[
     ("a+=(b)", "+= (b)"),
     ("a {x}{}", "{ x } { }"),
     ("(a) r#f [1.0, 'b]", "r#f [1.0 , 'b]"),
@@ -115,44 +135,36 @@ const PRINTED: [(&str, &str); 8] = [
 ];
 
 /// Asserts the printed text of all trees of a text but the first, from their cursor and from their stream.
-fn check_printed(
-    rt: &(impl Abort + AllocGlobal),
-    cursor: Cursor<'_>,
-    want: &str,
-) -> Result<(), AllocError> {
-    let text = format!(in rt.alloc(); "{cursor}")?;
-    assert_eq!(rt; text.as_str(), want);
-    let text = printed_text(rt.alloc(), cursor)?;
-    assert_eq!(rt; text.as_str(), want, "by the stream");
-    Ok(())
+fn check_printed(rt: &(impl Abort + AllocGlobal), cursor: Cursor<'_>, want: &str) {
+    let text = format!(in rt.alloc(); "{cursor}").expect(rt, want);
+    let by_stream = printed_text(rt, rt.alloc(), cursor);
+    let found = (text.as_str(), by_stream.as_str());
+    check_answer(rt, "by the cursor and by the stream", &found, &(want, want));
+    release((text, by_stream));
 }
 
 #[test]
-fn a_cursor_is_printed_as_its_stream(rt: HostRuntime) -> Result<(), Fail> {
-    for (text, want) in PRINTED {
-        let buffer = TokenBuffer::new(rt.alloc(), text)?;
-        let rest = buffer.begin().skip();
-        assert!(rt; rest.is_some(), "{text:?} has a tree");
-        if let Some(rest) = rest {
-            check_printed(&rt, rest, want)?;
-        }
+fn a_cursor_is_printed_as_its_stream(rt: HostRuntime) {
+    for &(text, want) in PRINTED {
+        let buffer = buffer_of(&rt, rt.alloc(), text);
+        check_printed(&rt, after_first(&rt, &buffer), want);
+        release(buffer);
     }
-    Ok(())
 }
 
 #[test]
-fn a_long_list_is_printed_without_an_error(rt: HostRuntime) -> Result<(), Fail> {
-    let mut text = String::from_str(rt.alloc(), "x")?;
+fn a_long_list_is_printed_without_an_error(rt: HostRuntime) {
+    let mut text = String::from_str(rt.alloc(), "x").expect(&rt, "x");
     for _ in 0..70_000 {
-        text.push_str(" + \"y\" { z } (r#w)")?;
+        text.push_str(" + \"y\" { z } (r#w)").expect(&rt, "a list");
     }
-    let buffer = TokenBuffer::new(rt.alloc(), text.as_str())?;
-    check_printed(&rt, buffer.begin(), text.as_str())?;
-    Ok(())
+    let buffer = buffer_of(&rt, rt.alloc(), text.as_str());
+    check_printed(&rt, buffer.begin(), text.as_str());
+    release(buffer);
 }
 
 /// Pairs of texts, each with whether their trees are the same up to spans.
-const COMPARED: [(&str, &str, bool); 18] = [
+const COMPARED: &[(&str, &str, bool)] = &[
     ("a", "  a", true),
     ("", "", true),
     ("a", "", false),
@@ -175,30 +187,33 @@ const COMPARED: [(&str, &str, bool); 18] = [
 
 /// Whether the two cursors' streams are the same up to spans.
 fn have_same_streams(
+    rt: &impl Abort,
     alloc: Global,
     cursor: Cursor<'_>,
     other: Cursor<'_>,
-) -> Result<bool, AllocError> {
-    let stream = cursor.to_stream(alloc)?;
-    let others = other.to_stream(alloc)?;
-    Ok(stream.same_tokens(&others))
+) -> bool {
+    let stream = stream_of(rt, alloc, cursor);
+    let others = stream_of(rt, alloc, other);
+    let same = stream.same_tokens(&others);
+    release((stream, others));
+    same
 }
 
 #[test]
-fn cursors_are_equal_up_to_spans(rt: HostRuntime) -> Result<(), Fail> {
-    for (text, other, want) in COMPARED {
-        let buffer = TokenBuffer::new(rt.alloc(), text)?;
-        let others = TokenBuffer::new(rt.alloc(), other)?;
+fn cursors_are_equal_up_to_spans(rt: HostRuntime) {
+    for &(text, other, want) in COMPARED {
+        let buffer = buffer_of(&rt, rt.alloc(), text);
+        let others = buffer_of(&rt, rt.alloc(), other);
         let (left, right) = (buffer.begin(), others.begin());
-        let streams = have_same_streams(rt.alloc(), left, right)?;
-        let found = (left == right, right == left, streams);
-        assert_eq!(rt; found, (want, want, want), "{text:?} and {other:?}");
+        let streams = have_same_streams(&rt, rt.alloc(), left, right);
+        let found = (other, left == right, right == left, streams);
+        check_answer(&rt, text, &found, &(other, want, want, want));
+        release((buffer, others));
     }
-    Ok(())
 }
 
 /// Texts, each with the printed text of the trees after its generic arguments, or `none` if it doesn't begin with any.
-const TURBOFISHES: [(&str, &str); 7] = [
+const TURBOFISHES: &[(&str, &str)] = &[
     ("::<Vec<T>>(x)", "(x)"),
     ("::<fn() -> T, 'a> = 1", "= 1"),
     ("::<>", ""),
@@ -209,19 +224,19 @@ const TURBOFISHES: [(&str, &str); 7] = [
 ];
 
 /// The printed text of the trees after generic arguments, or `none`.
-fn after_turbofish(alloc: Global, cursor: Cursor<'_>) -> Result<String, AllocError> {
+fn after_turbofish(rt: &impl Abort, alloc: Global, cursor: Cursor<'_>) -> String {
     match cursor.turbofish() {
-        Some(rest) => printed_text(alloc, rest),
-        None => String::from_str(alloc, "none"),
+        Some(rest) => printed_text(rt, alloc, rest),
+        None => String::from_str(alloc, "none").expect(rt, "none"),
     }
 }
 
 #[test]
-fn generic_arguments_end_at_their_mark(rt: HostRuntime) -> Result<(), Fail> {
-    for (text, want) in TURBOFISHES {
-        let buffer = TokenBuffer::new(rt.alloc(), text)?;
-        let found = after_turbofish(rt.alloc(), buffer.begin())?;
-        assert_eq!(rt; found.as_str(), want, "of {text:?}");
+fn generic_arguments_end_at_their_mark(rt: HostRuntime) {
+    for &(text, want) in TURBOFISHES {
+        let buffer = buffer_of(&rt, rt.alloc(), text);
+        let found = after_turbofish(&rt, rt.alloc(), buffer.begin());
+        check_answer(&rt, text, &found.as_str(), &want);
+        release((buffer, found));
     }
-    Ok(())
 }

@@ -1,37 +1,48 @@
 //! Tests of the openers that `explain` returns.
-use explain::{ExplainError, Explained, explain};
-use std::alloc::{AllocError, Global};
+use crate::checks::{check_answer, release};
+use explain::{ExplainError, Explained, Opener, explain};
+use std::alloc::Global;
 use std::process::Abort;
 
 /// Asserts that the text doesn't parse, and that these bytes are the openers that no closer matches before the error,
 /// the innermost last.
 fn check(rt: &(impl Abort + AllocGlobal), text: &str, want: &str) {
-    let found = openers(rt.alloc(), text).expect(rt, text);
-    assert_eq!(rt; found.as_str(), want, "of {text:?}");
+    let explained = explain(rt.alloc(), text);
+    let found = openers(rt, rt.alloc(), &explained);
+    check_answer(rt, text, &found.as_str(), &want);
+    release((explained, found));
 }
 
 /// The bytes of the openers that no closer matches before the text's error.
-fn openers(alloc: Global, text: &str) -> Result<String, ExplainError> {
-    match explain(alloc, text)? {
-        Some(explained) => Ok(opener_bytes(alloc, &explained)?),
-        None => Ok(String::from_str(alloc, "none")?),
+fn openers(
+    rt: &impl Abort,
+    alloc: Global,
+    explained: &Result<Option<Explained>, ExplainError>,
+) -> String {
+    match explained {
+        Ok(Some(explained)) => opener_bytes(rt, alloc, explained),
+        Ok(None) => String::from_str(alloc, "none").expect(rt, "none"),
+        Err(_) => String::from_str(alloc, "memory").expect(rt, "memory"),
     }
 }
 
 /// The bytes of the openers in the explanation, the innermost last.
-fn opener_bytes(alloc: Global, explained: &Explained) -> Result<String, AllocError> {
-    let mut shown = String::from_str(alloc, "")?;
+fn opener_bytes(rt: &impl Abort, alloc: Global, explained: &Explained) -> String {
+    let mut shown = String::new(alloc);
     for opener in explained.outer.iter() {
-        let (start, end) = (opener.at.start, opener.at.end);
-        shown = format!(in alloc; "{shown}{start}..{end} ")?;
+        add_opener(rt, &mut shown, opener);
+        shown.push(' ').expect(rt, "a text");
     }
-    match explained.innermost {
-        Some(opener) => {
-            let (start, end) = (opener.at.start, opener.at.end);
-            format!(in alloc; "{shown}{start}..{end}")
-        }
-        None => Ok(shown),
+    if let Some(opener) = &explained.innermost {
+        add_opener(rt, &mut shown, opener);
     }
+    shown
+}
+
+/// Appends the bytes of the opener.
+fn add_opener(rt: &impl Abort, shown: &mut String, opener: &Opener) {
+    let (start, end) = (opener.at.start, opener.at.end);
+    assert!(rt; write!(shown, "{start}..{end}").is_ok());
 }
 
 #[test]
