@@ -1,38 +1,46 @@
 // A text of at most 22 bytes is kept in its token, and a longer one in memory. Both are kept unchanged and copied.
 use crate::checks::{check_same, make_ident, release};
-use pm_token::Literal;
+use pm_token::{Ident, Literal};
 use std::alloc::Global;
-use std::fmt::{Debug, Display};
+use std::fmt::Display;
 use std::process::Abort;
 
-/// Returns how a copy of what was made is written.
-fn copy_text<T: Clone + Display + Drop, E: Debug + Drop>(
-    rt: &impl Abort,
-    alloc: Global,
-    made: Result<T, E>,
-    name: &str,
-) -> String {
-    let value = made.expect(rt, name);
-    let copy = value.clone().expect(rt, name);
-    release(value);
-    format!(in alloc; "{copy}").expect(rt, name)
+/// Copies the identifier of the name.
+fn copied_ident(rt: &impl Abort, alloc: Global, name: &str, raw: bool) -> Ident {
+    let ident = make_ident(alloc, name, raw).expect(rt, name);
+    let copy = ident.clone().expect(rt, name);
+    release(ident);
+    copy
+}
+
+/// Copies the string literal of the text.
+fn copied_literal(rt: &impl Abort, alloc: Global, text: &str) -> Literal {
+    let literal = Literal::string(alloc, text).expect(rt, text);
+    let copy = literal.clone().expect(rt, text);
+    release(literal);
+    copy
+}
+
+/// Returns how the token is written, and drops it.
+fn written<T: Display + Drop>(rt: &impl Abort, alloc: Global, token: T) -> String {
+    format!(in alloc; "{token}").expect(rt, "a text")
 }
 
 /// Asserts how a copy of the plain identifier of the name is written.
 fn is_kept(rt: &impl Abort, alloc: Global, name: &str) {
-    let plain = copy_text(rt, alloc, make_ident(alloc, name, false), name);
+    let plain = written(rt, alloc, copied_ident(rt, alloc, name, false));
     check_same(rt, name, &plain.as_str(), &name);
 }
 
 /// Asserts how a copy of the raw identifier of the name is written.
 fn is_kept_raw(rt: &impl Abort, alloc: Global, name: &str) {
-    let raw = copy_text(rt, alloc, make_ident(alloc, name, true), name);
+    let raw = written(rt, alloc, copied_ident(rt, alloc, name, true));
     check_same(rt, name, &raw.as_str().strip_prefix("r#"), &Some(name));
 }
 
 /// Asserts how a copy of the string literal of the text is written.
 fn is_quoted(rt: &impl Abort, alloc: Global, text: &str) {
-    let quoted = copy_text(rt, alloc, Literal::string(alloc, text), text);
+    let quoted = written(rt, alloc, copied_literal(rt, alloc, text));
     let inside = quoted.as_str().strip_prefix('"').unwrap_or("");
     check_same(rt, text, &inside.strip_suffix('"'), &Some(text));
 }
