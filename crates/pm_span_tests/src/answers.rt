@@ -1,13 +1,13 @@
 //! Calls the look-ups of a map, and compares their results with those of a plain walk over the text.
 ghost use Rattle.pm_span.specs.Files.{Holds};
 
+use crate::checks::{check_answer, release};
 use crate::plain::PlainFile;
 use crate::recorded::RECORDED;
 use pm_span::parts::{add_file, bounds, fits, span_of};
 use pm_span::{LineColumn, SourceMap, Span};
 use std::alloc::Global;
 use std::process::Abort;
-use std::test::Fail;
 
 /// A kind of look-up of a span.
 #[derive(Clone, Copy, Debug)]
@@ -59,11 +59,10 @@ impl Digest {
 }
 
 /// Asserts that the digest of the test with this name is the recorded one.
-pub fn compare(rt: &impl Abort, name: &str, digest: Digest) -> Result<(), Fail> {
+pub fn compare(rt: &impl Abort, name: &str, digest: Digest) {
     let recorded = RECORDED.iter().find(|record| record.0 == name);
     let recorded = recorded.map(|record| record.1);
     assert_eq!(rt; Some(digest.value), recorded, "the answers of {name}");
-    Ok(())
 }
 
 /// A map, with its texts.
@@ -88,17 +87,17 @@ impl Maps {
     }
 
     /// Adds the text, and returns the position at which it begins.
-    pub fn add(&mut self, rt: &impl Abort, text: &str) -> Result<u32, Fail> {
+    pub fn add(&mut self, rt: &impl Abort, text: &str) -> u32 {
         let Some(lo) = fits(&self.map, text) else {
             assert!(rt; false, "the text fits");
-            return Ok(0);
+            return 0;
         };
-        add_file(&mut self.map, text)?;
-        let file = PlainFile::new(self.alloc, text, lo)?;
-        assert_eq!(rt; lo, self.last.saturating_add(1));
+        let _ = add_file(&mut self.map, text).expect(rt, "a file");
+        let file = PlainFile::new(self.alloc, text, lo).expect(rt, "a file");
+        check_answer(rt, (lo, lo), &lo, &self.last.saturating_add(1));
         self.last = file.hi();
-        self.files.push(file)?;
-        Ok(lo)
+        self.files.push(file).expect(rt, "a file");
+        lo
     }
 
     /// Removes the files.
@@ -110,32 +109,24 @@ impl Maps {
 
     /// Looks up the positions from `lo` to `hi`, and adds the results to the digest. It asserts that the map holds
     /// the span exactly if a file has it, and that the results are those of a plain walk.
-    pub fn ask(
-        &mut self,
-        rt: &impl Abort,
-        digest: &mut Digest,
-        what: LookUp,
-        lo: u32,
-        hi: u32,
-    ) -> Result<(), Fail> {
+    pub fn ask(&mut self, rt: &impl Abort, digest: &mut Digest, what: LookUp, lo: u32, hi: u32) {
         if hi < lo {
-            return Ok(());
+            return;
         }
         let span = span_of(lo, hi);
         let file = self.files.iter().find(|file| file.has(lo, hi));
         let is_held = self.map.holds(span);
-        assert_eq!(rt; is_held, file.is_some() || hi == 0, "of {lo}..{hi}");
+        check_answer(rt, (lo, hi), &is_held, &(file.is_some() || hi == 0));
         digest.add(is_held as u64);
         if !is_held {
-            return Ok(());
+            return;
         }
         digest.asked = digest.asked.saturating_add(1);
         match what {
             LookUp::Bytes => ask_bytes(rt, digest, &mut self.map, file, span),
-            LookUp::Text => ask_text(rt, digest, &mut self.map, file, span)?,
+            LookUp::Text => ask_text(rt, digest, &mut self.map, file, span),
             LookUp::Lines => ask_lines(rt, digest, &self.map, file, span),
         }
-        Ok(())
     }
 }
 
@@ -157,7 +148,7 @@ fn ask_bytes(
     };
     digest.add(bytes.start as u64);
     digest.add(bytes.end as u64);
-    assert_eq!(rt; bytes, plain, "of {lo}..{hi}");
+    check_answer(rt, (lo, hi), &bytes, &plain);
 }
 
 /// Looks up the text of a span, copied and borrowed.
@@ -167,18 +158,17 @@ fn ask_text(
     map: &mut SourceMap,
     file: Option<&PlainFile>,
     span: Span,
-) -> Result<(), Fail>
+)
     requires { Holds map.old span }
 {
     let (lo, hi) = bounds(span);
     let plain = file.and_then(|file| file.text_between(lo, hi));
     let lent = span.source_str(map);
-    assert_eq!(rt; lent, plain, "of {lo}..{hi}");
+    check_answer(rt, (lo, hi), &lent, &plain);
     digest.add_text(lent.unwrap_or(""));
-    let copy = span.source_text(map)?;
-    let copy = copy.as_ref().map(|text| text.as_str());
-    assert_eq!(rt; copy, plain, "of {lo}..{hi}");
-    Ok(())
+    let copy = span.source_text(map).expect(rt, "a copied text");
+    check_answer(rt, (lo, hi), &copy.as_deref(), &plain);
+    release(copy);
 }
 
 /// Looks up the lines and columns of a span.
@@ -200,6 +190,6 @@ fn ask_lines(
         None => (nowhere, nowhere),
         Some(file) => (file.line_column(lo), file.line_column(hi)),
     };
-    assert_eq!(rt; start, plain_start, "of {lo}");
-    assert_eq!(rt; end, plain_end, "of {hi}");
+    let answers = (start, end);
+    check_answer(rt, (lo, hi), &answers, &(plain_start, plain_end));
 }

@@ -7,6 +7,8 @@
 #[cfg(test)]
 mod answers;
 #[cfg(test)]
+mod checks;
+#[cfg(test)]
 mod plain;
 #[cfg(test)]
 mod random;

@@ -1,9 +1,9 @@
 //! Random maps and look-ups.
 use crate::answers::{Digest, LOOK_UPS, Maps, compare};
+use crate::checks::{check_count, release};
 use crate::random::Random;
 use crate::texts::random_text;
 use std::process::Abort;
-use std::test::Fail;
 
 /// The number of maps that are made.
 const MAPS: u32 = 150;
@@ -15,7 +15,7 @@ fn ask_some(
     maps: &mut Maps,
     digest: &mut Digest,
     before: u32,
-) -> Result<u32, Fail> {
+) -> u32 {
     let lo = if random.up_to(2) == 0 {
         random.up_to(maps.last)
     } else {
@@ -28,12 +28,12 @@ fn ask_some(
     let far = random.one_of(&[0, 10, 60, 200, 2000]);
     let hi = lo.saturating_add(random.up_to(far)).min(maps.last);
     let what = random.one_of(LOOK_UPS);
-    maps.ask(rt, digest, what, lo, hi)?;
-    Ok(lo)
+    maps.ask(rt, digest, what, lo, hi);
+    lo
 }
 
 #[test]
-fn random_maps_answer_as_they_did(rt: HostRuntime) -> Result<(), Fail> {
+fn random_maps_answer_as_they_did(rt: HostRuntime) {
     let alloc = rt.alloc();
     let mut random = Random::new(71);
     let mut maps = Maps::new(alloc);
@@ -42,12 +42,14 @@ fn random_maps_answer_as_they_did(rt: HostRuntime) -> Result<(), Fail> {
         if random.up_to(1) == 0 {
             maps.invalidate();
         }
-        let text = random_text(alloc, &mut random, 900)?;
-        let mut before = maps.add(&rt, &text)?;
+        let text = random_text(&rt, alloc, &mut random, 900);
+        let mut before = maps.add(&rt, &text);
         for _ in 0..50 {
-            before = ask_some(&rt, &mut random, &mut maps, &mut digest, before)?;
+            before = ask_some(&rt, &mut random, &mut maps, &mut digest, before);
         }
+        release(text);
     }
-    assert!(rt; digest.asked > 5000, "{} spans are asked", digest.asked);
-    compare(&rt, "random_maps", digest)
+    check_count(&rt, digest.asked, 5000);
+    compare(&rt, "random_maps", digest);
+    release(maps);
 }
