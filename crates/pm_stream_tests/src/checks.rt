@@ -1,12 +1,13 @@
 //! Assertions that the tests share, each about one text that is parsed.
 //!
-//! They return nothing, and stop the test if memory runs out, because each `?` in a test makes its proof longer. For the
-//! same reason tests let go of streams and trees by `release`.
+//! They return nothing, and stop the test if memory runs out, because each `?` in a test makes its proof longer. For
+//! the same reason tests let go of streams and trees by `release`.
 ghost use Rattle.pm_span.specs.Files.{Holds};
 
 use pm_span::parts::span_of;
+use proc_macro2::token_stream::IntoIter;
 use proc_macro2::{ParseError, SourceMap, Span, TokenStream};
-use std::alloc::Global;
+use std::alloc::{AllocError, Global};
 use std::fmt::{Debug, Display};
 use std::process::Abort;
 
@@ -33,6 +34,11 @@ pub fn parsed(rt: &impl Abort, alloc: Global, text: &str) -> TokenStream {
 /// The stream of the text, which parses and becomes the next file of the map.
 pub fn parsed_into(rt: &impl Abort, map: &mut SourceMap, text: &str) -> TokenStream {
     TokenStream::from_str(text, map).expect(rt, text)
+}
+
+/// The iterator over the trees of the stream.
+pub fn iterator_of(stream: TokenStream) -> Result<IntoIter, AllocError> {
+    Ok(stream.into_iter()?)
 }
 
 /// The parts one after the other, each the given number of times.

@@ -1,6 +1,8 @@
 // Tests of the iterator that takes a stream apart.
 use crate::built_streams::one;
-use crate::checks::{check_answer, displays, parsed, prints, release, repeat_parts, shows};
+use crate::checks::{
+    check_answer, displays, iterator_of, parsed, prints, release, repeat_parts, shows,
+};
 use proc_macro2::{TokenStream, TokenTree, token_stream};
 use std::alloc::Global;
 use std::fmt::Display;
@@ -23,7 +25,7 @@ fn add_bracketed<T: Display + Drop>(rt: &impl Abort, alloc: Global, all: &mut St
 
 /// The iterator over the trees of the stream.
 fn trees_of(rt: &impl Abort, stream: TokenStream) -> token_stream::IntoIter {
-    stream.into_iter().expect(rt, "an iterator")
+    iterator_of(stream).expect(rt, "an iterator")
 }
 
 /// The iterator over the trees of the text.

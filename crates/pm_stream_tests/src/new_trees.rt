@@ -1,5 +1,5 @@
 // Tests of groups and trees that are made by hand.
-use crate::checks::{displays, parsed, prints, release, shows};
+use crate::checks::{displays, iterator_of, parsed, prints, release, shows};
 use proc_macro2::{Delimiter, Group, Ident, Literal, Punct, Spacing, Span, TokenStream, TokenTree};
 use std::alloc::Global;
 use std::process::Abort;
@@ -27,7 +27,7 @@ fn inside_of(rt: &impl Abort, group: &Group) -> TokenStream {
 
 /// Takes the first tree of a stream of the group, and drops it and the rest.
 fn take_first(rt: &impl Abort, group: &Group) {
-    let mut trees = inside_of(rt, group).into_iter().expect(rt, "an iterator");
+    let mut trees = iterator_of(inside_of(rt, group)).expect(rt, "an iterator");
     release(trees.next());
     release(trees);
 }
