@@ -4,7 +4,7 @@
 
 use crate::shim::prelude::{AllocGlobal, HostRuntime, format};
 
-use crate::pm_stream_tests::checks::{parse_first, repeat_parts};
+use crate::pm_stream_tests::checks::{check_answer, display_text, parse_first, parsed, release, repeat_parts};
 use proved_tokens::pm_span::parts::bounds;
 use proved_tokens::proc_macro2::{ParseError, TokenStream};
 use crate::shim::alloc::AllocError;
@@ -209,39 +209,53 @@ const FAULTY: &[&str] = &[
 
 /// Whether a parsed stream is well spaced, and its printed text parses to the same tokens and is printed the same
 /// again.
-fn comes_back(stream: &TokenStream) -> Result<bool, ParseError> {
-    let text = format!("{stream}")?;
-    let again = parse_first(text.as_str())?;
-    let again_text = format!("{again}")?;
+fn comes_back(rt: &impl Abort, stream: &TokenStream) -> bool {
+    let text = display_text(rt, stream);
+    let again = parsed(rt, text.as_str());
+    let again_text = display_text(rt, &again);
     let same = stream.same_tokens(&again) && again.same_tokens(stream);
-    Ok(same && stream.is_well_spaced() && again_text == text)
+    release(again);
+    same && stream.is_well_spaced() && again_text == text
 }
 
 /// Asserts that the text parses to a stream that comes back from its printed text, or that it has a fault at one of its
 /// positions. If `parses` is given, also asserts whether the text parses.
 fn check_text(rt: &(impl Abort + AllocGlobal), text: &str, parses: Option<bool>) {
-    let stream = parse_first(text);
+    let found = parse_first(text);
     if let Some(parses) = parses {
-        assert_eq!(stream.is_ok(), parses, "of {text:?}");
+        check_answer(rt, text, &found.is_ok(), &parses);
     }
-    match stream {
-        Ok(stream) => {
-            let back = comes_back(&stream).expect(text);
-            assert!(back, "of {text:?}");
-        }
-        Err(ParseError::Lex(fault)) => {
-            let (lo, hi) = bounds(fault.span());
-            let last = text.chars().count().saturating_add(1);
-            assert!(lo == hi && lo > 0 && lo as usize <= last, "of {text:?}");
-        }
-        Err(_) => assert!(false, "of {text:?}"),
-    }
+    check_found(rt, text, &found);
+    release(found);
+}
+
+/// Asserts that the stream comes back from its printed text, or that the fault is at a position of the text.
+fn check_found(
+    rt: &(impl Abort + AllocGlobal),
+    text: &str,
+    found: &Result<TokenStream, ParseError>,
+) {
+    let holds = match found {
+        Ok(stream) => comes_back(rt, stream),
+        Err(ParseError::Lex(fault)) => lies_in(bounds(fault.span()), text),
+        Err(_) => false,
+    };
+    check_answer(rt, text, &holds, &true);
+}
+
+/// Whether these are twice one position of the text.
+fn lies_in((lo, hi): (u32, u32), text: &str) -> bool {
+    let last = text.chars().count().saturating_add(1);
+    lo == hi && lo > 0 && lo as usize <= last
 }
 
 /// Whether the two streams, one after the other, have the tokens of the text.
-fn gives_both(text: &str, streams: [TokenStream; 2]) -> Result<bool, ParseError> {
-    let both = TokenStream::from_streams(streams)?;
-    Ok(parse_first(text)?.same_tokens(&both))
+fn gives_both(rt: &impl Abort, text: &str, streams: [TokenStream; 2]) -> bool {
+    let both = TokenStream::from_streams(streams).expect(text);
+    let stream = parsed(rt, text);
+    let same = stream.same_tokens(&both);
+    release((both, stream));
+    same
 }
 
 /// Asserts that the two texts with a line feed between them have the trees of both, if each parses and the second
@@ -250,13 +264,27 @@ fn check_joined(rt: &(impl Abort + AllocGlobal), first: &str, second: &str) {
     if second.starts_with('\u{feff}') {
         return;
     }
-    if let (Ok(before), Ok(after)) = (
-        parse_first(first),
-        parse_first(second),
-    ) {
-        let text = join_lines(first, second).expect(first);
-        let same = gives_both(text.as_str(), [before, after]).expect(first);
-        assert!(same, "of {text:?}");
+    match parse_first(first) {
+        Ok(before) => check_joined_to(rt, first, before, second),
+        Err(error) => release(error),
+    }
+}
+
+/// Asserts that the two texts with a line feed between them have the trees of the first, which are these, and those of
+/// the second, if it parses.
+fn check_joined_to(
+    rt: &(impl Abort + AllocGlobal),
+    first: &str,
+    before: TokenStream,
+    second: &str,
+) {
+    match parse_first(second) {
+        Ok(after) => {
+            let text = join_lines(first, second).expect(first);
+            let same = gives_both(rt, text.as_str(), [before, after]);
+            check_answer(rt, text.as_str(), &same, &true);
+        }
+        Err(error) => release((before, error)),
     }
 }
 
@@ -303,9 +331,9 @@ fn two_texts_are_joined_by_a_line_feed() {
 }
 
 #[test]
-fn beginnings_of_long_texts_keep_the_laws() -> Result<(), AllocError> {
+fn beginnings_of_long_texts_keep_the_laws() {
     let rt = HostRuntime;
-    let rows: [(&[(&str, u32)], bool); 7] = [
+    let rows: &[(&[(&str, u32)], bool)] = &[
         (&[("r", 1), ("#", 255), ("\"\"", 1), ("#", 255)], true),
         (&[("r", 1), ("#", 256), ("\"\"", 1), ("#", 256)], false),
         (&[("(", 100), (")", 100)], true),
@@ -314,9 +342,8 @@ fn beginnings_of_long_texts_keep_the_laws() -> Result<(), AllocError> {
         (&[("/*", 100), ("*/", 100), ("x", 1)], true),
         (&[("/*", 100), ("*/", 99)], false),
     ];
-    for (parts, parses) in rows {
-        let text = repeat_parts(parts)?;
+    for &(parts, parses) in rows {
+        let text = repeat_parts(&rt, parts);
         check_beginnings(&rt, text.as_str(), parses);
     }
-    Ok(())
 }

@@ -4,7 +4,7 @@ use crate::shim::prelude::{HostRuntime, format, vec};
 
 // Tests of streams that no text parses to: with groups without delimiters, or trees that are in no file.
 
-use crate::pm_stream_tests::checks::{prints, shows};
+use crate::pm_stream_tests::checks::{check_answer, display_text, prints, release, shows};
 use proved_tokens::pm_span::Span;
 use proved_tokens::pm_span::parts::span_of;
 use proved_tokens::pm_stream::parts::{group, stream};
@@ -61,23 +61,19 @@ fn name_between(delimiter: Delimiter) -> Result<TokenTree, AllocError> {
 }
 
 /// Asserts what a group is printed as when it is empty, and when it has a name in it.
-fn check_delimiter(
-    rt: &impl Abort,
-    delimiter: Delimiter,
-    empty: &str,
-    full: &str,
-) -> Result<(), AllocError> {
-    prints(rt, empty_group(delimiter), empty)?;
-    prints(rt, name_between(delimiter)?, full)
+fn check_delimiter(rt: &impl Abort, delimiter: Delimiter, empty: &str, full: &str) {
+    prints(rt, empty_group(delimiter), empty);
+    let group = name_between(delimiter).expect(full);
+    prints(rt, group, full);
 }
 
 #[test]
-fn a_group_is_printed_by_its_delimiter() -> Result<(), AllocError> {
+fn a_group_is_printed_by_its_delimiter() {
     let rt = HostRuntime;
-    check_delimiter(&rt, Delimiter::Parenthesis, "()", "(_)")?;
-    check_delimiter(&rt, Delimiter::Brace, "{ }", "{ _ }")?;
-    check_delimiter(&rt, Delimiter::Bracket, "[]", "[_]")?;
-    check_delimiter(&rt, Delimiter::None, "", "_")
+    check_delimiter(&rt, Delimiter::Parenthesis, "()", "(_)");
+    check_delimiter(&rt, Delimiter::Brace, "{ }", "{ _ }");
+    check_delimiter(&rt, Delimiter::Bracket, "[]", "[_]");
+    check_delimiter(&rt, Delimiter::None, "", "_");
 }
 
 fn name_in_parentheses() -> Result<TokenStream, AllocError> {
@@ -88,22 +84,23 @@ fn name_in_parentheses() -> Result<TokenStream, AllocError> {
 }
 
 #[test]
-fn trees_are_shown_with_their_spans() -> Result<(), AllocError> {
+fn trees_are_shown_with_their_spans() {
     let rt = HostRuntime;
-    let stream = name_in_parentheses()?;
+    let stream = name_in_parentheses().expect("(_)");
     let want = "TokenStream [Group { delimiter: Parenthesis, stream: TokenStream [\
         Ident { sym: _, span: bytes(2..3) }], span: bytes(1..4) }]";
-    shows(&rt, &stream, want)
+    shows(&rt, &stream, want);
+    release(stream);
 }
 
 #[test]
-fn a_mark_with_no_span_is_shown_on_lines() -> Result<(), AllocError> {
+fn a_mark_with_no_span_is_shown_on_lines() {
     let rt = HostRuntime;
-    let stream = one(plus(Spacing::Alone))?;
-    let shown = format!("{stream:#?}")?;
+    let stream = one(plus(Spacing::Alone)).expect("+");
+    let shown = format!("{stream:#?}").expect("+");
     let want = "TokenStream [\n    Punct {\n        char: '+',\n        spacing: Alone,\n    },\n]";
-    assert_eq!(shown.as_str(), want);
-    Ok(())
+    check_answer(&rt, "+", &shown.as_str(), &want);
+    release(stream);
 }
 
 /// Bracket groups inside one another, `levels` deep, with marks before and after each.
@@ -117,10 +114,11 @@ fn deep(levels: u32) -> Result<TokenStream, AllocError> {
 }
 
 #[test]
-fn groups_nest_deep_without_stack() -> Result<(), AllocError> {
+fn groups_nest_deep_without_stack() {
     let rt = HostRuntime;
-    let stream = deep(300000)?;
-    let printed = format!("{stream}")?;
-    assert_eq!(printed.as_str().len(), 5 * 300000, "each level is `+[] +`");
-    Ok(())
+    let stream = deep(300000).expect("deep groups");
+    let printed = display_text(&rt, &stream);
+    let row = "each level is `+[] +`";
+    check_answer(&rt, row, &printed.as_str().len(), &(5 * 300000));
+    release(stream);
 }

@@ -5,10 +5,10 @@ use crate::shim::prelude::HostRuntime;
 // Facts about streams that callers can prove with public items alone: with the contracts of the readers, and with the
 // laws. None of these functions has a proof file.
 
+use crate::pm_stream_tests::checks::{check_answer, release};
 use proved_tokens::proc_macro2::{
     Group, Ident, Literal, ParseError, Punct, SourceMap, TokenStream, TokenTree, laws,
 };
-use crate::shim::test::Fail;
 
 /// Parses a text. The stream comes back from its printed text.
 fn read(text: &str, map: &mut SourceMap) -> Result<TokenStream, ParseError>
@@ -91,16 +91,21 @@ fn kind_is_built(tree: &TokenTree) {
 }
 
 #[test]
-fn what_laws_say_of_a_stream_is_seen_in_its_printed_text() -> Result<(), Fail> {
+fn what_laws_say_of_a_stream_is_seen_in_its_printed_text() {
     let rt = HostRuntime;
     let mut map = SourceMap::new();
-    let stream = read("a+=(1)", &mut map)?;
+    let stream = read("a+=(1)", &mut map).expect("a+=(1)");
     comes_back(&stream);
-    assert!(prints_faithfully(&stream));
-    assert_eq!(print_alike(&stream, &stream), Some(true));
-    each_is_built(&stream);
+    let answers = (prints_faithfully(&stream), print_alike(&stream, &stream));
+    check_answer(&rt, "a+=(1)", &answers, &(true, Some(true)));
+    show_trees(&stream);
+    release((stream, map));
+}
+
+/// Shows what is true of the stream's trees.
+fn show_trees(stream: &TokenStream) {
+    each_is_built(stream);
     for tree in stream.trees() {
         kind_is_built(tree);
     }
-    Ok(())
 }

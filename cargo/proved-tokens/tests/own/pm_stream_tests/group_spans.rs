@@ -1,13 +1,13 @@
 // Made from crates/pm_stream_tests/src/group_spans.rt by dev/erase: change that file, not this one.
 
-use crate::shim::prelude::{AllocGlobal, HostRuntime, format};
+use crate::shim::prelude::{AllocGlobal, HostRuntime};
 
+use crate::pm_stream_tests::checks::{check_answer, parsed, release, shows};
 use proved_tokens::pm_span::Span;
 use proved_tokens::pm_span::parts::{bounds, span_of};
 use proved_tokens::pm_stream::parts::group;
 use proved_tokens::proc_macro2::extra::DelimSpan;
-use proved_tokens::proc_macro2::{Delimiter, Group, ParseError, SourceMap, TokenStream, TokenTree};
-use crate::shim::alloc::AllocError;
+use proved_tokens::proc_macro2::{Delimiter, Group, TokenStream, TokenTree};
 use crate::shim::process::Abort;
 
 /// The spans of a whole group, of its opener and of its closer.
@@ -32,34 +32,27 @@ fn spans_of_delimiters(span: DelimSpan) -> GroupSpans {
 
 /// Asserts the spans of the group and its delimiters.
 fn check_spans(rt: &impl Abort, group: &Group, want: GroupSpans) {
-    assert_eq!(spans_of(group), want, "of the group");
-    assert_eq!(spans_of_delimiters(group.delim_span()),
-        want,
-        "of its delim_span"
-    );
+    check_answer(rt, "the group", &spans_of(group), &want);
+    let found = spans_of_delimiters(group.delim_span());
+    check_answer(rt, "its delim_span", &found, &want);
 }
 
 /// Asserts the spans of the first tree of the text in a new map. The tree must be a group.
-fn check_first(
-    rt: &(impl Abort + AllocGlobal),
-    text: &str,
-    want: GroupSpans,
-) -> Result<(), ParseError> {
-    let mut map = SourceMap::new();
-    let stream = TokenStream::from_str(text, &mut map)?;
+fn check_first(rt: &(impl Abort + AllocGlobal), text: &str, want: GroupSpans) {
+    let stream = parsed(rt, text);
     match stream.trees().get(0) {
         Some(TokenTree::Group(group)) => check_spans(rt, group, want),
-        _ => assert!(false, "{text:?} begins with no group"),
+        _ => check_answer(rt, text, &"no group", &"a group"),
     }
-    Ok(())
+    release(stream);
 }
 
 #[test]
-fn a_group_opens_and_closes_at_its_delimiters() -> Result<(), ParseError> {
+fn a_group_opens_and_closes_at_its_delimiters() {
     let rt = HostRuntime;
-    check_first(&rt, "(x)", ((1, 4), (1, 2), (3, 4)))?;
-    check_first(&rt, "[]", ((1, 3), (1, 2), (2, 3)))?;
-    check_first(&rt, "{ \u{e9} }", ((1, 6), (1, 2), (5, 6)))
+    check_first(&rt, "(x)", ((1, 4), (1, 2), (3, 4)));
+    check_first(&rt, "[]", ((1, 3), (1, 2), (2, 3)));
+    check_first(&rt, "{ \u{e9} }", ((1, 6), (1, 2), (5, 6)));
 }
 
 #[test]
@@ -75,33 +68,31 @@ fn a_group_whose_span_was_set_opens_and_closes_there() {
     group.set_span(span_of(4294967295, 4294967295));
     let end = (4294967295, 4294967295);
     check_spans(&rt, &group, (end, end, end));
+    release(group);
 }
 
 #[test]
-fn the_spans_of_delimiters_are_shown_as_the_whole() -> Result<(), AllocError> {
+fn the_spans_of_delimiters_are_shown_as_the_whole() {
     let rt = HostRuntime;
     let inside = TokenStream::new();
     let group = group(Delimiter::Brace, inside, span_of(1, 4));
-    let shown = format!("{:?}", group.delim_span())?;
-    assert_eq!(shown.as_str(), "bytes(1..4)");
-    Ok(())
+    shows(&rt, &group.delim_span(), "bytes(1..4)");
+    release(group);
 }
 
 /// A group of the group `[]`, whose span is 1..3.
-fn nested_group() -> Result<TokenTree, ParseError> {
-    let mut map = SourceMap::new();
-    let inside = TokenStream::from_str("[]", &mut map)?;
-    Ok(TokenTree::Group(group(Delimiter::Brace, inside, Span::call_site())))
+fn nested_group(rt: &impl Abort) -> TokenTree {
+    let inside = parsed(rt, "[]");
+    TokenTree::Group(group(Delimiter::Brace, inside, Span::call_site()))
 }
 
 #[test]
-fn a_tree_whose_span_is_set_keeps_those_inside() -> Result<(), ParseError> {
+fn a_tree_whose_span_is_set_keeps_those_inside() {
     let rt = HostRuntime;
-    let mut tree = nested_group()?;
+    let mut tree = nested_group(&rt);
     tree.set_span(span_of(7, 9));
-    let shown = format!("{tree:?}")?;
     let want = "Group { delimiter: Brace, stream: TokenStream [\
         Group { delimiter: Bracket, stream: TokenStream [], span: bytes(1..3) }], span: bytes(7..9) }";
-    assert_eq!(shown.as_str(), want);
-    Ok(())
+    shows(&rt, &tree, want);
+    release(tree);
 }

@@ -3,48 +3,65 @@
 use crate::shim::prelude::HostRuntime;
 
 // Tests of groups and trees that are made by hand.
-use crate::pm_stream_tests::checks::{displays, parse_first, prints, shows};
+use crate::pm_stream_tests::checks::{displays, iterator_of, parsed, prints, release, shows};
 use proved_tokens::proc_macro2::{Delimiter, Group, Ident, Literal, Punct, Spacing, Span, TokenStream, TokenTree};
-use crate::shim::test::Fail;
+use crate::shim::process::Abort;
 
-#[test]
-fn a_new_group_stands_nowhere() -> Result<(), Fail> {
-    let rt = HostRuntime;
-    let group = Group::new(Delimiter::Brace, parse_first("x")?);
-    displays(&rt, &group, "{ x }")?;
-    shows(
-        &rt,
-        &group,
-        "Group { delimiter: Brace, stream: TokenStream [Ident { sym: x, span: bytes(1..2) }] }",
-    )?;
-    Ok(())
+/// The group of the trees of the text.
+fn group_of(rt: &impl Abort, delimiter: Delimiter, text: &str) -> Group {
+    Group::new(delimiter, parsed(rt, text))
 }
 
 #[test]
-fn a_group_keeps_the_trees_of_its_stream() -> Result<(), Fail> {
+fn a_new_group_stands_nowhere() {
     let rt = HostRuntime;
-    let group = Group::new(Delimiter::Parenthesis, parse_first("x + y")?);
-    let mut trees = group.stream()?.try_into_iter()?;
-    let _ = trees.next();
-    displays(&rt, &group, "(x + y)")?;
-    displays(&rt, &group.stream()?, "x + y")?;
-    Ok(())
+    let group = group_of(&rt, Delimiter::Brace, "x");
+    displays(&rt, &group, "{ x }");
+    let want =
+        "Group { delimiter: Brace, stream: TokenStream [Ident { sym: x, span: bytes(1..2) }] }";
+    shows(&rt, &group, want);
+    release(group);
+}
+
+/// The stream of the group.
+fn inside_of(rt: &impl Abort, group: &Group) -> TokenStream {
+    group.stream().expect("the stream of a group")
+}
+
+/// Takes the first tree of a stream of the group, and drops it and the rest.
+fn take_first(rt: &impl Abort, group: &Group) {
+    let mut trees = iterator_of(inside_of(rt, group)).expect("an iterator");
+    release(trees.next());
+    release(trees);
+}
+
+#[test]
+fn a_group_keeps_the_trees_of_its_stream() {
+    let rt = HostRuntime;
+    let group = group_of(&rt, Delimiter::Parenthesis, "x + y");
+    take_first(&rt, &group);
+    displays(&rt, &group, "(x + y)");
+    prints(&rt, inside_of(&rt, &group), "x + y");
+    release(group);
 }
 
 /// The raw identifier `r#fn`.
-fn raw_fn() -> Result<TokenTree, Fail> {
-    Ok(TokenTree::from(Ident::new_raw("fn", Span::call_site())?))
+fn raw_fn(rt: &impl Abort) -> TokenTree {
+    TokenTree::from(Ident::new_raw("fn", Span::call_site()).expect("r#fn"))
+}
+
+/// The literal `7u8`.
+fn seven(rt: &impl Abort) -> TokenTree {
+    TokenTree::from(Literal::u8_suffixed(7).expect("7u8"))
 }
 
 #[test]
-fn each_kind_of_token_becomes_a_tree() -> Result<(), Fail> {
+fn each_kind_of_token_becomes_a_tree() {
     let rt = HostRuntime;
     let group = Group::new(Delimiter::Bracket, TokenStream::new());
-    prints(&rt, TokenTree::from(group), "[]")?;
-    prints(&rt, raw_fn()?, "r#fn")?;
+    prints(&rt, TokenTree::from(group), "[]");
+    prints(&rt, raw_fn(&rt), "r#fn");
     let punct = Punct::new('+', Spacing::Joint);
-    prints(&rt, TokenTree::from(punct), "+")?;
-    let literal = Literal::u8_suffixed(7)?;
-    prints(&rt, TokenTree::from(literal), "7u8")?;
-    Ok(())
+    prints(&rt, TokenTree::from(punct), "+");
+    prints(&rt, seven(&rt), "7u8");
 }

@@ -1,18 +1,18 @@
 // Made from crates/pm_stream_tests/src/random_streams.rt by dev/erase: change that file, not this one.
 
-use crate::shim::prelude::{AllocGlobal, Grow, HostRuntime, format};
+use crate::shim::prelude::{AllocGlobal, Grow, HostRuntime};
 
 // Tests of streams of random trees: each comes back from its printed text exactly if it is well spaced.
 //
 // `bench/twin/random_lists.rs` makes the same lists from the same seed, in the same steps, for the Rust crate.
 
+use crate::pm_stream_tests::checks::{check_answer, display_text, parse_first, release};
 use proved_tokens::proc_macro2::{
     Delimiter, Group, Ident, Literal, ParseError, Punct, SourceMap, Spacing, Span, TokenStream,
     TokenTree,
 };
 use crate::shim::alloc::AllocError;
 use crate::shim::process::Abort;
-use crate::shim::test::Fail;
 
 /// How many streams are made, and how many of them come back. The Rust crate gives the same numbers.
 const STREAMS: u32 = 20000;
@@ -93,77 +93,71 @@ struct RandomTrees {
 
 impl RandomTrees {
     /// Up to 6 trees, in which groups nest 2 deep.
-    fn trees(&mut self, rt: &(impl Abort + AllocGlobal)) -> Result<Vec<TokenTree>, Fail> {
+    fn trees(&mut self, rt: &(impl Abort + AllocGlobal)) -> Vec<TokenTree> {
         let mut trees = Vec::new();
         for _ in 0..self.below(7) {
-            trees.push_fallibly(self.tree(rt)?)?;
+            trees.push_fallibly(self.tree(rt)).expect("a tree");
         }
-        Ok(trees)
+        trees
     }
 
     /// A tree, in which groups nest 2 deep.
-    fn tree(&mut self, rt: &(impl Abort + AllocGlobal)) -> Result<TokenTree, Fail> {
+    fn tree(&mut self, rt: &(impl Abort + AllocGlobal)) -> TokenTree {
         let kind = self.below(13);
         if kind < 11 {
             return self.leaf(rt, kind);
         }
         let delimiter = self.one_of(DELIMITERS);
-        let inside = self.shallow_trees(rt)?;
-        Ok(group_of(delimiter, inside)?)
+        let inside = self.shallow_trees(rt);
+        group_of(rt, delimiter, inside)
     }
 
     /// Up to 3 trees. Their groups have no groups in them.
-    fn shallow_trees(&mut self, rt: &(impl Abort + AllocGlobal)) -> Result<Vec<TokenTree>, Fail> {
+    fn shallow_trees(&mut self, rt: &(impl Abort + AllocGlobal)) -> Vec<TokenTree> {
         let mut trees = Vec::new();
         for _ in 0..self.below(4) {
-            trees.push_fallibly(self.shallow_tree(rt)?)?;
+            trees.push_fallibly(self.shallow_tree(rt)).expect("a tree");
         }
-        Ok(trees)
+        trees
     }
 
     /// A tree. If it is a group, it has no groups in it.
-    fn shallow_tree(&mut self, rt: &(impl Abort + AllocGlobal)) -> Result<TokenTree, Fail> {
+    fn shallow_tree(&mut self, rt: &(impl Abort + AllocGlobal)) -> TokenTree {
         let kind = self.below(13);
         if kind < 11 {
             return self.leaf(rt, kind);
         }
         let delimiter = self.one_of(DELIMITERS);
-        let inside = self.leaves(rt)?;
-        Ok(group_of(delimiter, inside)?)
+        let inside = self.leaves(rt);
+        group_of(rt, delimiter, inside)
     }
 
     /// Up to 3 trees that are no groups.
-    fn leaves(&mut self, rt: &(impl Abort + AllocGlobal)) -> Result<Vec<TokenTree>, Fail> {
+    fn leaves(&mut self, rt: &(impl Abort + AllocGlobal)) -> Vec<TokenTree> {
         let mut trees = Vec::new();
         for _ in 0..self.below(4) {
             let kind = self.below(11);
-            trees.push_fallibly(self.leaf(rt, kind)?)?;
+            trees.push_fallibly(self.leaf(rt, kind)).expect("a tree");
         }
-        Ok(trees)
+        trees
     }
 
     /// A tree that is no group, of one of eleven kinds.
-    fn leaf(&mut self, rt: &(impl Abort + AllocGlobal), kind: u64) -> Result<TokenTree, Fail> {
-        Ok(match kind {
-            0..=1 => TokenTree::Ident(Ident::new(self.one_of(NAMES), Span::call_site())?),
-            2 => TokenTree::Ident(Ident::new_raw(
-                self.one_of(RAW_NAMES),
-                Span::call_site(),
-            )?),
+    fn leaf(&mut self, rt: &(impl Abort + AllocGlobal), kind: u64) -> TokenTree {
+        match kind {
+            0..=1 => TokenTree::Ident(name(rt, self.one_of(NAMES))),
+            2 => TokenTree::Ident(raw_name(rt, self.one_of(RAW_NAMES))),
             3..=4 => TokenTree::Punct(self.mark(rt, Spacing::Alone)),
             5..=6 => TokenTree::Punct(self.mark(rt, Spacing::Joint)),
-            7..=9 => {
-                let text = self.one_of(LITERALS);
-                TokenTree::Literal(Literal::from_str(text, &mut SourceMap::new())?)
-            }
-            _ => TokenTree::Literal(self.integer()?),
-        })
+            7..=9 => TokenTree::Literal(literal(rt, self.one_of(LITERALS))),
+            _ => TokenTree::Literal(self.integer().expect("an integer")),
+        }
     }
 
     /// A mark.
     fn mark(&mut self, rt: &(impl Abort + AllocGlobal), spacing: Spacing) -> Punct {
         let mark = self.one_of(MARKS);
-        assert!(Punct::is_punct_char(mark), "{mark}");
+        assert!(Punct::is_punct_char(mark));
         Punct::new(mark, spacing)
     }
 
@@ -199,47 +193,69 @@ impl RandomTrees {
     }
 }
 
-/// The group of these trees.
-fn group_of(
-    delimiter: Delimiter,
-    trees: Vec<TokenTree>,
-) -> Result<TokenTree, AllocError> {
-    let stream = TokenStream::from_trees(trees)?;
-    Ok(TokenTree::Group(Group::new(delimiter, stream)))
+/// The identifier of the name.
+fn name(rt: &impl Abort, name: &str) -> Ident {
+    Ident::new(name, Span::call_site()).expect(name)
 }
 
-/// Whether the printed text parses, in a new map, to the same tokens.
-fn comes_back(stream: &TokenStream) -> Result<bool, ParseError> {
-    let text = format!("{stream}")?;
-    match TokenStream::from_str(text.as_str(), &mut SourceMap::new()) {
-        Ok(back) => Ok(stream.same_tokens(&back)),
-        Err(ParseError::Lex(_)) => Ok(false),
-        Err(error) => Err(error),
+/// The raw identifier of the name.
+fn raw_name(rt: &impl Abort, name: &str) -> Ident {
+    Ident::new_raw(name, Span::call_site()).expect(name)
+}
+
+/// The literal of the text, which is the first file of a new map.
+fn literal(rt: &impl Abort, text: &str) -> Literal {
+    Literal::from_str(text, &mut SourceMap::new()).expect(text)
+}
+
+/// The group of these trees.
+fn group_of(
+    rt: &impl Abort,
+    delimiter: Delimiter,
+    trees: Vec<TokenTree>,
+) -> TokenTree {
+    TokenTree::Group(Group::new(delimiter, stream_of(rt, trees)))
+}
+
+/// The stream of these trees.
+fn stream_of(rt: &impl Abort, trees: Vec<TokenTree>) -> TokenStream {
+    TokenStream::from_trees(trees).expect("a stream")
+}
+
+/// Whether the stream was read, and has the same tokens as the other. No error but a syntax error is left.
+fn is_back(rt: &impl Abort, read: &Result<TokenStream, ParseError>, stream: &TokenStream) -> bool {
+    match read {
+        Ok(back) => stream.same_tokens(back),
+        Err(error) => {
+            let is_lex = matches!(error, ParseError::Lex(_));
+            check_answer(rt, "a syntax error", &is_lex, &true);
+            false
+        }
     }
 }
 
 /// Asserts that the stream comes back exactly if it is well spaced, and returns whether it comes back.
-fn check_spacing(
-    rt: &(impl Abort + AllocGlobal),
-    stream: &TokenStream,
-) -> Result<bool, ParseError> {
+fn check_spacing(rt: &impl Abort, stream: &TokenStream) -> bool {
     let spaced = stream.is_well_spaced();
-    assert_eq!(comes_back(stream)?, spaced, "of {stream:?}");
-    Ok(spaced)
+    let text = display_text(rt, stream);
+    let read = parse_first(text.as_str());
+    check_answer(rt, text.as_str(), &is_back(rt, &read, stream), &spaced);
+    release(read);
+    spaced
 }
 
 #[test]
-fn what_is_well_spaced_comes_back_and_nothing_else() -> Result<(), Fail> {
+fn what_is_well_spaced_comes_back_and_nothing_else() {
     let rt = HostRuntime;
     let mut random = RandomTrees { state: 7 };
     let mut come_back: u32 = 0;
     for _ in 0..STREAMS {
-        let trees = random.trees(&rt)?;
-        let stream = TokenStream::from_trees(trees)?;
-        if check_spacing(&rt, &stream)? {
+        let trees = random.trees(&rt);
+        let stream = stream_of(&rt, trees);
+        if check_spacing(&rt, &stream) {
             come_back = come_back.saturating_add(1);
         }
+        release(stream);
     }
-    assert_eq!(come_back, COME_BACK);
-    Ok(())
+    check_answer(&rt, "how many come back", &come_back, &COME_BACK);
 }

@@ -3,23 +3,34 @@
 use crate::shim::prelude::{AllocGlobal, HostRuntime};
 
 // Tests of several texts in one map, and of the map's limit.
-use crate::pm_stream_tests::checks::check_shown;
+use crate::pm_stream_tests::checks::{check_answer, check_shown, release};
 use proved_tokens::proc_macro2::{ParseError, SourceMap, TokenStream};
 use crate::shim::process::Abort;
 
 /// Asserts whether `text` fits into the map, whose limit is `limit`.
 fn check_fits(rt: &impl Abort, map: &mut SourceMap, limit: u32, text: &str, fits: bool) {
-    let full = matches!(TokenStream::from_str(text, map), Err(ParseError::MapFull));
-    assert_eq!(full, !fits, "of {text:?} with the limit {limit}");
+    let parsed = TokenStream::from_str(text, map);
+    let full = matches!(&parsed, Err(ParseError::MapFull));
+    release(parsed);
+    check_answer(rt, text, &(limit, full), &(limit, !fits));
 }
 
 /// Asserts whether `z` and then the empty text fit after `abcd`, whose span is 1..5.
 fn check_limit(rt: &(impl Abort + AllocGlobal), limit: u32, z: bool, empty: bool) {
     let mut map = SourceMap::with_limit(limit);
-    let abcd = TokenStream::from_str("abcd", &mut map).is_ok();
-    assert!(abcd, "with the limit {limit}");
+    let parsed = TokenStream::from_str("abcd", &mut map);
+    check_answer(rt, "abcd", &(limit, parsed.is_ok()), &(limit, true));
+    release(parsed);
     check_fits(rt, &mut map, limit, "z", z);
     check_fits(rt, &mut map, limit, "", empty);
+    release(map);
+}
+
+/// Asserts whether the empty text fits into a new map with this limit.
+fn check_empty(rt: &(impl Abort + AllocGlobal), limit: u32, fits: bool) {
+    let mut map = SourceMap::with_limit(limit);
+    check_fits(rt, &mut map, limit, "", fits);
+    release(map);
 }
 
 #[test]
@@ -48,6 +59,6 @@ fn a_text_past_the_limit_leaves_the_map_as_it_was() {
     check_limit(&rt, 6, false, true);
     check_limit(&rt, 7, true, false);
     check_limit(&rt, 9, true, true);
-    check_fits(&rt, &mut SourceMap::with_limit(0), 0, "", false);
-    check_fits(&rt, &mut SourceMap::with_limit(1), 1, "", true);
+    check_empty(&rt, 0, false);
+    check_empty(&rt, 1, true);
 }

@@ -4,55 +4,56 @@ use crate::shim::prelude::{HostRuntime, format};
 
 // Tests of how Debug shows streams and trees, and of what an empty stream prints.
 use crate::pm_stream_tests::built_streams::{empty_group, group_of, one};
-use crate::pm_stream_tests::checks::{displays, has_no_width, parse_first, shows};
+use crate::pm_stream_tests::checks::{check_answer, displays, has_no_width, parsed, release, shows};
 use proved_tokens::proc_macro2::{Delimiter, Ident, Span, TokenStream, TokenTree};
-use crate::shim::alloc::AllocError;
 use crate::shim::process::Abort;
-use crate::shim::test::Fail;
 
 #[test]
-fn an_empty_stream_is_printed_as_nothing() -> Result<(), AllocError> {
+fn an_empty_stream_is_printed_as_nothing() {
     let rt = HostRuntime;
     let made = TokenStream::new();
-    displays(&rt, &made, "")?;
-    shows(&rt, &made, "TokenStream []")
+    displays(&rt, &made, "");
+    shows(&rt, &made, "TokenStream []");
+    release(made);
 }
 
 /// The stream of a raw identifier that is in no file.
-fn raw_name(name: &str) -> Result<TokenStream, Fail> {
-    let ident = Ident::new_raw(name, Span::call_site())?;
-    Ok(one(TokenTree::Ident(ident))?)
+fn raw_name(rt: &impl Abort, name: &str) -> TokenStream {
+    let ident = Ident::new_raw(name, Span::call_site()).expect(name);
+    one(TokenTree::Ident(ident)).expect(name)
 }
 
 #[test]
-fn a_group_at_0_to_0_shows_no_span() -> Result<(), Fail> {
+fn a_group_at_0_to_0_shows_no_span() {
     let rt = HostRuntime;
     let nothing = empty_group(Delimiter::None);
     shows(
         &rt,
         &nothing,
         "Group { delimiter: None, stream: TokenStream [] }",
-    )?;
-    let inside = raw_name("ab")?;
+    );
+    let inside = raw_name(&rt, "ab");
     let parentheses = group_of(Delimiter::Parenthesis, inside, Span::call_site());
     shows(
         &rt,
         &parentheses,
         "Group { delimiter: Parenthesis, stream: TokenStream [Ident { sym: r#ab }] }",
-    )?;
-    Ok(())
+    );
+    release((nothing, parentheses));
 }
 
 /// How Debug shows the stream of the text in a new map, on several lines.
-fn shown_on_lines(text: &str) -> Result<String, Fail> {
-    let stream = parse_first(text)?;
-    Ok(format!("{stream:#?}")?)
+fn shown_on_lines(rt: &impl Abort, text: &str) -> String {
+    let stream = parsed(rt, text);
+    let shown = format!("{stream:#?}").expect(text);
+    release(stream);
+    shown
 }
 
 #[test]
-fn a_stream_is_shown_on_lines() -> Result<(), Fail> {
+fn a_stream_is_shown_on_lines() {
     let rt = HostRuntime;
-    let shown = shown_on_lines("r#fn(b'x')")?;
+    let shown = shown_on_lines(&rt, "r#fn(b'x')");
     let want = "TokenStream [
     Ident {
         sym: r#fn,
@@ -69,27 +70,22 @@ fn a_stream_is_shown_on_lines() -> Result<(), Fail> {
         span: bytes(5..11),
     },
 ]";
-    assert_eq!(shown.as_str(), want);
-    Ok(())
+    check_answer(&rt, "r#fn(b'x')", &shown.as_str(), &want);
 }
 
 /// Asserts that the trees of the text are displayed as these texts, whatever width the format has.
-fn trees_have_no_width(
-    rt: &impl Abort,
-    text: &str,
-    wanted: &[&str],
-) -> Result<(), Fail> {
-    let stream = parse_first(text)?;
-    has_no_width(rt, &stream, text)?;
+fn trees_have_no_width(rt: &impl Abort, text: &str, wanted: &[&str]) {
+    let stream = parsed(rt, text);
+    has_no_width(rt, &stream, text);
     for (tree, want) in stream.trees().iter().zip(wanted) {
-        has_no_width(rt, tree, want)?;
+        has_no_width(rt, tree, want);
     }
-    Ok(())
+    release(stream);
 }
 
 #[test]
-fn a_width_or_a_precision_changes_no_stream() -> Result<(), Fail> {
+fn a_width_or_a_precision_changes_no_stream() {
     let rt = HostRuntime;
     let trees = &["r#ab", "1.5", "+", "(x)"];
-    trees_have_no_width(&rt, "r#ab 1.5 + (x)", trees)
+    trees_have_no_width(&rt, "r#ab 1.5 + (x)", trees);
 }

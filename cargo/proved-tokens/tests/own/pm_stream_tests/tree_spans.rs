@@ -3,8 +3,8 @@
 
 use crate::shim::prelude::HostRuntime;
 
+use crate::pm_stream_tests::checks::{check_answer, release};
 use proved_tokens::proc_macro2::{LineColumn, Literal, ParseError, SourceMap, TokenStream, TokenTree};
-use crate::shim::test::Fail;
 
 /// Where the last tree of the text begins that is in no group.
 fn start_of_last(text: &str, map: &mut SourceMap) -> Result<Option<LineColumn>, ParseError> {
@@ -45,14 +45,15 @@ fn start_of_literal(text: &str, map: &mut SourceMap) -> Result<LineColumn, Parse
 }
 
 #[test]
-fn the_map_holds_each_span_of_what_was_read() -> Result<(), Fail> {
+fn the_map_holds_each_span_of_what_was_read() {
     let rt = HostRuntime;
     let mut map = SourceMap::new();
-    let start = start_of_last("a\n (b\nc)", &mut map)?;
-    assert_eq!(start, Some(LineColumn { line: 2, column: 1 }));
-    let start = start_of_last_inside("a\n (b\nc)", &mut map)?;
-    assert_eq!(start, Some(LineColumn { line: 3, column: 0 }));
-    let start = start_of_literal("-1u8", &mut map)?;
-    assert_eq!(start, LineColumn { line: 1, column: 0 });
-    Ok(())
+    let text = "a\n (b\nc)";
+    let start = start_of_last(text, &mut map).expect(text);
+    check_answer(&rt, text, &start, &Some(LineColumn { line: 2, column: 1 }));
+    let start = start_of_last_inside(text, &mut map).expect(text);
+    check_answer(&rt, text, &start, &Some(LineColumn { line: 3, column: 0 }));
+    let start = start_of_literal("-1u8", &mut map).expect("-1u8");
+    check_answer(&rt, "-1u8", &start, &LineColumn { line: 1, column: 0 });
+    release(map);
 }

@@ -1,5 +1,6 @@
 // Made from crates/pm_token_tests/src/checks.rt by dev/erase: change that file, not this one.
-//! Assertions that the tests share.
+//! Assertions that the tests share. They return nothing, and stop the test if memory runs out, because each `?` in a
+//! test makes its proof longer. For the same reason tests let go of tokens by `release`.
 
 use crate::shim::prelude::format;
 
@@ -12,6 +13,11 @@ use crate::shim::process::Abort;
 /// Asserts that the result in a row of a test is the expected one. The row is printed if it fails.
 pub fn check_same<T: PartialEq + Debug>(rt: &impl Abort, row: &str, answer: &T, want: &T) {
     assert_eq!(answer, want, "at {row:?}");
+}
+
+/// Drops the value.
+pub fn release<T>(value: T) {
+    let _value = value;
 }
 
 /// Reads the literal of the text, as the first text of a new map.
@@ -40,50 +46,43 @@ fn text_of(literal: &Result<Literal, AllocError>) -> Option<&str> {
 /// Asserts that the literal was made, and has this text.
 pub fn is_written(rt: &impl Abort, literal: Result<Literal, AllocError>, want: &str) {
     check_same(rt, want, &text_of(&literal), &Some(want));
+    release(literal);
 }
 
 /// Asserts the `Display` text of a value.
-pub fn displays<T: Display>(
-    rt: &impl Abort,
-    value: &T,
-    want: &str,
-) -> Result<(), AllocError> {
-    let shown = format!("{value}")?;
+pub fn displays<T: Display>(rt: &impl Abort, value: &T, want: &str) {
+    let shown = format!("{value}").expect(want);
     check_same(rt, want, &shown.as_str(), &want);
-    Ok(())
 }
 
 /// Asserts the `Debug` text of a value.
-pub fn shows<T: Debug>(
-    rt: &impl Abort,
-    value: &T,
-    want: &str,
-) -> Result<(), AllocError> {
-    let shown = format!("{value:?}")?;
+pub fn shows<T: Debug>(rt: &impl Abort, value: &T, want: &str) {
+    let shown = format!("{value:?}").expect(want);
     check_same(rt, want, &shown.as_str(), &want);
-    Ok(())
+}
+
+/// Asserts the `Debug` text of a value, if it was made.
+pub fn made_shows<T: Debug, E: Debug>(
+    rt: &impl Abort,
+    made: Result<T, E>,
+    want: &str,
+) {
+    let value = made.expect(want);
+    shows(rt, &value, want);
 }
 
 /// Asserts the `Debug` text of each value of the table.
-pub fn are_shown<T: Debug>(
-    rt: &impl Abort,
-    rows: &[(T, &str)],
-) -> Result<(), AllocError> {
+pub fn are_shown<T: Debug>(rt: &impl Abort, rows: &[(T, &str)]) {
     for (value, want) in rows {
-        shows(rt, value, want)?;
+        shows(rt, value, want);
     }
-    Ok(())
 }
 
 /// Asserts the `Display` text of each value of the table.
-pub fn are_displayed<T: Display>(
-    rt: &impl Abort,
-    rows: &[(T, &str)],
-) -> Result<(), AllocError> {
+pub fn are_displayed<T: Display>(rt: &impl Abort, rows: &[(T, &str)]) {
     for (value, want) in rows {
-        displays(rt, value, want)?;
+        displays(rt, value, want);
     }
-    Ok(())
 }
 
 /// Asserts that each value of the table is equal to itself, and to none of the others.
@@ -98,6 +97,6 @@ fn is_distinct<T: PartialEq + Debug>(rt: &impl Abort, values: &[T], at: usize, v
     for (index, other) in values.iter().enumerate() {
         let answers = (value == other, value != other);
         let want = (at == index, at != index);
-        assert_eq!(answers, want, "of {value:?} and {other:?}");
+        assert!(answers == want, "of {value:?} and {other:?}");
     }
 }

@@ -11,13 +11,13 @@ use crate::shim::alloc::AllocError;
 #[test]
 fn delimiters_are_equal_to_themselves_alone() {
     let rt = HostRuntime;
-    let delimiters = [
+    let delimiters = &[
         Delimiter::Parenthesis,
         Delimiter::Brace,
         Delimiter::Bracket,
         Delimiter::None,
     ];
-    are_distinct(&rt, &delimiters);
+    are_distinct(&rt, delimiters);
 }
 
 #[test]

@@ -2,14 +2,13 @@
 
 use crate::shim::prelude::{Grow, GrowList, HostRuntime};
 
-use crate::pm_token_tests::checks::{check_same, displays, make_ident, shows};
+use crate::pm_token_tests::checks::{check_same, displays, make_ident, release, shows};
 use proved_tokens::pm_span::parts::{bounds, span_of};
 use proved_tokens::pm_token::{Ident, IdentError};
 use crate::shim::collections::{BTreeMap, HashMap};
 use crate::shim::process::Abort;
-use crate::shim::test::Fail;
 
-fn refusal(outcome: Result<Ident, IdentError>) -> &'static str {
+fn refusal(outcome: &Result<Ident, IdentError>) -> &'static str {
     match outcome {
         Ok(_) => "made",
         Err(IdentError::Empty) => "empty",
@@ -21,32 +20,36 @@ fn refusal(outcome: Result<Ident, IdentError>) -> &'static str {
 }
 }
 
+/// Returns the results for the name, as a plain identifier and as a raw one.
+fn answers(name: &str) -> (&'static str, &'static str) {
+    let (plain, raw) = (
+        make_ident(name, false),
+        make_ident(name, true),
+    );
+    let answers = (refusal(&plain), refusal(&raw));
+    release((plain, raw));
+    answers
+}
+
 /// Asserts the result for each name, as a plain identifier and as a raw one.
 fn are_answered(rt: &impl Abort, rows: &[(&str, &str, &str)]) {
     for &(name, plain, raw) in rows {
-        let as_plain = refusal(make_ident(name, false));
-        let as_raw = refusal(make_ident(name, true));
-        check_same(rt, name, &(as_plain, as_raw), &(plain, raw));
+        check_same(rt, name, &answers(name), &(plain, raw));
     }
 }
 
 /// Asserts the `Display` text of the identifier with the name, and returns the identifier.
-fn check_display(
-    rt: &impl Abort,
-    name: &str,
-    raw: bool,
-    want: &str,
-) -> Result<Ident, Fail> {
-    let ident = make_ident(name, raw)?;
-    displays(rt, &ident, want)?;
-    Ok(ident)
+fn check_display(rt: &impl Abort, name: &str, raw: bool, want: &str) -> Ident {
+    let ident = make_ident(name, raw).expect(name);
+    displays(rt, &ident, want);
+    ident
 }
 
 /// Asserts that the identifier is equal to the plain one of the name, which has the span 0..0.
-fn is_equal(rt: &impl Abort, ident: &Ident, name: &str) -> Result<(), Fail> {
-    let other = make_ident(name, false)?;
+fn is_equal(rt: &impl Abort, ident: &Ident, name: &str) {
+    let other = make_ident(name, false).expect(name);
     check_same(rt, name, ident, &other);
-    Ok(())
+    release(other);
 }
 
 /// Asserts for each text whether the raw identifier and the plain one are written like it.
@@ -58,13 +61,14 @@ fn stand_for(rt: &impl Abort, raw: &Ident, plain: &Ident, rows: &[(&str, bool, b
 }
 
 /// Returns the identifiers of the names in their order.
-fn sort_names(rows: &[(&str, bool)]) -> Result<Vec<Ident>, Fail> {
+fn sort_names(rt: &impl Abort, rows: &[(&str, bool)]) -> Vec<Ident> {
     let mut idents = Vec::new();
     for &(name, raw) in rows {
-        idents.push_fallibly(make_ident(name, raw)?)?;
+        let ident = make_ident(name, raw).expect(name);
+        idents.push_fallibly(ident).expect(name);
     }
-    idents.sort_fallibly()?;
-    Ok(idents)
+    idents.sort_fallibly().expect("the names");
+    idents
 }
 
 /// Asserts that the identifiers are written as these texts.
@@ -77,15 +81,19 @@ fn are_written(rt: &impl Abort, idents: &[Ident], texts: &[&str]) {
 
 /// Puts the values of the rows into both maps.
 fn fill(
+    rt: &impl Abort,
     hashed: &mut HashMap<Ident, i32>,
     ordered: &mut BTreeMap<Ident, i32>,
     rows: &[(&str, bool, i32)],
-) -> Result<(), Fail> {
+) {
     for &(name, raw, value) in rows {
-        hashed.insert(make_ident(name, raw)?, value)?;
-        ordered.insert(make_ident(name, raw)?, value)?;
+        let key = make_ident(name, raw).expect(name);
+        let inserted: Result<_, _> = hashed.insert(key, value);
+        let _ = inserted.expect(name);
+        let key = make_ident(name, raw).expect(name);
+        let inserted: Result<_, _> = ordered.insert(key, value);
+        let _ = inserted.expect(name);
     }
-    Ok(())
 }
 
 /// Asserts what both maps, first the hashed one, have at these keys, which are raw or not.
@@ -94,13 +102,13 @@ fn values_are(
     hashed: &HashMap<Ident, i32>,
     ordered: &BTreeMap<Ident, i32>,
     rows: &[(&str, bool, Option<i32>)],
-) -> Result<(), Fail> {
+) {
     for &(name, raw, want) in rows {
-        let key = make_ident(name, raw)?;
+        let key = make_ident(name, raw).expect(name);
         let values = (raw, hashed.get(&key).copied(), ordered.get(&key).copied());
         check_same(rt, name, &values, &(raw, want, want));
+        release(key);
     }
-    Ok(())
 }
 
 #[test]
@@ -130,21 +138,20 @@ fn the_first_fault_of_a_name_is_answered() {
 
 /// No contract can say that memory suffices for a long name, which is not kept in place.
 #[test]
-fn a_long_name_is_made_where_memory_suffices() -> Result<(), Fail> {
+fn a_long_name_is_made_where_memory_suffices() {
     let rt = HostRuntime;
     let mut name = String::new();
     for _ in 0..300 {
-        name.push_fallibly('a')?;
+        name.push_fallibly('a').expect("a long name");
     }
     are_answered(&rt, &[(name.as_str(), "made", "made")]);
-    Ok(())
 }
 
 #[test]
-fn an_identifier_is_written_with_its_front() -> Result<(), Fail> {
+fn an_identifier_is_written_with_its_front() {
     let rt = HostRuntime;
-    let raw = check_display(&rt, "fn", true, "r#fn")?;
-    let plain = check_display(&rt, "fn", false, "fn")?;
+    let raw = check_display(&rt, "fn", true, "r#fn");
+    let plain = check_display(&rt, "fn", false, "fn");
     let rows = &[
         ("r#fn", true, false),
         ("fn", false, true),
@@ -153,19 +160,20 @@ fn an_identifier_is_written_with_its_front() -> Result<(), Fail> {
         ("", false, false),
     ];
     stand_for(&rt, &raw, &plain, rows);
-    Ok(())
+    release((raw, plain));
 }
 
 #[test]
-fn identifiers_are_ordered_as_they_are_written() -> Result<(), Fail> {
+fn identifiers_are_ordered_as_they_are_written() {
     let rt = HostRuntime;
-    let idents = sort_names(&[("a", true), ("ra", false), ("r", false)])?;
+    let rows = &[("a", true), ("ra", false), ("r", false)];
+    let idents = sort_names(&rt, rows);
     are_written(&rt, idents.as_slice(), &["r", "r#a", "ra"]);
-    Ok(())
+    release(idents);
 }
 
 #[test]
-fn a_map_keeps_raw_and_plain_keys_apart() -> Result<(), Fail> {
+fn a_map_keeps_raw_and_plain_keys_apart() {
     let rt = HostRuntime;
     let mut hashed = HashMap::new();
     let mut ordered = BTreeMap::new();
@@ -175,23 +183,25 @@ fn a_map_keeps_raw_and_plain_keys_apart() -> Result<(), Fail> {
         ("b", false, 3),
         ("a", false, 4),
     ];
-    fill(&mut hashed, &mut ordered, rows)?;
+    fill(&rt, &mut hashed, &mut ordered, rows);
     let rows = &[
         ("a", false, Some(4)),
         ("a", true, Some(2)),
         ("b", false, Some(3)),
         ("b", true, None),
     ];
-    values_are(&rt, &hashed, &ordered, rows)
+    values_are(&rt, &hashed, &ordered, rows);
+    release((hashed, ordered));
 }
 
 #[test]
-fn a_span_is_set_and_does_not_count() -> Result<(), Fail> {
+fn a_span_is_set_and_does_not_count() {
     let rt = HostRuntime;
-    let mut ident = Ident::new("a", span_of(1, 2))?;
+    let mut ident = Ident::new("a", span_of(1, 2)).expect("a");
     let want = "Ident { sym: a, span: bytes(1..2) }";
-    shows(&rt, &ident, want)?;
+    shows(&rt, &ident, want);
     ident.set_span(span_of(3, 5));
     check_same(&rt, want, &bounds(ident.span()), &(3, 5));
-    is_equal(&rt, &ident, "a")
+    is_equal(&rt, &ident, "a");
+    release(ident);
 }

@@ -3,70 +3,64 @@
 use crate::shim::prelude::{GrowText, HostRuntime, TryClone, format};
 
 // A text of at most 22 bytes is kept in its token, and a longer one in memory. Both are kept unchanged and copied.
-use crate::pm_token_tests::checks::{check_same, make_ident};
-use proved_tokens::pm_token::{Ident, IdentError, Literal};
-use crate::shim::alloc::AllocError;
+use crate::pm_token_tests::checks::{check_same, make_ident, release};
+use proved_tokens::pm_token::{Ident, Literal};
+use crate::shim::fmt::Display;
 use crate::shim::process::Abort;
-use crate::shim::test::Fail;
 
 /// Copies the identifier of the name.
-fn copy_ident(name: &str, raw: bool) -> Result<Ident, IdentError> {
-    Ok(make_ident(name, raw)?.try_clone()?)
+fn copied_ident(rt: &impl Abort, name: &str, raw: bool) -> Ident {
+    let ident = make_ident(name, raw).expect(name);
+    let copy = ident.try_clone().expect(name);
+    release(ident);
+    copy
 }
 
 /// Copies the string literal of the text.
-fn copied_literal(text: &str) -> Result<Literal, AllocError> {
-    let literal = Literal::string(text)?;
-    literal.try_clone()
+fn copied_literal(rt: &impl Abort, text: &str) -> Literal {
+    let literal = Literal::string(text).expect(text);
+    let copy = literal.try_clone().expect(text);
+    release(literal);
+    copy
 }
 
-/// Returns how a copy of the identifier of the name is written.
-fn copy_text(name: &str, raw: bool) -> Result<String, IdentError> {
-    let copy = copy_ident(name, raw)?;
-    Ok(format!("{copy}")?)
-}
-
-/// Returns how a copy of the string literal of the text is written.
-fn written_literal(text: &str) -> Result<String, AllocError> {
-    let copy = copied_literal(text)?;
-    format!("{copy}")
+/// Returns how the token is written, and drops it.
+fn written<T: Display>(rt: &impl Abort, token: T) -> String {
+    format!("{token}").expect("a text")
 }
 
 /// Asserts how a copy of the plain identifier of the name is written.
-fn is_kept(rt: &impl Abort, name: &str) -> Result<(), IdentError> {
-    let plain = copy_text(name, false)?;
+fn is_kept(rt: &impl Abort, name: &str) {
+    let plain = written(rt, copied_ident(rt, name, false));
     check_same(rt, name, &plain.as_str(), &name);
-    Ok(())
 }
 
 /// Asserts how a copy of the raw identifier of the name is written.
-fn is_kept_raw(rt: &impl Abort, name: &str) -> Result<(), IdentError> {
-    let raw = copy_text(name, true)?;
+fn is_kept_raw(rt: &impl Abort, name: &str) {
+    let raw = written(rt, copied_ident(rt, name, true));
     check_same(rt, name, &raw.as_str().strip_prefix("r#"), &Some(name));
-    Ok(())
 }
 
 /// Asserts how a copy of the string literal of the text is written.
-fn is_quoted(rt: &impl Abort, text: &str) -> Result<(), AllocError> {
-    let quoted = written_literal(text)?;
+fn is_quoted(rt: &impl Abort, text: &str) {
+    let quoted = written(rt, copied_literal(rt, text));
     let inside = quoted.as_str().strip_prefix('"').unwrap_or("");
     check_same(rt, text, &inside.strip_suffix('"'), &Some(text));
-    Ok(())
 }
 
 /// Makes a text of 100,000 bytes.
-fn long_text() -> Result<String, AllocError> {
+fn long_text(rt: &impl Abort) -> String {
     let mut text = String::new();
     for _ in 0..10_000 {
-        text.push_str_fallibly("abcdefghij")?;
+        text.push_str_fallibly("abcdefghij").expect("a long text");
     }
-    Ok(text)
+    text
 }
 
 #[test]
-fn a_name_of_any_length_is_kept() -> Result<(), Fail> {
+fn a_name_of_any_length_is_kept() {
     let rt = HostRuntime;
-    let names = [
+    let names = &[
         "a",
         "abcdefghijklmnopqrstu",
         "abcdefghijklmnopqrstuv",
@@ -74,28 +68,25 @@ fn a_name_of_any_length_is_kept() -> Result<(), Fail> {
         "\u{E9}\u{E9}\u{E9}\u{E9}\u{E9}\u{E9}\u{E9}\u{E9}\u{E9}\u{E9}\u{E9}",
         "a\u{E9}\u{E9}\u{E9}\u{E9}\u{E9}\u{E9}\u{E9}\u{E9}\u{E9}\u{E9}\u{E9}",
     ];
-    for name in &names {
-        is_kept(&rt, name)?;
-        is_kept_raw(&rt, name)?;
+    for name in names {
+        is_kept(&rt, name);
+        is_kept_raw(&rt, name);
     }
-    Ok(())
 }
 
 #[test]
-fn a_literal_of_any_length_is_kept() -> Result<(), AllocError> {
+fn a_literal_of_any_length_is_kept() {
     let rt = HostRuntime;
     for text in &["", "abcdefghijklmnopqrst", "abcdefghijklmnopqrstu"] {
-        is_quoted(&rt, text)?;
+        is_quoted(&rt, text);
     }
-    Ok(())
 }
 
 #[test]
-fn a_text_of_100000_bytes_is_kept() -> Result<(), Fail> {
+fn a_text_of_100000_bytes_is_kept() {
     let rt = HostRuntime;
-    let text = long_text()?;
-    is_kept(&rt, text.as_str())?;
-    is_kept_raw(&rt, text.as_str())?;
-    is_quoted(&rt, text.as_str())?;
-    Ok(())
+    let text = long_text(&rt);
+    is_kept(&rt, text.as_str());
+    is_kept_raw(&rt, text.as_str());
+    is_quoted(&rt, text.as_str());
 }

@@ -2,13 +2,11 @@
 
 use crate::shim::prelude::HostRuntime;
 
-use crate::pm_token_tests::checks::{check_same, shows};
+use crate::pm_token_tests::checks::{check_same, release, shows};
 use proved_tokens::pm_span::{LineColumn, SourceMap};
-use crate::shim::alloc::AllocFailed;
 use crate::shim::cmp::Ordering;
 use crate::shim::collections::{BTreeMap, HashMap};
 use crate::shim::process::Abort;
-use crate::shim::test::Fail;
 
 fn line_column((line, column): (usize, usize)) -> LineColumn {
     LineColumn { line, column }
@@ -25,16 +23,18 @@ fn are_compared(rt: &impl Abort, rows: &[((usize, usize), (usize, usize), Orderi
 }
 
 /// Returns how many of them differ, for a map that hashes them and one that orders them.
-fn count(
-    numbers: &[(usize, usize)],
-) -> Result<(usize, usize), AllocFailed<(LineColumn, ())>> {
+fn count(rt: &impl Abort, numbers: &[(usize, usize)]) -> (usize, usize) {
     let mut hashed = HashMap::new();
     let mut ordered = BTreeMap::new();
     for &at in numbers {
-        hashed.insert(line_column(at), ())?;
-        ordered.insert(line_column(at), ())?;
+        let inserted: Result<_, _> = hashed.insert(line_column(at), ());
+        let _ = inserted.expect("a key");
+        let inserted: Result<_, _> = ordered.insert(line_column(at), ());
+        let _ = inserted.expect("a key");
     }
-    Ok((hashed.len(), ordered.len()))
+    let counts = (hashed.len(), ordered.len());
+    release((hashed, ordered));
+    counts
 }
 
 #[test]
@@ -52,27 +52,27 @@ fn lines_with_columns_are_ordered_by_line_and_then_by_column() {
 }
 
 #[test]
-fn a_map_keys_them_by_line_and_column() -> Result<(), Fail> {
+fn a_map_keys_them_by_line_and_column() {
     let rt = HostRuntime;
     let counts = count(
+        &rt,
         &[(1, 2), (2, 1), (1, 2), (1, 1), (2, 2), (2, 1)],
-    )?;
+    );
     check_same(&rt, "counts", &counts, &(4, 4));
-    Ok(())
 }
 
 #[test]
-fn they_show_their_line_and_their_column() -> Result<(), Fail> {
+fn they_show_their_line_and_their_column() {
     let rt = HostRuntime;
     let want = "LineColumn { line: 2, column: 3 }";
-    shows(&rt, &line_column((2, 3)), want)?;
-    Ok(())
+    shows(&rt, &line_column((2, 3)), want);
 }
 
 #[test]
-fn a_source_map_shows_its_files_and_its_limit() -> Result<(), Fail> {
+fn a_source_map_shows_its_files_and_its_limit() {
     let rt = HostRuntime;
     let want = "SourceMap { files: [], limit: 7 }";
-    shows(&rt, &SourceMap::with_limit(7), want)?;
-    Ok(())
+    let map = SourceMap::with_limit(7);
+    shows(&rt, &map, want);
+    release(map);
 }

@@ -10,7 +10,7 @@ use proved_tokens::literal_escaper::{EscapeError, MixedUnit, Mode, NonZeroChar, 
 #[test]
 fn errors_are_equal_to_themselves_alone() {
     let rt = HostRuntime;
-    let errors = [
+    let errors = &[
         EscapeError::ZeroChars,
         EscapeError::MoreThanOneChar,
         EscapeError::LoneSlash,
@@ -35,13 +35,13 @@ fn errors_are_equal_to_themselves_alone() {
         EscapeError::UnskippedWhitespaceWarning,
         EscapeError::MultipleSkippedLinesWarning,
     ];
-    are_distinct(&rt, &errors);
+    are_distinct(&rt, errors);
 }
 
 #[test]
 fn kinds_of_literals_are_equal_to_themselves_alone() {
     let rt = HostRuntime;
-    let modes = [
+    let modes = &[
         Mode::Char,
         Mode::Byte,
         Mode::Str,
@@ -51,7 +51,7 @@ fn kinds_of_literals_are_equal_to_themselves_alone() {
         Mode::CStr,
         Mode::RawCStr,
     ];
-    are_distinct(&rt, &modes);
+    are_distinct(&rt, modes);
 }
 
 #[test]

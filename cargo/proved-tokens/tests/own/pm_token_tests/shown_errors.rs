@@ -3,37 +3,37 @@
 use crate::shim::prelude::HostRuntime;
 
 // The `Debug` and `Display` texts of errors.
-use crate::pm_token_tests::checks::{are_displayed, are_shown, displays, shows};
+use crate::pm_token_tests::checks::{are_displayed, are_shown, displays, read_literal, release, shows};
 use proved_tokens::literal_escaper::EscapeError;
+use proved_tokens::pm_span::Span;
 use proved_tokens::pm_span::parts::span_of;
-use proved_tokens::pm_span::{SourceMap, Span};
 use proved_tokens::pm_token::parts::fault;
-use proved_tokens::pm_token::{ConversionErrorKind, IdentError, Literal, ParseError};
+use proved_tokens::pm_token::{ConversionErrorKind, IdentError, ParseError};
 use crate::shim::alloc::AllocError;
 use crate::shim::process::Abort;
 
 /// Asserts the `Debug` text of the error for a text that is no literal.
-fn is_refused_as(rt: &impl Abort, text: &str, want: &str) -> Result<(), AllocError> {
-    let mut map = SourceMap::new();
-    let refused = Literal::from_str(text, &mut map).err();
-    shows(rt, &refused, want)
+fn is_refused_as(rt: &impl Abort, text: &str, want: &str) {
+    let refused = read_literal(text).err();
+    shows(rt, &refused, want);
+    release(refused);
 }
 
 #[test]
-fn a_fault_shows_its_span_wherever_it_is() -> Result<(), AllocError> {
+fn a_fault_shows_its_span_wherever_it_is() {
     let rt = HostRuntime;
     let rows = [
         (fault(Span::call_site()), "LexError { span: bytes(0..0) }"),
         (fault(span_of(1, 1)), "LexError { span: bytes(1..1) }"),
         (fault(span_of(28, 30)), "LexError { span: bytes(28..30) }"),
     ];
-    are_shown(&rt, &rows)?;
+    are_shown(&rt, &rows);
     let want = "Some(Lex(LexError { span: bytes(0..0) }))";
-    is_refused_as(&rt, "- 1", want)
+    is_refused_as(&rt, "- 1", want);
 }
 
 #[test]
-fn an_error_of_parsing_shows_its_kind() -> Result<(), AllocError> {
+fn an_error_of_parsing_shows_its_kind() {
     let rt = HostRuntime;
     let rows = [
         (
@@ -42,37 +42,37 @@ fn an_error_of_parsing_shows_its_kind() -> Result<(), AllocError> {
         ),
         (ParseError::MapFull, "MapFull"),
         ];
-    are_shown(&rt, &rows)
+    are_shown(&rt, &rows);
 }
 
 #[test]
-fn an_error_of_parsing_says_what_is_wrong() -> Result<(), AllocError> {
+fn an_error_of_parsing_says_what_is_wrong() {
     let rt = HostRuntime;
     let fault_says = "cannot parse string into token stream";
-    displays(&rt, &fault(span_of(2, 2)), fault_says)?;
+    displays(&rt, &fault(span_of(2, 2)), fault_says);
     let rows = [
         (ParseError::Lex(fault(Span::call_site())), fault_says),
         (ParseError::MapFull, "map full"),
         ];
-    are_displayed(&rt, &rows)
+    are_displayed(&rt, &rows);
 }
 
 #[test]
-fn an_error_of_a_name_shows_its_kind() -> Result<(), AllocError> {
+fn an_error_of_a_name_shows_its_kind() {
     let rt = HostRuntime;
-    let rows = [
+    let rows = &[
         (IdentError::Empty, "Empty"),
         (IdentError::Number, "Number"),
         (IdentError::Invalid, "Invalid"),
         (IdentError::Reserved, "Reserved"),
         ];
-    are_shown(&rt, &rows)
+    are_shown(&rt, rows);
 }
 
 #[test]
-fn an_error_of_a_name_says_what_is_wrong() -> Result<(), AllocError> {
+fn an_error_of_a_name_says_what_is_wrong() {
     let rt = HostRuntime;
-    let rows = [
+    let rows = &[
         (
             IdentError::Empty,
             "an identifier has at least one character",
@@ -84,13 +84,13 @@ fn an_error_of_a_name_says_what_is_wrong() -> Result<(), AllocError> {
             "this name is reserved, and can't be raw",
         ),
         ];
-    are_displayed(&rt, &rows)
+    are_displayed(&rt, rows);
 }
 
 #[test]
-fn a_refusal_of_a_value_shows_its_fault() -> Result<(), AllocError> {
+fn a_refusal_of_a_value_shows_its_fault() {
     let rt = HostRuntime;
-    let rows = [
+    let rows = &[
         (
             ConversionErrorKind::FailedToUnescape(EscapeError::BareCarriageReturn),
             "FailedToUnescape(BareCarriageReturn)",
@@ -100,13 +100,13 @@ fn a_refusal_of_a_value_shows_its_fault() -> Result<(), AllocError> {
             "InvalidLiteralKind",
         ),
         ];
-    are_shown(&rt, &rows)
+    are_shown(&rt, rows);
 }
 
 #[test]
-fn a_refusal_of_a_value_says_what_is_wrong() -> Result<(), AllocError> {
+fn a_refusal_of_a_value_says_what_is_wrong() {
     let rt = HostRuntime;
-    let rows = [
+    let rows = &[
         (
             ConversionErrorKind::FailedToUnescape(EscapeError::LoneSlash),
             "cannot unescape the literal",
@@ -116,15 +116,15 @@ fn a_refusal_of_a_value_says_what_is_wrong() -> Result<(), AllocError> {
             "the literal is of another kind or has a suffix",
         ),
         ];
-    are_displayed(&rt, &rows)
+    are_displayed(&rt, rows);
 }
 
 #[test]
-fn an_error_of_a_content_says_what_is_wrong() -> Result<(), AllocError> {
+fn an_error_of_a_content_says_what_is_wrong() {
     let rt = HostRuntime;
-    let rows = [
+    let rows = &[
         (EscapeError::LoneSlash, "nothing follows the backslash"),
         (EscapeError::NulInCStr, "a zero in a C string"),
     ];
-    are_displayed(&rt, &rows)
+    are_displayed(&rt, rows);
 }

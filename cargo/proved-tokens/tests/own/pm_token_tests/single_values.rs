@@ -2,17 +2,18 @@
 
 use crate::shim::prelude::HostRuntime;
 
-use crate::pm_token_tests::checks::{check_same, read_literal};
-use proved_tokens::pm_token::{ConversionErrorKind, ParseError};
+use crate::pm_token_tests::checks::{check_same, read_literal, release};
+use proved_tokens::pm_token::ConversionErrorKind;
 use crate::shim::process::Abort;
-use crate::shim::test::Fail;
 
 type Value<T> = Result<T, ConversionErrorKind>;
 
 /// Returns the value of the text's literal as a character, and as a byte.
-fn single_values(text: &str) -> Result<(Value<char>, Value<u8>), ParseError> {
-    let literal = read_literal(text)?;
-    Ok((literal.char_value(), literal.byte_value()))
+fn single_values(rt: &impl Abort, text: &str) -> (Value<char>, Value<u8>) {
+    let literal = read_literal(text).expect(text);
+    let values = (literal.char_value(), literal.byte_value());
+    release(literal);
+    values
 }
 
 /// Returns this value, or the error for another kind of literal.
@@ -25,24 +26,17 @@ fn right_kind<T>(value: Option<T>) -> Value<T> {
 
 /// Asserts the values of each text's literal as a character and as a byte. If it has none, the error is
 /// `InvalidLiteralKind`.
-fn single_values_are(
-    rt: &impl Abort,
-    rows: &[(&str, Option<char>, Option<u8>)],
-) -> Result<(), Fail> {
+fn single_values_are(rt: &impl Abort, rows: &[(&str, Option<char>, Option<u8>)]) {
     for &(text, character, byte) in rows {
-        let values = single_values(text)?;
-        check_same(
-            rt,
-            text,
-            &values,
-            &(right_kind(character), right_kind(byte)),
-        );
+        let values = single_values(rt, text);
+        let want = (right_kind(character), right_kind(byte));
+        check_same(rt, text, &values, &want);
+        release((values, want));
     }
-    Ok(())
 }
 
 #[test]
-fn a_character_has_the_character_between_its_quotes() -> Result<(), Fail> {
+fn a_character_has_the_character_between_its_quotes() {
     let rt = HostRuntime;
     let rows = &[
         ("'\\''", Some('\''), None),
@@ -54,11 +48,11 @@ fn a_character_has_the_character_between_its_quotes() -> Result<(), Fail> {
         ("'\\x7F'", Some('\u{7F}'), None),
         ("'\\u{10_FFFF}'", Some('\u{10FFFF}'), None),
     ];
-    single_values_are(&rt, rows)
+    single_values_are(&rt, rows);
 }
 
 #[test]
-fn a_byte_has_the_byte_between_its_quotes() -> Result<(), Fail> {
+fn a_byte_has_the_byte_between_its_quotes() {
     let rt = HostRuntime;
     let rows = &[
         ("b'\\xFF'", None, Some(255)),
@@ -66,11 +60,11 @@ fn a_byte_has_the_byte_between_its_quotes() -> Result<(), Fail> {
         ("b'\\''", None, Some(b'\'')),
         ("b'\\0'", None, Some(0)),
     ];
-    single_values_are(&rt, rows)
+    single_values_are(&rt, rows);
 }
 
 #[test]
-fn other_literals_are_of_another_kind() -> Result<(), Fail> {
+fn other_literals_are_of_another_kind() {
     let rt = HostRuntime;
     let rows = &[
         ("'a'u8", None, None),
@@ -80,5 +74,5 @@ fn other_literals_are_of_another_kind() -> Result<(), Fail> {
         ("1", None, None),
         ("-1", None, None),
     ];
-    single_values_are(&rt, rows)
+    single_values_are(&rt, rows);
 }

@@ -2,41 +2,35 @@
 
 use crate::shim::prelude::HostRuntime;
 
-use crate::pm_token_tests::checks::{check_same, shows};
+use crate::pm_token_tests::checks::{check_same, release, shows};
 use proved_tokens::pm_span::parts::{add_file, fits, span_of};
 use proved_tokens::pm_span::{LineColumn, SourceMap, Span};
 use crate::shim::alloc::AllocError;
 use crate::shim::process::Abort;
-use crate::shim::test::Fail;
 
 /// Adds the text if it fits, and returns the position at which it begins.
 fn add(map: &mut SourceMap, text: &str) -> Result<Option<u32>, AllocError> {
     match fits(map, text) {
         None => Ok(None),
-        Some(lo) => {
-            add_file(map, text)?;
-            Ok(Some(lo))
-        }
+        Some(lo) => match add_file(map, text) {
+            Ok(_) => Ok(Some(lo)),
+            Err(error) => Err(error),
+        },
     }
 }
 
 /// Asserts that the text begins at `lo` when it is added.
-fn is_added(rt: &impl Abort, map: &mut SourceMap, text: &str, lo: u32) -> Result<(), AllocError> {
-    check_same(rt, text, &add(map, text)?, &Some(lo));
-    Ok(())
+fn is_added(rt: &impl Abort, map: &mut SourceMap, text: &str, lo: u32) {
+    check_same(rt, text, &add(map, text), &Ok(Some(lo)));
 }
 
 /// Asserts where an empty text begins if it is added after `abcd`, with this limit.
-fn second_is(
-    rt: &impl Abort,
-    limit: u32,
-    second: Option<u32>,
-) -> Result<(), AllocError> {
+fn second_is(rt: &impl Abort, limit: u32, second: Option<u32>) {
     let mut map = SourceMap::with_limit(limit);
-    is_added(rt, &mut map, "abcd", 1)?;
-    let added = (limit, add(&mut map, "")?);
-    check_same(rt, "limit and start", &added, &(limit, second));
-    Ok(())
+    is_added(rt, &mut map, "abcd", 1);
+    let added = (limit, add(&mut map, ""));
+    check_same(rt, "limit and start", &added, &(limit, Ok(second)));
+    release(map);
 }
 
 /// Returns where the span starts, if the map holds it.
@@ -66,20 +60,19 @@ fn are_held(rt: &impl Abort, map: &SourceMap, rows: &[(u32, u32, bool)]) {
 }
 
 #[test]
-fn a_file_fits_up_to_the_limit() -> Result<(), Fail> {
+fn a_file_fits_up_to_the_limit() {
     let rt = HostRuntime;
     for (limit, second) in [(5, None), (6, Some(6))] {
-        second_is(&rt, limit, second)?;
+        second_is(&rt, limit, second);
     }
-    Ok(())
 }
 
 #[test]
-fn a_span_starts_at_a_line_and_a_column() -> Result<(), Fail> {
+fn a_span_starts_at_a_line_and_a_column() {
     let rt = HostRuntime;
     let mut map = SourceMap::new();
-    is_added(&rt, &mut map, "aaa\nbbb", 1)?;
-    is_added(&rt, &mut map, "é\r𓀕\nz\n", 9)?;
+    is_added(&rt, &mut map, "aaa\nbbb", 1);
+    is_added(&rt, &mut map, "é\r𓀕\nz\n", 9);
     let rows = &[
         (0, 1, 0),
         (1, 1, 0),
@@ -94,15 +87,15 @@ fn a_span_starts_at_a_line_and_a_column() -> Result<(), Fail> {
         (15, 3, 0),
     ];
     start_at(&rt, &map, rows);
-    Ok(())
+    release(map);
 }
 
 #[test]
-fn a_held_span_lies_in_one_file() -> Result<(), Fail> {
+fn a_held_span_lies_in_one_file() {
     let rt = HostRuntime;
     let mut map = SourceMap::new();
-    is_added(&rt, &mut map, "aaa\nbbb", 1)?;
-    is_added(&rt, &mut map, "ccc\nddd", 9)?;
+    is_added(&rt, &mut map, "aaa\nbbb", 1);
+    is_added(&rt, &mut map, "ccc\nddd", 9);
     let rows = &[
         (0, 0, true),
         (0, 1, false),
@@ -115,7 +108,7 @@ fn a_held_span_lies_in_one_file() -> Result<(), Fail> {
         (17, 17, false),
     ];
     are_held(&rt, &map, rows);
-    Ok(())
+    release(map);
 }
 
 #[test]
@@ -129,11 +122,11 @@ fn a_call_site_starts_at_the_first_line() {
         &start(&map, Span::call_site()),
         &Some(want),
     );
+    release(map);
 }
 
 #[test]
-fn a_span_shows_its_positions() -> Result<(), Fail> {
+fn a_span_shows_its_positions() {
     let rt = HostRuntime;
-    shows(&rt, &span_of(1, 2), "bytes(1..2)")?;
-    Ok(())
+    shows(&rt, &span_of(1, 2), "bytes(1..2)");
 }

@@ -2,11 +2,11 @@
 
 use crate::shim::prelude::HostRuntime;
 
-use crate::pm_token_tests::checks::{read_literal, shows};
+use crate::pm_token_tests::checks::{check_same, read_literal, release, shows};
 use proved_tokens::pm_span::Span;
 use proved_tokens::pm_span::parts::{bounds, span_of};
 use proved_tokens::pm_token::parts::punct;
-use proved_tokens::pm_token::{Literal, ParseError, Spacing};
+use proved_tokens::pm_token::{Literal, Spacing};
 use crate::shim::ops::Bound;
 use crate::shim::ops::Bound::{Excluded, Included, Unbounded};
 use crate::shim::process::Abort;
@@ -18,12 +18,19 @@ type Row = (Bound<usize>, Bound<usize>, Option<(u32, u32)>);
 fn parts_are(rt: &impl Abort, literal: &Literal, rows: &[Row]) {
     for (row, &(start, end, want)) in rows.iter().enumerate() {
         let found = literal.subspan(start, end).map(bounds);
-        assert_eq!(found, want, "row {row} of {:?}", literal.text());
+        check_same(rt, literal.text(), &(row, found), &(row, want));
     }
 }
 
+/// Asserts the span of the part of the text's literal that the bounds of each row name.
+fn parts_of_text_are(rt: &impl Abort, text: &str, rows: &[Row]) {
+    let literal = read_literal(text).expect(text);
+    parts_are(rt, &literal, rows);
+    release(literal);
+}
+
 #[test]
-fn a_part_lies_between_two_counts_of_characters() -> Result<(), ParseError> {
+fn a_part_lies_between_two_counts_of_characters() {
     let rt = HostRuntime;
     let rows = &[
         (Included(1), Excluded(2), Some((2, 3))),
@@ -38,20 +45,18 @@ fn a_part_lies_between_two_counts_of_characters() -> Result<(), ParseError> {
         (Included(2), Excluded(1), None),
         (Included(2), Included(1), Some((3, 3))),
     ];
-    parts_are(&rt, &read_literal("0.1")?, rows);
-    Ok(())
+    parts_of_text_are(&rt, "0.1", rows);
 }
 
 #[test]
-fn a_part_counts_characters_and_not_bytes() -> Result<(), ParseError> {
+fn a_part_counts_characters_and_not_bytes() {
     let rt = HostRuntime;
     let rows = &[(Included(2), Included(2), Some((3, 4)))];
-    parts_are(&rt, &read_literal("\"é.\"")?, rows);
-    Ok(())
+    parts_of_text_are(&rt, "\"é.\"", rows);
 }
 
 #[test]
-fn no_part_begins_or_ends_at_a_huge_count() -> Result<(), ParseError> {
+fn no_part_begins_or_ends_at_a_huge_count() {
     let rt = HostRuntime;
     let rows = &[
         (Included(usize::MAX), Unbounded, None),
@@ -63,14 +68,13 @@ fn no_part_begins_or_ends_at_a_huge_count() -> Result<(), ParseError> {
         (Unbounded, Included(4294967295), None),
         (Unbounded, Excluded(4294967297), None),
     ];
-    parts_are(&rt, &read_literal("0.1")?, rows);
-    Ok(())
+    parts_of_text_are(&rt, "0.1", rows);
 }
 
 #[test]
-fn a_part_lies_in_the_span_that_was_set() -> Result<(), ParseError> {
+fn a_part_lies_in_the_span_that_was_set() {
     let rt = HostRuntime;
-    let mut literal = read_literal("0.1")?;
+    let mut literal = read_literal("0.1").expect("0.1");
     literal.set_span(span_of(4294967294, 4294967295));
     let rows = &[
         (Included(1), Unbounded, Some((4294967295, 4294967295))),
@@ -86,22 +90,22 @@ fn a_part_lies_in_the_span_that_was_set() -> Result<(), ParseError> {
         (Excluded(0), Unbounded, None),
     ];
     parts_are(&rt, &literal, rows);
-    Ok(())
+    release(literal);
 }
 
 #[test]
-fn a_span_that_is_set_is_all_that_changes() -> Result<(), ParseError> {
+fn a_span_that_is_set_is_all_that_changes() {
     let rt = HostRuntime;
     let mut mark = punct('+', Spacing::Joint, span_of(3, 4));
     mark.set_span(span_of(7, 8));
     let want = "Punct { char: '+', spacing: Joint, span: bytes(7..8) }";
-    shows(&rt, &mark, want)?;
-    let mut literal = read_literal("0.1")?;
+    shows(&rt, &mark, want);
+    let mut literal = read_literal("0.1").expect("0.1");
     literal.set_span(span_of(7, 9));
     shows(
         &rt,
         &literal,
         "Literal { lit: 0.1, span: bytes(7..9) }",
-    )?;
-    Ok(())
+    );
+    release(literal);
 }

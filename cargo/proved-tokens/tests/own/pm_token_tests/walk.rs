@@ -31,7 +31,7 @@ fn check_next(
         Some(next) => Some((next.byte_offset, next.piece.kind, next.text)),
         None => None,
     };
-    assert_eq!(answer, want);
+    check_same(rt, "the next piece", &answer, &want);
 }
 
 /// Returns the kind of a mark.
@@ -111,9 +111,8 @@ fn check_spaced(
         Some(piece) => Some((piece.byte_offset, piece.piece.kind)),
         None => None,
     };
-    assert_eq!(next.white, white);
-    assert_eq!(piece, want);
-    assert_eq!(next.rest, rest);
+    let answer = (next.white, piece, next.rest);
+    check_same(rt, "the next piece", &answer, &(white, want, rest));
 }
 
 #[test]

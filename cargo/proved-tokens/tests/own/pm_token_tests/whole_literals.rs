@@ -2,18 +2,23 @@
 
 use crate::shim::prelude::HostRuntime;
 
-use crate::pm_token_tests::checks::check_same;
+use crate::pm_token_tests::checks::{check_same, read_literal, release};
 use proved_tokens::pm_span::SourceMap;
 use proved_tokens::pm_span::parts::{bounds, span_of};
 use proved_tokens::pm_token::{Literal, ParseError};
-use crate::shim::alloc::AllocError;
 use crate::shim::process::Abort;
 
 /// Returns the positions of the literal of the text in a new map, if the text is one.
 fn literal_bounds(text: &str) -> Option<(u32, u32)> {
-    let mut map = SourceMap::new();
-    let parsed = Literal::from_str(text, &mut map);
-    match &parsed {
+    let parsed = read_literal(text);
+    let found = bounds_if_whole(&parsed, text);
+    release(parsed);
+    found
+}
+
+/// Returns the positions of the literal, if it was parsed and has this text.
+fn bounds_if_whole(parsed: &Result<Literal, ParseError>, text: &str) -> Option<(u32, u32)> {
+    match parsed {
         Ok(literal) if literal.text() == text => Some(bounds(literal.span())),
         _ => None,
     }
@@ -21,9 +26,15 @@ fn literal_bounds(text: &str) -> Option<(u32, u32)> {
 
 /// Returns the positions of the text's syntax error.
 fn fault_bounds(text: &str) -> Option<(u32, u32)> {
-    let mut map = SourceMap::new();
-    let parsed = Literal::from_str(text, &mut map);
-    match &parsed {
+    let parsed = read_literal(text);
+    let found = bounds_if_fault(&parsed);
+    release(parsed);
+    found
+}
+
+/// Returns the positions of the syntax error, if there is one.
+fn bounds_if_fault(parsed: &Result<Literal, ParseError>) -> Option<(u32, u32)> {
+    match parsed {
         Err(ParseError::Lex(fault)) => Some(bounds(fault.span())),
         _ => None,
     }
@@ -46,12 +57,12 @@ fn are_refused(rt: &impl Abort, texts: &[&str]) {
 }
 
 /// Asserts that the literal made of the text has this text and the span 0..0. The text must be a whole literal.
-fn is_made(rt: &impl Abort, text: &str) -> Result<(), AllocError> {
-    assert!(Literal::is_whole(text), "of {text:?}");
-    let literal = Literal::from_str_unchecked(text)?;
+fn is_made(rt: &impl Abort, text: &str) {
+    assert!(Literal::is_whole(text));
+    let literal = Literal::from_str_unchecked(text).expect(text);
     let answers = (literal.text(), bounds(literal.span()));
     check_same(rt, text, &answers, &(text, (0, 0)));
-    Ok(())
+    release(literal);
 }
 
 /// Returns whether a map with this limit was full for the text, and whether it then holds the first three
@@ -59,8 +70,10 @@ fn is_made(rt: &impl Abort, text: &str) -> Result<(), AllocError> {
 fn outcome(text: &str, limit: u32) -> (bool, bool) {
     let mut map = SourceMap::with_limit(limit);
     let parsed = Literal::from_str(text, &mut map);
-    let full = matches!(parsed, Err(ParseError::MapFull));
-    (full, map.holds(span_of(1, 4)))
+    let full = matches!(&parsed, Err(ParseError::MapFull));
+    let answers = (full, map.holds(span_of(1, 4)));
+    release((parsed, map));
+    answers
 }
 
 /// Asserts that a map with this limit is full for the text, or that the text's file is added.
@@ -91,12 +104,11 @@ fn a_whole_literal_is_accepted() {
 }
 
 #[test]
-fn a_literal_is_made_of_a_text_that_is_known_to_be_one() -> Result<(), AllocError> {
+fn a_literal_is_made_of_a_text_that_is_known_to_be_one() {
     let rt = HostRuntime;
     for text in ["1.5", "-3i32", "\"a\""] {
-        is_made(&rt, text)?;
+        is_made(&rt, text);
     }
-    Ok(())
 }
 
 #[test]

@@ -1,41 +1,50 @@
 // Made from crates/token_buffer_tests/src/openers.rt by dev/erase: change that file, not this one.
 //! Tests of the openers that `explain` returns.
 
-use crate::shim::prelude::{AllocGlobal, GrowText, HostRuntime, format};
+use crate::shim::prelude::{AllocGlobal, Grow, GrowText, HostRuntime};
 
-use proved_tokens::explain::{ExplainError, Explained, explain};
-use crate::shim::alloc::AllocError;
+use crate::token_buffer_tests::checks::{check_answer, release};
+use proved_tokens::explain::{ExplainError, Explained, Opener, explain};
 use crate::shim::process::Abort;
 
 /// Asserts that the text doesn't parse, and that these bytes are the openers that no closer matches before the error,
 /// the innermost last.
 fn check(rt: &(impl Abort + AllocGlobal), text: &str, want: &str) {
-    let found = openers(text).expect(text);
-    assert_eq!(found.as_str(), want, "of {text:?}");
+    let explained = explain(text);
+    let found = openers(rt, &explained);
+    check_answer(rt, text, &found.as_str(), &want);
+    release((explained, found));
 }
 
 /// The bytes of the openers that no closer matches before the text's error.
-fn openers(text: &str) -> Result<String, ExplainError> {
-    match explain(text)? {
-        Some(explained) => Ok(opener_bytes(&explained)?),
-        None => Ok(String::from_str_fallibly("none")?),
+fn openers(
+    rt: &impl Abort,
+    explained: &Result<Option<Explained>, ExplainError>,
+) -> String {
+    match explained {
+        Ok(Some(explained)) => opener_bytes(rt, explained),
+        Ok(None) => String::from_str_fallibly("none").expect("none"),
+        Err(_) => String::from_str_fallibly("memory").expect("memory"),
     }
 }
 
 /// The bytes of the openers in the explanation, the innermost last.
-fn opener_bytes(explained: &Explained) -> Result<String, AllocError> {
-    let mut shown = String::from_str_fallibly("")?;
+fn opener_bytes(rt: &impl Abort, explained: &Explained) -> String {
+    let mut shown = String::new();
     for opener in explained.outer.iter() {
-        let (start, end) = (opener.at.start, opener.at.end);
-        shown = format!("{shown}{start}..{end} ")?;
+        add_opener(rt, &mut shown, opener);
+        shown.push_fallibly(' ').expect("a text");
     }
-    match explained.innermost {
-        Some(opener) => {
-            let (start, end) = (opener.at.start, opener.at.end);
-            format!("{shown}{start}..{end}")
-        }
-        None => Ok(shown),
+    if let Some(opener) = &explained.innermost {
+        add_opener(rt, &mut shown, opener);
     }
+    shown
+}
+
+/// Appends the bytes of the opener.
+fn add_opener(rt: &impl Abort, shown: &mut String, opener: &Opener) {
+    let (start, end) = (opener.at.start, opener.at.end);
+    assert!(write!(shown, "{start}..{end}").is_ok());
 }
 
 #[test]
