@@ -1,7 +1,7 @@
 //! Making literals, and reading the values of literals.
 
 use crate::fails::Fail;
-use crate::watched::{begin, show};
+use crate::watched::{begin, release, show};
 use proc_macro2::{Literal, SourceMap};
 use std::alloc::{AllocError, Global};
 use std::io::Write;
@@ -10,19 +10,26 @@ use std::io::Write;
 pub fn run<W: Write>(alloc: Global, out: &mut W, call: &str, text: &str) -> Result<(), Fail> {
     for _ in 0..2 {
         begin(out)?;
-        show(out, make_named(alloc, call, text).ok_or(Fail::NoCase)?)?;
+        match make_named(alloc, call, text) {
+            Some(made) => show(out, made)?,
+            None => return Err(Fail::NoCase),
+        }
     }
     Ok(())
 }
 
 fn make_named(alloc: Global, call: &str, text: &str) -> Option<Result<Literal, AllocError>> {
-    if let Some(literal) = make_quoted(alloc, call, text) {
-        return Some(literal);
+    match make_quoted(alloc, call, text) {
+        Some(literal) => Some(literal),
+        None => make_integer(alloc, call),
     }
-    if let Some(literal) = make_unsigned(alloc, call) {
-        return Some(literal);
+}
+
+fn make_integer(alloc: Global, call: &str) -> Option<Result<Literal, AllocError>> {
+    match make_unsigned(alloc, call) {
+        Some(literal) => Some(literal),
+        None => make_signed(alloc, call),
     }
-    make_signed(alloc, call)
 }
 
 fn make_quoted(alloc: Global, call: &str, text: &str) -> Option<Result<Literal, AllocError>> {
@@ -78,8 +85,19 @@ fn make_signed(alloc: Global, call: &str) -> Option<Result<Literal, AllocError>>
 /// Reads the value of the text's literal.
 pub fn run_value<W: Write>(alloc: Global, out: &mut W, call: &str, text: &str) -> Result<(), Fail> {
     let literal = Literal::from_str(text, &mut SourceMap::new(alloc))?;
+    let done = show_twice(alloc, out, call, &literal);
+    release(literal);
+    done
+}
+
+fn show_twice<W: Write>(
+    alloc: Global,
+    out: &mut W,
+    call: &str,
+    literal: &Literal,
+) -> Result<(), Fail> {
     for _ in 0..2 {
-        show_value(alloc, out, call, &literal)?;
+        show_value(alloc, out, call, literal)?;
         writeln!(out, "literal {literal}")?;
     }
     Ok(())

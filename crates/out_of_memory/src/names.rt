@@ -10,7 +10,10 @@ use std::io::Write;
 pub fn run<W: Write>(alloc: Global, out: &mut W, call: &str, name: &str) -> Result<(), Fail> {
     for _ in 0..2 {
         begin(out)?;
-        show(out, make_named(alloc, call, name).ok_or(Fail::NoCase)?)?;
+        match make_named(alloc, call, name) {
+            Some(made) => show(out, made)?,
+            None => return Err(Fail::NoCase),
+        }
     }
     Ok(())
 }

@@ -2,7 +2,7 @@
 
 use crate::fails::Fail;
 use crate::shown::{show_made, show_map};
-use crate::watched::{begin, show};
+use crate::watched::{begin, release, show};
 use proc_macro2::{Literal, ParseError, SourceMap, TokenStream, reprint};
 use std::alloc::Global;
 use std::io::Write;
@@ -11,10 +11,10 @@ use std::io::Write;
 /// prints the text without making trees.
 pub fn run<W: Write>(alloc: Global, out: &mut W, call: &str, text: &str) -> Result<(), Fail> {
     match call {
-        "stream" => parse_stream(out, text, &mut map_of_x(alloc, u32::MAX)?),
-        "stream_in_four" => parse_stream(out, text, &mut map_of_x(alloc, 4)?),
-        "literal" => parse_literal(out, text, &mut map_of_x(alloc, u32::MAX)?),
-        "literal_in_four" => parse_literal(out, text, &mut map_of_x(alloc, 4)?),
+        "stream" => parse_stream_in(alloc, out, text, u32::MAX),
+        "stream_in_four" => parse_stream_in(alloc, out, text, 4),
+        "literal" => parse_literal_in(alloc, out, text, u32::MAX),
+        "literal_in_four" => parse_literal_in(alloc, out, text, 4),
         "unmapped" => parse_unmapped(alloc, out, text),
         "reprint" => reprint_text(alloc, out, text),
         _ => Err(Fail::NoCase),
@@ -24,8 +24,40 @@ pub fn run<W: Write>(alloc: Global, out: &mut W, call: &str, text: &str) -> Resu
 /// Returns a map with this limit that has the text `x`.
 pub fn map_of_x(alloc: Global, limit: u32) -> Result<SourceMap, ParseError> {
     let mut map = SourceMap::with_limit(alloc, limit);
-    TokenStream::from_str("x", &mut map)?;
-    Ok(map)
+    match TokenStream::from_str("x", &mut map) {
+        Ok(stream) => {
+            release(stream);
+            Ok(map)
+        }
+        Err(error) => {
+            release(map);
+            Err(error)
+        }
+    }
+}
+
+fn parse_stream_in<W: Write>(
+    alloc: Global,
+    out: &mut W,
+    text: &str,
+    limit: u32,
+) -> Result<(), Fail> {
+    let mut map = map_of_x(alloc, limit)?;
+    let done = parse_stream(out, text, &mut map);
+    release(map);
+    done
+}
+
+fn parse_literal_in<W: Write>(
+    alloc: Global,
+    out: &mut W,
+    text: &str,
+    limit: u32,
+) -> Result<(), Fail> {
+    let mut map = map_of_x(alloc, limit)?;
+    let done = parse_literal(out, text, &mut map);
+    release(map);
+    done
 }
 
 fn parse_stream<W: Write>(out: &mut W, text: &str, map: &mut SourceMap) -> Result<(), Fail> {

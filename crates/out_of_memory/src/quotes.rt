@@ -2,7 +2,7 @@
 
 use crate::fails::Fail;
 use crate::shown::{show_map, show_stream};
-use crate::watched::{begin, show};
+use crate::watched::{begin, begin_with, both, release, show};
 use proc_macro2::{
     Delimiter, Group, Ident, Punct, SourceMap, Spacing, Span, TokenStream, TokenTree,
 };
@@ -25,10 +25,26 @@ pub fn run<W: Write>(alloc: Global, out: &mut W, call: &str, given: &str) -> Res
     let template = if given.is_empty() { TEMPLATE } else { given };
     for _ in 0..2 {
         let mut quote = x_and_group(alloc)?;
-        change(alloc, out, call, template, &mut quote)?;
-        show_stream(out, &quote.finish()?)?;
+        let done = change_and_show(alloc, out, call, template, &mut quote);
+        release(quote);
+        done?;
     }
     Ok(())
+}
+
+/// Changes the quote, and writes the stream that it then gives.
+fn change_and_show<W: Write>(
+    alloc: Global,
+    out: &mut W,
+    call: &str,
+    template: &str,
+    quote: &mut Quote,
+) -> Result<(), Fail> {
+    change(alloc, out, call, template, quote)?;
+    let stream = quote.finish()?;
+    let done = show_stream(out, &stream);
+    release(stream);
+    done
 }
 
 fn change<W: Write>(
@@ -51,14 +67,12 @@ fn change<W: Write>(
 }
 
 fn push<W: Write>(alloc: Global, out: &mut W, quote: &mut Quote) -> Result<(), Fail> {
-    let tree = name(alloc, "z")?;
-    begin(out)?;
+    let tree = begin_with(out, name(alloc, "z")?)?;
     show(out, quote.push(tree))
 }
 
 fn push_stream<W: Write>(alloc: Global, out: &mut W, quote: &mut Quote) -> Result<(), Fail> {
-    let stream = TokenStream::from_tree(alloc, name(alloc, "z")?)?;
-    begin(out)?;
+    let stream = begin_with(out, z(alloc)?)?;
     show(out, quote.push_stream(stream))
 }
 
@@ -69,25 +83,56 @@ fn fill<W: Write>(
     quote: &mut Quote,
     template: &str,
 ) -> Result<(), Fail> {
-    let template = TokenStream::from_str(template, &mut SourceMap::new(alloc))?;
-    let one = TokenStream::from_tree(alloc, name(alloc, "z")?)?;
+    let (template, (one, each)) = both(read(alloc, template), one_and_each(alloc))?;
     let nil = TokenStream::new(alloc);
-    let each = [one.clone()?, one.clone()?];
+    let done = fill_with(out, quote, &template, &one, &nil, &each);
+    release((template, one, nil));
+    release(each);
+    done
+}
+
+fn fill_with<W: Write>(
+    out: &mut W,
+    quote: &mut Quote,
+    template: &TokenStream,
+    one: &TokenStream,
+    nil: &TokenStream,
+    each: &[TokenStream],
+) -> Result<(), Fail> {
     let holes = [
-        Hole::one("one", &one),
-        Hole::one("nil", &nil),
-        Hole::each("each", &each),
+        Hole::one("one", one),
+        Hole::one("nil", nil),
+        Hole::each("each", each),
     ];
     begin(out)?;
-    show(out, quote.fill(&template, &holes))
+    show(out, quote.fill(template, &holes))
+}
+
+/// Returns the stream of the text.
+fn read(alloc: Global, text: &str) -> Result<TokenStream, Fail> {
+    Ok(TokenStream::from_str(text, &mut SourceMap::new(alloc))?)
+}
+
+/// Returns the stream of `z`.
+fn z(alloc: Global) -> Result<TokenStream, Fail> {
+    Ok(TokenStream::from_tree(alloc, name(alloc, "z")?)?)
+}
+
+/// Returns the stream of `z`, and a list of two copies.
+fn one_and_each(alloc: Global) -> Result<(TokenStream, [TokenStream; 2]), Fail> {
+    let one = z(alloc)?;
+    let copies = both(copy_of(&one), copy_of(&one));
+    let (one, (first, second)) = both(Ok(one), copies)?;
+    Ok((one, [first, second]))
+}
+
+fn copy_of(stream: &TokenStream) -> Result<TokenStream, Fail> {
+    Ok(stream.clone()?)
 }
 
 /// Fills a template with a name, a text and a negative number, and a list of lists.
 fn values<W: Write>(alloc: Global, out: &mut W, quote: &mut Quote) -> Result<(), Fail> {
-    let template = TokenStream::from_str(VALUES, &mut SourceMap::new(alloc))?;
-    let mut rows = Values::new(alloc);
-    rows.push(Value::Strings(&["s", "t"]))?;
-    begin(out)?;
+    let (template, rows) = begin_with(out, both(read(alloc, VALUES), rows(alloc))?)?;
     let done = fill_values(
         quote,
         &template,
@@ -96,7 +141,20 @@ fn values<W: Write>(alloc: Global, out: &mut W, quote: &mut Quote) -> Result<(),
         &Value::Number(Number::I8(-7)),
         &Value::List(rows),
     );
+    release(template);
     show(out, done)
+}
+
+/// Returns a list of a list of two texts.
+fn rows(alloc: Global) -> Result<Values, Fail> {
+    let mut rows = Values::new(alloc);
+    match rows.push(Value::Strings(&["s", "t"])) {
+        Ok(()) => Ok(rows),
+        Err(error) => {
+            release(rows);
+            Err(Fail::from(error))
+        }
+    }
 }
 
 /// Fills the template with these values.
@@ -119,20 +177,33 @@ fn fill_values<'a>(
 
 /// Puts a list of a text in a list that has no room.
 fn list<W: Write>(alloc: Global, out: &mut W) -> Result<(), Fail> {
-    let mut list = Values::new(alloc);
-    begin(out)?;
-    show(out, list.push(Value::Strings(&[LETTERS])))
+    let mut list = begin_with(out, Values::new(alloc))?;
+    let pushed = list.push(Value::Strings(&[LETTERS]));
+    release(list);
+    show(out, pushed)
 }
 
 /// Parses the template's text, which becomes a file of a map, and fills it.
 fn parse<W: Write>(alloc: Global, out: &mut W, quote: &mut Quote) -> Result<(), Fail> {
+    let (one, each) = one_and_each(alloc)?;
     let mut map = SourceMap::new(alloc);
-    let one = TokenStream::from_tree(alloc, name(alloc, "z")?)?;
-    let each = [one.clone()?, one.clone()?];
-    let holes = [Hole::one("one", &one), Hole::each("each", &each)];
+    let done = parse_with(out, quote, &mut map, &one, &each);
+    release((one, map));
+    release(each);
+    done
+}
+
+fn parse_with<W: Write>(
+    out: &mut W,
+    quote: &mut Quote,
+    map: &mut SourceMap,
+    one: &TokenStream,
+    each: &[TokenStream],
+) -> Result<(), Fail> {
+    let holes = [Hole::one("one", one), Hole::each("each", each)];
     begin(out)?;
-    show(out, quote.parse(TEMPLATE, &mut map, &holes))?;
-    show_map(out, &map)?;
+    show(out, quote.parse(TEMPLATE, map, &holes))?;
+    show_map(out, map)?;
     Ok(())
 }
 
@@ -143,13 +214,34 @@ fn finish<W: Write>(out: &mut W, quote: &Quote) -> Result<(), Fail> {
 
 /// Returns a quote that shares its trees with no stream, and whose list has no room.
 fn x_and_group(alloc: Global) -> Result<Quote, Fail> {
-    let plus = TokenTree::Punct(Punct::new('+', Spacing::Joint));
-    let inside = TokenStream::from_trees(alloc, [plus, name(alloc, "y")?])?;
-    let group = TokenTree::Group(Group::new(Delimiter::Parenthesis, inside));
+    let (x, group) = both(name(alloc, "x"), group_of_y(alloc))?;
     let mut quote = Quote::new(alloc);
-    quote.push(name(alloc, "x")?)?;
-    quote.push(group)?;
-    Ok(quote)
+    match push_both(&mut quote, x, group) {
+        Ok(()) => Ok(quote),
+        Err(error) => {
+            release(quote);
+            Err(error)
+        }
+    }
+}
+
+/// Returns the group `(+ y)`, whose mark is Joint.
+fn group_of_y(alloc: Global) -> Result<TokenTree, Fail> {
+    let y = name(alloc, "y")?;
+    let plus = TokenTree::Punct(Punct::new('+', Spacing::Joint));
+    let inside = TokenStream::from_trees(alloc, [plus, y])?;
+    Ok(TokenTree::Group(Group::new(Delimiter::Parenthesis, inside)))
+}
+
+/// Pushes the two trees to the quote.
+fn push_both(quote: &mut Quote, first: TokenTree, second: TokenTree) -> Result<(), Fail> {
+    match quote.push(first) {
+        Ok(()) => Ok(quote.push(second)?),
+        Err(error) => {
+            release(second);
+            Err(Fail::from(error))
+        }
+    }
 }
 
 fn name(alloc: Global, text: &str) -> Result<TokenTree, Fail> {

@@ -2,7 +2,7 @@
 
 use crate::fails::Fail;
 use crate::shown::{show_stream, show_tree};
-use crate::watched::{begin, show};
+use crate::watched::{begin, begin_with, both, release, show};
 use proc_macro2::{SourceMap, TokenStream, TokenTree};
 use std::alloc::{AllocError, Global};
 use std::fmt::Display;
@@ -17,9 +17,20 @@ const BYTES: usize = 1_000;
 /// Prints the stream of the text, or walks over its trees.
 pub fn run<W: Write>(alloc: Global, out: &mut W, call: &str, text: &str) -> Result<(), Fail> {
     let stream = TokenStream::from_str(text, &mut SourceMap::new(alloc))?;
+    let done = read_twice(alloc, out, call, &stream);
+    release(stream);
+    done
+}
+
+fn read_twice<W: Write>(
+    alloc: Global,
+    out: &mut W,
+    call: &str,
+    stream: &TokenStream,
+) -> Result<(), Fail> {
     for _ in 0..2 {
-        read(alloc, out, call, &stream)?;
-        show_stream(out, &stream)?;
+        read(alloc, out, call, stream)?;
+        show_stream(out, stream)?;
     }
     Ok(())
 }
@@ -52,14 +63,14 @@ fn write_all<W: Write>(alloc: Global, out: &mut W, stream: &TokenStream) -> Resu
     let TokenTree::Group(group) = tree else {
         return Err(Fail::NoCase);
     };
-    let mut texts = (roomy(alloc)?, roomy(alloc)?, roomy(alloc)?);
-    begin(out)?;
+    let texts = both(both(roomy(alloc), roomy(alloc)), roomy(alloc))?;
+    let ((mut first, mut second), mut third) = begin_with(out, texts)?;
     let answers = (
-        is_written(&mut texts.0, stream),
-        is_written(&mut texts.1, tree),
-        is_written(&mut texts.2, group),
+        is_written(&mut first, stream),
+        is_written(&mut second, tree),
+        is_written(&mut third, group),
     );
-    show(out, (answers, texts))
+    show(out, (answers, (first, second, third)))
 }
 
 /// Appends the value to the text, and returns whether that succeeded.
@@ -67,17 +78,27 @@ fn is_written<D: Display>(text: &mut String, value: &D) -> bool {
     write!(text, "{value}").is_ok()
 }
 
-fn roomy(alloc: Global) -> Result<String, AllocError> {
-    String::with_capacity(alloc, BYTES)
+fn roomy(alloc: Global) -> Result<String, Fail> {
+    Ok(String::with_capacity(alloc, BYTES)?)
 }
 
 fn show_walk<W: Write>(alloc: Global, out: &mut W, stream: &TokenStream) -> Result<(), Fail> {
-    let mut trees = Vec::with_capacity(alloc, STEPS)?;
-    begin(out)?;
-    let failures = walk(stream, &mut trees)?;
+    let mut trees = begin_with(out, Vec::with_capacity(alloc, STEPS)?)?;
+    let done = show_steps(out, stream, &mut trees);
+    release(trees);
+    done
+}
+
+/// Walks over the stream, and writes how many steps failed and then its trees, for which the list has room.
+fn show_steps<'a, W: Write>(
+    out: &mut W,
+    stream: &'a TokenStream,
+    trees: &mut Vec<&'a TokenTree>,
+) -> Result<(), Fail> {
+    let failures = walk(stream, trees)?;
     show(out, failures)?;
-    for tree in trees {
-        show_tree(out, tree)?;
+    for tree in trees.iter() {
+        show_tree(out, *tree)?;
     }
     Ok(())
 }

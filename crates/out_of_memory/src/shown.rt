@@ -1,7 +1,7 @@
 //! Writes whole streams, trees and maps.
 
 use crate::fails::Fail;
-use crate::watched::{end, show};
+use crate::watched::{end, release, show};
 use pm_span::parts::span_of;
 use proc_macro2::{SourceMap, Span, TokenStream, TokenTree};
 use std::fmt::Debug;
@@ -18,12 +18,19 @@ pub fn show_made<W: Write, E: Debug + Drop>(
 ) -> Result<(), Fail> {
     match made {
         Ok(stream) => {
-            end(out)?;
-            out.write_all(b"Ok\n")?;
-            show_stream(out, &stream)
+            let done = show_ok(out, &stream);
+            release(stream);
+            done
         }
         Err(error) => show(out, error),
     }
+}
+
+/// Writes the line after a call, and the stream that it made.
+fn show_ok<W: Write>(out: &mut W, stream: &TokenStream) -> Result<(), Fail> {
+    end(out)?;
+    out.write_all(b"Ok\n")?;
+    show_stream(out, stream)
 }
 
 /// Writes what the stream prints, and a line for each of its trees, where each group comes before the trees inside it.

@@ -1,7 +1,7 @@
 //! Calls whose results do not depend on the memory that there is. Most of them allocate none.
 
 use crate::fails::Fail;
-use crate::watched::{begin, show};
+use crate::watched::{begin, begin_with, both, release, show};
 use proc_macro2::rustc_literal_escaper::{
     MixedUnit, Mode, check_for_errors, check_raw_byte_str, check_raw_c_str, check_raw_str,
     unescape_byte, unescape_byte_str, unescape_c_str, unescape_char, unescape_str,
@@ -48,10 +48,13 @@ fn parse_text(alloc: Global, text: &str) -> Result<TokenStream, ParseError> {
     TokenStream::from_str(text, &mut SourceMap::new(alloc))
 }
 
+fn read(alloc: Global, text: &str) -> Result<TokenStream, Fail> {
+    Ok(parse_text(alloc, text)?)
+}
+
 fn ask_streams<W: Write>(alloc: Global, out: &mut W, text: &str) -> Result<(), Fail> {
-    let stream = parse_text(alloc, text)?;
-    let other = parse_text(alloc, text)?;
-    begin(out)?;
+    let streams = both(read(alloc, text), read(alloc, text))?;
+    let (stream, other) = begin_with(out, streams)?;
     let answers = (
         TokenStream::new(alloc).is_empty(),
         stream.is_empty(),
@@ -59,18 +62,42 @@ fn ask_streams<W: Write>(alloc: Global, out: &mut W, text: &str) -> Result<(), F
         stream.is_well_spaced(),
         stream.same_tokens(&other),
     );
+    release((stream, other));
     show(out, answers)
 }
 
 fn ask_maps<W: Write>(alloc: Global, out: &mut W, text: &str) -> Result<(), Fail> {
     let mut map = SourceMap::new(alloc);
-    let stream = TokenStream::from_str(text, &mut map)?;
-    let Some(tree) = stream.trees().first() else {
-        return Err(Fail::NoCase);
+    let done = match TokenStream::from_str(text, &mut map) {
+        Ok(stream) => ask_map(alloc, out, &mut map, stream),
+        Err(error) => Err(Fail::from(error)),
     };
-    let span = tree.span();
-    begin(out)?;
-    show(out, asked_of_maps(alloc, &mut map, span))
+    release(map);
+    done
+}
+
+fn ask_map<W: Write>(
+    alloc: Global,
+    out: &mut W,
+    map: &mut SourceMap,
+    stream: TokenStream,
+) -> Result<(), Fail> {
+    let span = first_span(&stream);
+    release(stream);
+    match span {
+        Some(span) => {
+            begin(out)?;
+            show(out, asked_of_maps(alloc, map, span))
+        }
+        None => Err(Fail::NoCase),
+    }
+}
+
+fn first_span(stream: &TokenStream) -> Option<Span> {
+    match stream.trees().first() {
+        Some(tree) => Some(tree.span()),
+        None => None,
+    }
 }
 
 fn asked_of_maps(alloc: Global, map: &mut SourceMap, span: Span) -> (bool, bool, bool, bool) {
@@ -88,10 +115,11 @@ fn asked_of_maps(alloc: Global, map: &mut SourceMap, span: Span) -> (bool, bool,
 
 fn ask_spans<W: Write>(alloc: Global, out: &mut W, text: &str) -> Result<(), Fail> {
     let stream = parse_text(alloc, text)?;
-    let [first, .., last] = stream.trees() else {
+    let ends = end_spans(&stream);
+    release(stream);
+    let Some((first, last)) = ends else {
         return Err(Fail::NoCase);
     };
-    let (first, last) = (first.span(), last.span());
     begin(out)?;
     let answers = (
         Span::call_site(),
@@ -106,32 +134,64 @@ fn ask_spans<W: Write>(alloc: Global, out: &mut W, text: &str) -> Result<(), Fai
     show(out, answers)
 }
 
+/// Returns the spans of the first and the last tree of a stream with at least two trees.
+fn end_spans(stream: &TokenStream) -> Option<(Span, Span)> {
+    match stream.trees() {
+        [first, .., last] => Some((first.span(), last.span())),
+        _ => None,
+    }
+}
+
 fn look_up<W: Write>(alloc: Global, out: &mut W, text: &str) -> Result<(), Fail> {
     let mut map = SourceMap::new(alloc);
-    let stream = TokenStream::from_str(text, &mut map)?;
-    let [first, .., last] = stream.trees() else {
+    let done = match TokenStream::from_str(text, &mut map) {
+        Ok(stream) => {
+            let ends = end_spans(&stream);
+            release(stream);
+            look_up_last(out, &mut map, ends)
+        }
+        Err(error) => Err(Fail::from(error)),
+    };
+    release(map);
+    done
+}
+
+/// Looks up the second span, and joins it with the first.
+fn look_up_last<W: Write>(
+    out: &mut W,
+    map: &mut SourceMap,
+    spans: Option<(Span, Span)>,
+) -> Result<(), Fail> {
+    let Some((first, last)) = spans else {
         return Err(Fail::NoCase);
     };
-    let (first, last) = (first.span(), last.span());
     if !map.holds(last) {
         return Err(Fail::NoCase);
     }
     begin(out)?;
-    let ends: (LineColumn, LineColumn) = (last.start(&map), last.end(&map));
-    let bytes = last.byte_range(&mut map);
-    let joined = last.join(first, &map);
+    let ends: (LineColumn, LineColumn) = (last.start(map), last.end(map));
+    let bytes = last.byte_range(map);
+    let joined = last.join(first, map);
     show(out, (ends, ends.0 < ends.1, bytes, joined))?;
-    writeln!(out, "{:?}", last.source_str(&map))?;
+    writeln!(out, "{:?}", last.source_str(map))?;
     Ok(())
 }
 
 fn ask_groups<W: Write>(alloc: Global, out: &mut W, text: &str) -> Result<(), Fail> {
-    let stream = parse_text(alloc, text)?;
-    let Some(TokenTree::Group(group)) = stream.trees().first() else {
-        return Err(Fail::NoCase);
+    let (stream, inside) = both(read(alloc, text), read(alloc, text))?;
+    let done = match stream.trees().first() {
+        Some(TokenTree::Group(group)) => ask_group(out, group, inside),
+        _ => {
+            release(inside);
+            Err(Fail::NoCase)
+        }
     };
-    let inside = parse_text(alloc, text)?;
-    begin(out)?;
+    release(stream);
+    done
+}
+
+fn ask_group<W: Write>(out: &mut W, group: &Group, inside: TokenStream) -> Result<(), Fail> {
+    let inside = begin_with(out, inside)?;
     show(out, asked_of_a_group(group, inside))
 }
 
@@ -175,11 +235,19 @@ fn ask_marks<W: Write>(out: &mut W) -> Result<(), Fail> {
 }
 
 fn ask_names<W: Write>(alloc: Global, out: &mut W, text: &str) -> Result<(), Fail> {
-    let mut name = Ident::new(alloc, text, Span::call_site())?;
-    let raw = Ident::new_raw(alloc, text, Span::call_site())?;
-    begin(out)?;
+    let names = both(plain_name(alloc, text), raw_name(alloc, text))?;
+    let (mut name, raw) = begin_with(out, names)?;
     let answers = asked_of_names(&mut name, &raw, text);
+    release(raw);
     show(out, (answers, TokenTree::from(name)))
+}
+
+fn plain_name(alloc: Global, name: &str) -> Result<Ident, Fail> {
+    Ok(Ident::new(alloc, name, Span::call_site())?)
+}
+
+fn raw_name(alloc: Global, name: &str) -> Result<Ident, Fail> {
+    Ok(Ident::new_raw(alloc, name, Span::call_site())?)
 }
 
 fn asked_of_names(
@@ -210,8 +278,8 @@ fn compare_idents(name: &Ident, raw: &Ident) -> (bool, bool, Ordering, bool) {
 }
 
 fn ask_literals<W: Write>(alloc: Global, out: &mut W, text: &str) -> Result<(), Fail> {
-    let mut literal = Literal::from_str(text, &mut SourceMap::new(alloc))?;
-    begin(out)?;
+    let literal = Literal::from_str(text, &mut SourceMap::new(alloc))?;
+    let mut literal = begin_with(out, literal)?;
     let part = literal.subspan(Bound::Included(1), Bound::Excluded(3));
     let span = literal.span();
     literal.set_span(Span::call_site());
@@ -229,9 +297,11 @@ fn ask_literals<W: Write>(alloc: Global, out: &mut W, text: &str) -> Result<(), 
 }
 
 fn ask_iterators<W: Write>(alloc: Global, out: &mut W, text: &str) -> Result<(), Fail> {
-    let mut trees = parse_text(alloc, text)?.into_iter()?;
-    begin(out)?;
-    show(out, two_taken(&mut trees))
+    let trees = parse_text(alloc, text)?.into_iter()?;
+    let mut trees = begin_with(out, trees)?;
+    let taken = two_taken(&mut trees);
+    release(trees);
+    show(out, taken)
 }
 
 type Hint = (usize, Option<usize>);
