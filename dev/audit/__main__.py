@@ -30,7 +30,7 @@ PACKAGES = [TOP / 'cargo/proved-tokens', TOP / 'cargo/tokens', TOP / 'dev/worklo
 LIBRARY = TOP / 'cargo/proved-tokens/src'
 PAGE = LIBRARY / 'contracts.rs'
 # What isn't erased: tests within the library, what is for them alone, tests of sizes, and each `main`.
-LEFT_OUT = {'tests.rt', 'failing.rt', 'sizes.rt', 'main.rt'}
+LEFT_OUT = {'failing.rt', 'sizes.rt', 'main.rt'}
 # By hand too: errors whose text and conversions a derive of the toolchain writes.
 BY_HAND = {'crates/workloads/src/fails.rt'}
 KNOWN = pathlib.Path(__file__).parent / 'whitelist.txt'
@@ -272,7 +272,8 @@ def missing(sources):
     """The sources of the crates that were made, of which no file was made."""
     crates = {source.relative_to(TOP).parts[1] for source in sources}
     every = {path for crate in crates for path in (TOP / 'crates' / crate / 'src').rglob('*.rt')
-             if path.name not in LEFT_OUT and 'tests' not in path.relative_to(TOP).parts}
+             if path.name not in LEFT_OUT
+             and (crate.endswith('_tests') or 'tests' not in path.relative_to(TOP).with_suffix('').parts)}
     return sorted({str(path.relative_to(TOP)) for path in every - sources} - BY_HAND)
 
 

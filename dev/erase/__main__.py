@@ -39,15 +39,15 @@ TESTED = ['conformance']
 # The record of pretty texts, which another takes.
 RECORDED = ['pretty_printer_tests']
 # The library's own tests, and the lexer once more with what compares the two, which another test of the package takes.
-OWN_TESTS = ['lexical_tests', 'pm_token_tests', 'pm_stream_tests', 'token_buffer_tests', 'quoting_tests',
-             'declarations_tests', 'item_headers_tests']
+OWN_TESTS = ['test_helpers', 'lexical_tests', 'pm_token_tests', 'pm_stream_tests', 'token_buffer_tests',
+             'quoting_tests', 'declarations_tests', 'item_headers_tests']
 # The programs, and the library that they share.
 PROGRAMS = ['messages', 'tokens', 'highlight', 'find_calls', 'pretty', 'rust_check', 'same', 'indent', 'outline']
 # The jobs that bench/run times, which become a package of their own: nobody installs them.
 JOBS = ['workloads']
 # What isn't erased: tests within the library, what is for them alone, tests of how many bytes a value takes in Rattle,
 # and each `main`, which is by hand.
-LEFT_OUT = {'tests.rt', 'failing.rt', 'sizes.rt', 'main.rt'}
+LEFT_OUT = {'failing.rt', 'sizes.rt', 'main.rt'}
 # By hand too: errors whose text and conversions a derive of the toolchain writes.
 BY_HAND = {'crates/workloads/src/fails.rt'}
 
@@ -80,7 +80,9 @@ def headed(file, source):
 
 
 def is_left_out(path):
-    return path.name in LEFT_OUT or 'tests' in path.parts or str(path) in BY_HAND
+    """Whether a source is not erased. Of a crate of tests, the module `tests` is."""
+    is_tests = 'tests' in path.with_suffix('').parts and not path.parts[1].endswith('_tests')
+    return path.name in LEFT_OUT or is_tests or str(path) in BY_HAND
 
 
 def erase_all(crates, below, target, counts, problems, names=known.OF_LIBRARY, top=TOP, words=None):

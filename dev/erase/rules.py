@@ -249,9 +249,12 @@ def tests(file):
         => fn one() {}
     """
     goes = set()
+    # All modules of a crate of tests are in its module `tests`, which stays.
+    forms = ['mod sizes ;'] if file.crate.endswith('_tests') else [f'# [ cfg ( test ) ] mod {name} ;'
+                                                                  for name in ('tests', 'sizes')]
     for at, token in enumerate(file.tokens):
-        for name in ('tests', 'sizes'):
-            for end in found(file.tokens, at, f'# [ cfg ( test ) ] mod {name} ;'):
+        for form in forms:
+            for end in found(file.tokens, at, form):
                 goes |= set(range(at, end + 1))
                 file.count('tests')
         for end in found(file.tokens, at, '# [ cfg ( test ) ] mod tests {'):

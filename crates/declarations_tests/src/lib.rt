@@ -2,36 +2,4 @@
 #![tactic(auto)]
 
 #[cfg(test)]
-mod any_items;
-#[cfg(test)]
-mod attributes;
-#[cfg(test)]
-mod checks;
-#[cfg(test)]
-mod compile_errors;
-#[cfg(test)]
-mod endings;
-#[cfg(test)]
-mod entries;
-#[cfg(test)]
-mod expected;
-#[cfg(test)]
-mod files;
-#[cfg(test)]
-mod function;
-#[cfg(test)]
-mod generic_arguments;
-#[cfg(test)]
-mod generics;
-#[cfg(test)]
-mod impls;
-#[cfg(test)]
-mod items;
-#[cfg(test)]
-mod lists;
-#[cfg(test)]
-mod parameters;
-#[cfg(test)]
-mod parts;
-#[cfg(test)]
-mod type_paths;
+mod tests;

@@ -3,12 +3,4 @@
 #![tactic(auto)]
 
 #[cfg(test)]
-mod checks;
-#[cfg(test)]
-mod choosers;
-#[cfg(test)]
-mod doc_comments;
-#[cfg(test)]
-mod random_gaps;
-#[cfg(test)]
-mod rows;
+mod tests;

@@ -5,18 +5,4 @@
 #![tactic(auto)]
 
 #[cfg(test)]
-mod answers;
-#[cfg(test)]
-mod checks;
-#[cfg(test)]
-mod plain;
-#[cfg(test)]
-mod random;
-#[cfg(test)]
-mod random_maps;
-#[cfg(test)]
-mod recorded;
-#[cfg(test)]
-mod sweeps;
-#[cfg(test)]
-mod texts;
+mod tests;

@@ -2,14 +2,4 @@
 #![tactic(auto)]
 
 #[cfg(test)]
-mod checks;
-#[cfg(test)]
-mod random_trees;
-#[cfg(test)]
-mod rows;
-#[cfg(test)]
-mod templates;
-#[cfg(test)]
-mod trees;
-#[cfg(test)]
-mod values;
+mod tests;

@@ -4,8 +4,4 @@
 #![tactic(auto)]
 
 #[cfg(test)]
-mod checks;
-#[cfg(test)]
-mod cursors;
-#[cfg(test)]
-mod openers;
+mod tests;

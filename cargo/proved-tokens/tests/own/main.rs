@@ -11,5 +11,6 @@ mod pm_token_tests;
 #[cfg(feature = "quoting")]
 mod quoting_tests;
 mod shim;
+mod test_helpers;
 #[cfg(all(feature = "token_buffer", feature = "explain"))]
 mod token_buffer_tests;

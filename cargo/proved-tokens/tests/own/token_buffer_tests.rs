@@ -4,8 +4,4 @@
 //! They are in a crate of their own, because a crate that has tests is proved a second time with them.
 
 #[cfg(test)]
-mod checks;
-#[cfg(test)]
-mod cursors;
-#[cfg(test)]
-mod openers;
+mod tests;

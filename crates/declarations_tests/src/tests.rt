@@ -1,0 +1,18 @@
+//! The tests by their subjects, and what they share.
+mod any_items;
+mod attributes;
+mod checks;
+mod compile_errors;
+mod endings;
+mod entries;
+mod expected;
+mod files;
+mod function;
+mod generic_arguments;
+mod generics;
+mod impls;
+mod items;
+mod lists;
+mod parameters;
+mod parts;
+mod type_paths;

@@ -1,0 +1,7 @@
+//! The tests by their subjects, and what they share.
+mod checks;
+mod random_trees;
+mod rows;
+mod templates;
+mod trees;
+mod values;
