@@ -23,7 +23,7 @@ TOOLCHAIN_CRATES = {'hex', 'itoa', 'memchr', 'ucd_category', 'ucd_derived', 'ucd
 METHODS = set('''
     abs_diff all and_then any append as_bytes as_mut_slice as_slice as_str
     bytes capacity checked_add checked_mul checked_sub chars clear clone cmp collect contains copy_from_slice count
-    copied debug_list debug_struct encode_utf8 entry escape_unicode extend_from_slice
+    copied debug_list debug_struct encode_utf8 ends_with entry escape_unicode extend_from_slice
     field filter find finish first first_chunk fmt format from_mut get get_mut hash
     ilog10 insert into_bytes into_iter into_string is_ascii is_ascii_alphabetic is_ascii_alphanumeric is_ascii_digit
     is_ascii_hexdigit is_char_boundary is_digit is_empty is_err is_none is_ok is_some is_whitespace iter iter_mut

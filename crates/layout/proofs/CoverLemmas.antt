@@ -1,16 +1,18 @@
 -- A layout of a well spaced stream, as a cover of its text.
 use Rattle.std.proofs.Common.{◌≡◌, ℕ, Bool, true, false, not, ◌&&◌, ◌==◌, List, [], ◌∷◌, ◌++◌}
-use Rattle.std.proofs.Common.{refl, sym, ap, ap₂, ◌∙◌, subst, inl, inr, append-nil, eqb-true}
+use Rattle.std.proofs.Common.{refl, sym, ap, ◌∙◌, subst, inl, inr, append_assoc, append-nil, eqb-true}
 use Rattle.std.specs.Prelude.{if◌then◌else◌}
 use Rattle.std.specs.List.{list_all}
 use Rattle.std.proofs.lemmas.Bool.{both_ways, cond-true, cond-false, and_parts, and_from, cases_Bool, not-true}
-use Rattle.std.proofs.lemmas.Bool.{and_left, eqb-false, or_cases}
-use Rattle.lexical.specs.Class.{is_white, is_ident_continue}
-use Rattle.lexical.specs.Text.{begins_any, first_passes}
+use Rattle.std.proofs.lemmas.Bool.{and_right, eqb-false, or_cases}
+use Rattle.lexical.specs.Class.{is_white}
+use Rattle.lexical.specs.Number.{bars_dot}
+use Rattle.lexical.specs.Text.{begins_any, ends_with, first_passes}
 use Rattle.lexical.specs.Token.{Token, Name, Mark, Literal, token_text}
 use Rattle.lexical.specs.Mark.{is_mark, comment_fronts, bars_quote, FollowsQuote}
 use Rattle.lexical.specs.Piece.{Piece, Gap, Open, Close, Leaf, Stands, IsPiece}
 use Rattle.lexical.specs.Cover.{onto, StandBefore, IsCover}
+use Rattle.lexical.proofs.TextLemmas.{first_more}
 use Rattle.grammar_laws.proofs.LeafLaws.{prefixed_follows, literal_first}
 use Rattle.grammar_laws.proofs.StableLemmas.{stops_within}
 use Rattle.pm_token.specs.declared.delimiters.Delimiter.{Delimiter}
@@ -30,8 +32,8 @@ use Rattle.proc_macro2.proofs.PrintedCover.{stand_close, events_of_open, events_
 use Rattle.proc_macro2.proofs.Returns.{next_event, events_fit, events_fit-flat}
 use Rattle.layout.specs.Layout.{parts_name, parts_from, event_text, goes_on, must_part, is_joint, may_part, Laid}
 use Rattle.layout.specs.Layout.{laid_onto}
-use Rattle.layout.specs.Layout.{begins_range, is_dot, is_plain}
-use Rattle.layout.proofs.RangeLemmas.{range_stands}
+use Rattle.layout.specs.Layout.{frees_dot, is_digits, is_dot, laid_front, leaves_dot}
+use Rattle.layout.proofs.DotLemmas.{dot_stands}
 use Rattle.layout.specs.Layout.{events_of, IsGap, AreGaps, may_follow, keeps_apart, IsLayout}
 use Rattle.layout.proofs.TokenLemmas.{bars_parts, name_stands, alone_stands, literal_stands, white_parts}
 
@@ -130,19 +132,19 @@ first_of_front : (class : ℕ → Bool) (p r : List ℕ) → is_some p ≡ true 
 first_of_front class [] r some none = absurd (both_ways false refl some)
 first_of_front class (c ∷ p) r some none = none
 
--- whether a plain literal precedes the two dots of a range
-abbrev ranges : Event → List Laid → Bool
-ranges before [] = false
-ranges before (x ∷ xs) = is_plain before && begins_range x.1 (events_of xs)
+-- whether a dot follows that does not extend the event
+abbrev pub leaves_next : Event → List Laid → Bool
+leaves_next before [] = false
+leaves_next before (x ∷ xs) = is_dot x.1 && leaves_dot before (laid_front xs)
 
-no_range : (token : Token) (lo hi : ℕ) (xs : List Laid) → is_plain (One token lo hi) ≡ false
-    → ranges (One token lo hi) xs ≡ false
-no_range token lo hi [] other = refl
-no_range token lo hi (x ∷ xs) other = and_left (is_plain (One token lo hi)) _ other
+leaves_none : (token : Token) (lo hi : ℕ) (xs : List Laid)
+    → ((later : List ℕ) → leaves_dot (One token lo hi) later ≡ false) → leaves_next (One token lo hi) xs ≡ false
+leaves_none token lo hi [] none = refl
+leaves_none token lo hi (x ∷ xs) none = and_right (is_dot x.1) _ (none (laid_front xs))
 
--- the text after a token does not extend it, if the token is not Joint and is no plain literal before a range
+-- the text after a token does not extend it, if the token is not Joint and no dot follows that may touch it
 calm_after : (token : Token) (lo hi : ℕ) (xs : List Laid) (last : List ℕ) → is_joint (One token lo hi) ≡ false
-    → ranges (One token lo hi) xs ≡ false
+    → leaves_next (One token lo hi) xs ≡ false
     → AreWritten (events_of xs) → AreGaps xs → IsGap last → may_follow (One token lo hi) xs ≡ true
     → first_passes (parts_from token) (onto (laid_pieces xs last) []) ≡ false
 calm_after token lo hi [] last alone other written gaps end kept =
@@ -151,70 +153,79 @@ calm_after token lo hi (x ∷ xs) last alone other written gaps end kept =
     out_gap (parts_from token) (white_parts token) x.0 (event_piece x.1 ∷ laid_pieces xs last) gaps.0
     (λ none. ap (λ t. first_passes (parts_from token) (t ++ onto (laid_pieces xs last) [])) (event_is x.1)
     ∙ first_of_front (parts_from token) (event_text x.1) (onto (laid_pieces xs last) []) (event_some x.1 written.0)
-    (not_parted (One token lo hi) x.0 x.1 (events_of xs) none alone other kept))
+    (not_parted (One token lo hi) x.0 x.1 (laid_front xs) none alone other kept))
   where
-    by_range : (goes range : Bool) → range ≡ false → (goes && not range) ≡ false → goes ≡ false
-    by_range false range other free = refl
-    by_range true false other free = free
-    by_range true true other free = other
+    by_dot : (goes leaves : Bool) → leaves ≡ false → (goes && not leaves) ≡ false → goes ≡ false
+    by_dot false leaves other free = refl
+    by_dot true false other free = free
+    by_dot true true other free = other
 
-    not_parted : (before : Event) (gap : List ℕ) (next : Event) (later : List Event) → gap ≡ []
-        → is_joint before ≡ false → (is_plain before && begins_range next later) ≡ false
+    not_parted : (before : Event) (gap : List ℕ) (next : Event) (later : List ℕ) → gap ≡ []
+        → is_joint before ≡ false → (is_dot next && leaves_dot before later) ≡ false
         → may_part before gap next later ≡ true → goes_on before (event_text next) ≡ false
     not_parted before [] next later none alone other kept =
         elim (or_cases (is_joint before) (not (must_part before next later)) kept) [
           | inl joint ↦ absurd (both_ways _ alone joint)
-          | inr free ↦ by_range _ _ other (not-true (must_part before next later) free)
+          | inr free ↦ by_dot _ _ other (not-true (must_part before next later) free)
         ]
     not_parted before (c ∷ gap) next later none alone other kept = absurd (cc)
 
--- the text of a range's dots: nothing is between them, since the first is Joint
-dots_text : (e : Event) (xs : List Laid) (last : List ℕ) → begins_range e (events_of xs) ≡ true
-    → may_follow e xs ≡ true → (r : List ℕ) × (onto (event_piece e ∷ laid_pieces xs last) [] ≡ 46 ∷ 46 ∷ r)
-dots_text (One (Name raw name) lo hi) xs last range next = absurd (both_ways false refl range)
-dots_text (One (Mark c false) lo hi) xs last range next = absurd (both_ways false refl range)
-dots_text (One (Mark c true) lo hi) [] last range next =
-    absurd (both_ways false refl (and_parts (c == 46) false range).1)
-dots_text (One (Mark c true) lo hi) (x ∷ xs) last range next = by_gap x.0 x.1 range next
+-- the text after a token that no dot may touch does not extend it, if the token is not Joint
+calm_apart : (token : Token) (lo hi : ℕ) (xs : List Laid) (last : List ℕ) → is_joint (One token lo hi) ≡ false
+    → ((later : List ℕ) → leaves_dot (One token lo hi) later ≡ false)
+    → AreWritten (events_of xs) → AreGaps xs → IsGap last → may_follow (One token lo hi) xs ≡ true
+    → first_passes (parts_from token) (onto (laid_pieces xs last) []) ≡ false
+calm_apart token lo hi xs last alone none =
+    calm_after token lo hi xs last alone (leaves_none token lo hi xs none)
+
+-- the text of a dot and of what follows it
+dot_text : (e : Event) (ps : List Piece) → is_dot e ≡ true → onto (event_piece e ∷ ps) [] ≡ 46 ∷ onto ps []
+dot_text (One (Mark c joint) lo hi) ps dot = ap (λ x. x ∷ onto ps []) (eqb-true c 46 dot)
+dot_text (One (Name raw name) lo hi) ps dot = absurd (both_ways false refl dot)
+dot_text (One (Literal text) lo hi) ps dot = absurd (both_ways false refl dot)
+dot_text (Opens d lo) ps dot = absurd (both_ways false refl dot)
+dot_text (Closes d hi) ps dot = absurd (both_ways false refl dot)
+
+-- the first event with its gap is how the whole text begins
+front_bars : (xs : List Laid) (last : List ℕ) → first_passes bars_dot (laid_front xs) ≡ true
+    → first_passes bars_dot (laid_onto xs last) ≡ true
+front_bars [] last bars = absurd (both_ways false refl bars)
+front_bars (x ∷ xs) last bars =
+    ap (first_passes bars_dot) (sym (append_assoc x.0 (event_text x.1) (laid_onto xs last)))
+    ∙ first_more bars_dot (x.0 ++ event_text x.1) (laid_onto xs last) bars
+
+-- the dot is also free before the whole text after it
+frees_whole : (text : List ℕ) (xs : List Laid) (last : List ℕ) → frees_dot text (laid_front xs) ≡ true
+    → frees_dot text (onto (laid_pieces xs last) []) ≡ true
+frees_whole text xs last free = by_digits (is_digits text) free
   where
-    by_gap : (gap : List ℕ) (f : Event) → ((c == 46) && is_dot f) ≡ true
-        → may_part (One (Mark c true) lo hi) gap f (events_of xs) ≡ true
-        → (r : List ℕ) × ((c ∷ onto (gap_pieces gap (event_piece f ∷ laid_pieces xs last)) []) ≡ 46 ∷ 46 ∷ r)
-    by_gap (w ∷ gap) f range next = absurd (both_ways false refl next)
-    by_gap [] (One (Mark d joint) a b) range next =
-        let both = and_parts (c == 46) (d == 46) range in (
-          onto (laid_pieces xs last) [],
-          ap₂ (λ x y. x ∷ y ∷ onto (laid_pieces xs last) []) (eqb-true c 46 both.0) (eqb-true d 46 both.1),
-        )
-    by_gap [] (One (Name raw name) a b) range next = absurd (both_ways false refl (and_parts (c == 46) false range).1)
-    by_gap [] (One (Literal text) a b) range next = absurd (both_ways false refl (and_parts (c == 46) false range).1)
-    by_gap [] (Opens d a) range next = absurd (both_ways false refl (and_parts (c == 46) false range).1)
-    by_gap [] (Closes d b) range next = absurd (both_ways false refl (and_parts (c == 46) false range).1)
-dots_text (One (Literal text) lo hi) xs last range next = absurd (both_ways false refl range)
-dots_text (Opens d lo) xs last range next = absurd (both_ways false refl range)
-dots_text (Closes d hi) xs last range next = absurd (both_ways false refl range)
+    by_digits : (digits : Bool)
+        → (if digits then first_passes bars_dot (laid_front xs) else not (ends_with 46 text)) ≡ true
+        → (if digits then first_passes bars_dot (onto (laid_pieces xs last) []) else not (ends_with 46 text)) ≡ true
+    by_digits true bars = ap (first_passes bars_dot) (onto_laid xs last) ∙ front_bars xs last bars
+    by_digits false ends = ends
 
 -- a literal is a token before what may follow it
 literal_there : (text : List ℕ) (lo hi : ℕ) (xs : List Laid) (last : List ℕ) → IsBuiltToken (Literal text)
     → AreWritten (events_of xs) → AreGaps xs → IsGap last → may_follow (One (Literal text) lo hi) xs ≡ true
-    → keeps_apart xs ≡ true → Stands (Literal text) (onto (laid_pieces xs last) [])
-literal_there text lo hi [] last built written gaps end next kept =
+    → Stands (Literal text) (onto (laid_pieces xs last) [])
+literal_there text lo hi [] last built written gaps end next =
     literal_stands text _ built (calm_after (Literal text) lo hi [] last refl refl written gaps end next)
-literal_there text lo hi (x ∷ xs) last built written gaps end next kept =
-    elim (cases_Bool (is_plain (One (Literal text) lo hi) && begins_range x.1 (events_of xs))) [
-      | inl range ↦
-          let both = and_parts (list_all is_ident_continue text) (begins_range x.1 (events_of xs)) range in
-          by_gap x.0 x.1 gaps.0 both.0 both.1 (and_parts (may_follow x.1 xs) (keeps_apart xs) kept).0
+literal_there text lo hi (x ∷ xs) last built written gaps end next =
+    elim (cases_Bool (is_dot x.1 && frees_dot text (laid_front xs))) [
+      | inl free ↦
+          let both = and_parts (is_dot x.1) (frees_dot text (laid_front xs)) free in
+          by_gap x.0 x.1 gaps.0 both.0 both.1
       | inr other ↦
           literal_stands text _ built (calm_after (Literal text) lo hi (x ∷ xs) last refl other written gaps end next)
     ]
   where
-    by_gap : (gap : List ℕ) (e : Event) → IsGap gap → list_all is_ident_continue text ≡ true
-        → begins_range e (events_of xs) ≡ true → may_follow e xs ≡ true
+    by_gap : (gap : List ℕ) (e : Event) → IsGap gap → is_dot e ≡ true → frees_dot text (laid_front xs) ≡ true
         → Stands (Literal text) (onto (gap_pieces gap (event_piece e ∷ laid_pieces xs last)) [])
-    by_gap [] e white plain range follow =
-        let dots = dots_text e xs last range follow in range_stands text dots.0 _ built plain dots.1
-    by_gap (c ∷ gap) e white plain range follow =
+    by_gap [] e white dot free =
+        dot_stands text (onto (laid_pieces xs last) []) _ built (frees_whole text xs last free)
+        (dot_text e (laid_pieces xs last) dot)
+    by_gap (c ∷ gap) e white dot free =
         literal_stands text _ built (white_parts (Literal text) c
         (and_parts (is_white c) (list_all is_white gap) white).0)
 
@@ -263,7 +274,7 @@ quote_stands (One (Name true name) lo hi) xs last written gaps end kept fit h = 
   named = h.1.0;
   unbarred =
       stops_within (bars_quote true) parts_name (bars_parts true) (onto (laid_pieces xs last) [])
-      (calm_after (Name true name) lo hi xs last refl (no_range (Name true name) lo hi xs refl) written gaps end kept);
+      (calm_apart (Name true name) lo hi xs last refl (λ later. refl) written gaps end kept);
 }
 quote_stands (One (Name false name) lo hi) xs last written gaps end kept fit h = record {
   raw = false;
@@ -273,8 +284,7 @@ quote_stands (One (Name false name) lo hi) xs last written gaps end kept fit h =
   named = h.1.0;
   unbarred =
       stops_within (bars_quote false) parts_name (bars_parts false) (onto (laid_pieces xs last) [])
-      (calm_after (Name false name) lo hi xs last refl (no_range (Name false name) lo hi xs refl)
-      written gaps end kept);
+      (calm_apart (Name false name) lo hi xs last refl (λ later. refl) written gaps end kept);
 }
 quote_stands (One (Mark d joint) lo hi) xs last written gaps end kept fit h = absurd (both_ways false refl fit)
 quote_stands (One (Literal text) lo hi) xs last written gaps end kept fit h =
@@ -311,7 +321,7 @@ joint_fits c lo hi [] last m fit written gaps end next kept h = absurd (nothing_
 joint_fits c lo hi (x ∷ xs) last m fit written gaps end next kept h =
     by_gap x.0 x.1 next fit written (and_parts (may_follow x.1 xs) (keeps_apart xs) kept).0 h
   where
-    by_gap : (gap : List ℕ) (e : Event) → may_part (One (Mark c true) lo hi) gap e (events_of xs) ≡ true
+    by_gap : (gap : List ℕ) (e : Event) → may_part (One (Mark c true) lo hi) gap e (laid_front xs) ≡ true
         → fits (Mark c true) (next_event (e ∷ events_of xs)) ≡ true → AreWritten (e ∷ events_of xs)
         → may_follow e xs ≡ true
         → StandBefore false (gap_pieces gap (event_piece e ∷ laid_pieces xs last)) []
@@ -335,20 +345,19 @@ stand_event : (b : Bool) (e : Event) (xs : List Laid) (last : List ℕ) → AreW
 stand_event b (One (Name raw name) lo hi) xs last written gaps end w next kept h = (
   refl,
   name_stands raw name _ written.0
-      (calm_after (Name raw name) lo hi xs last refl (no_range (Name raw name) lo hi xs refl) written.1 gaps end next),
+      (calm_apart (Name raw name) lo hi xs last refl (λ later. refl) written.1 gaps end next),
 )
 stand_event b (One (Mark c false) lo hi) xs last written gaps end w next kept h =
     let fit = (and_parts (fits (Mark c false) (next_event (events_of xs))) (events_fit (events_of xs)) w).0 in (
       refl,
       alone_stands c _ written.0 (eqb-false c 39 (not-true (c == 39) fit))
-          (calm_after (Mark c false) lo hi xs last refl (no_range (Mark c false) lo hi xs refl) written.1 gaps end
-          next),
+          (calm_apart (Mark c false) lo hi xs last refl (λ later. refl) written.1 gaps end next),
     )
 stand_event b (One (Mark c true) lo hi) xs last written gaps end w next kept h =
     let fit = (and_parts (fits (Mark c true) (next_event (events_of xs))) (events_fit (events_of xs)) w).0 in
     (refl, joint_fits c lo hi xs last written.0 fit written.1 gaps end next kept h)
 stand_event b (One (Literal text) lo hi) xs last written gaps end w next kept h =
-    (refl, literal_there text lo hi xs last written.0 written.1 gaps end next kept)
+    (refl, literal_there text lo hi xs last written.0 written.1 gaps end next)
 stand_event b (Opens d lo) xs last written gaps end w next kept h =
     stand_open d b (onto (laid_pieces xs last) []) written.0 (λ round. plain_inside xs last gaps end h)
 stand_event b (Closes d hi) xs last written gaps end w next kept h =

@@ -1,5 +1,5 @@
 -- Where white space is needed: one pair of each kind that must be parted, and one that need not be parted.
-use Rattle.std.proofs.Common.{◌≡◌, true, false, [], ◌∷◌, codes, refl}
+use Rattle.std.proofs.Common.{◌≡◌, true, false, [], codes, refl}
 use Rattle.unicode_ident.proofs.Computing.{unicode_ident}
 use Rattle.lexical.specs.Token.{Token, Name, Mark, Literal}
 use Rattle.pm_token.specs.declared.delimiters.Delimiter.TheVariants.{Parenthesis}
@@ -25,16 +25,33 @@ name_dot : must_part (one (Name false (codes "a"))) (one (Mark 46 false)) [] ≡
 unfolding unicode_ident
 name_dot = refl
 
-number_dot : must_part (one (Literal (codes "1"))) (one (Mark 46 false)) [] ≡ true
+-- digits need not be parted from a dot right before a name or another dot
+number_dot_name : must_part (one (Literal (codes "1"))) (one (Mark 46 false)) (codes "a") ≡ false
 unfolding unicode_ident
-number_dot = refl
+number_dot_name = refl
 
--- a number need not be parted from the dots of a range
-number_range : must_part (one (Literal (codes "1"))) (one (Mark 46 true)) (one (Mark 46 false) ∷ []) ≡ false
+number_range : must_part (one (Literal (codes "1_0"))) (one (Mark 46 true)) (codes ".") ≡ false
 unfolding unicode_ident
 number_range = refl
 
-float_range : must_part (one (Literal (codes "1."))) (one (Mark 46 true)) (one (Mark 46 false) ∷ []) ≡ true
+number_dot_space : must_part (one (Literal (codes "1"))) (one (Mark 46 false)) (codes " a") ≡ true
+unfolding unicode_ident
+number_dot_space = refl
+
+number_dot_number : must_part (one (Literal (codes "1"))) (one (Mark 46 false)) (codes "2") ≡ true
+unfolding unicode_ident
+number_dot_number = refl
+
+-- any other number must be parted from a dot only if it ends with one
+suffix_dot : must_part (one (Literal (codes "1i32"))) (one (Mark 46 false)) (codes " a") ≡ false
+unfolding unicode_ident
+suffix_dot = refl
+
+float_dot : must_part (one (Literal (codes "2.0"))) (one (Mark 46 false)) (codes "2") ≡ false
+unfolding unicode_ident
+float_dot = refl
+
+float_range : must_part (one (Literal (codes "1."))) (one (Mark 46 true)) (codes ".") ≡ true
 unfolding unicode_ident
 float_range = refl
 

@@ -1,8 +1,9 @@
 mod TokenLemmas
-mod RangeLemmas
+mod DotLemmas
 mod CoverLemmas
 mod PrintedLemmas
 mod GapLemmas
+mod HeldLemmas
 mod WritingLemmas
 mod WrittenLemmas
 mod Examples

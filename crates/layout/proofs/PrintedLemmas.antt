@@ -18,7 +18,7 @@ use Rattle.pm_stream.specs.Printed.{parts, space, printed_after, printed}
 use Rattle.pm_stream.specs.Shown.{is_shown}
 use Rattle.pm_stream.specs.WellSpaced.{fits, next_token, well_spaced, IsWellSpaced}
 use Rattle.layout.specs.Layout.{parts_number, parts_from, is_joint, must_part, Laid, laid_onto, events_of, IsGap}
-use Rattle.layout.specs.Layout.{AreGaps, may_part, may_follow, keeps_apart, IsLayout}
+use Rattle.layout.specs.Layout.{AreGaps, laid_front, may_part, may_follow, keeps_apart, IsLayout}
 
 -- ---- the layout
 
@@ -98,7 +98,7 @@ no_joint_last c fit = by_quote (c == 39) fit
 abbrev MayEnd : List Laid → Type 0
 MayEnd xs = (before : Event) → is_joint before ≡ false → may_follow before xs ≡ true
 
-closer_may : (before : Event) (gap : Bool) (d : Delimiter) (hi : ℕ) (later : List Event) → is_joint before ≡ false
+closer_may : (before : Event) (gap : Bool) (d : Delimiter) (hi : ℕ) (later : List ℕ) → is_joint before ≡ false
     → may_part before (space gap) (Closes d hi) later ≡ true
 closer_may before true d hi later alone = not_from_false (is_joint before) alone
 closer_may (One token lo hi) false d end later alone =
@@ -124,16 +124,16 @@ token_may (Literal text) lo hi (group d a b f k) xs fit more = refl
 
 -- any gap is allowed after a delimiter
 delimiter_may : (before : Event) (gap : Bool) (f : Forest) (xs : List Laid)
-    → ((next : Event) (later : List Event) → must_part before next later ≡ false) → is_joint before ≡ false
+    → ((next : Event) (later : List ℕ) → must_part before next later ≡ false) → is_joint before ≡ false
     → may_follow before xs ≡ true → may_follow before (laid_after gap f xs) ≡ true
 delimiter_may before gap nil xs free alone more = more
 delimiter_may before true (leaf t a b f) xs free alone more = not_from_false (is_joint before) alone
 delimiter_may before false (leaf t a b f) xs free alone more =
-    or_right (is_joint before) _ (not_from_false _ (free (One t a b) (events_of (laid_after (parts t) f xs))))
+    or_right (is_joint before) _ (not_from_false _ (free (One t a b) (laid_front (laid_after (parts t) f xs))))
 delimiter_may before true (group d a b f k) xs free alone more = not_from_false (is_joint before) alone
 delimiter_may before false (group d a b f k) xs free alone more =
     or_right (is_joint before) _ (not_from_false _ (free (Opens d a)
-    (events_of (laid_after (is_brace d) f ((space (is_brace d), Closes d b) ∷ laid_after true k xs)))))
+    (laid_front (laid_after (is_brace d) f ((space (is_brace d), Closes d b) ∷ laid_after true k xs)))))
 
 laid_apart : (gap : Bool) (f : Forest) (xs : List Laid) → well_spaced f ≡ true → MayEnd xs → keeps_apart xs ≡ true
     → keeps_apart (laid_after gap f xs) ≡ true
@@ -148,7 +148,7 @@ laid_apart gap (group d lo hi f k) xs w more kept =
     let close = (space (is_brace d), Closes d hi) ∷ rest in
     let later = delimiter_may (Closes d hi) true k xs (λ next later. refl) refl (more (Closes d hi) refl) in
     let closed : keeps_apart close ≡ true = and_from _ _ later (laid_apart true k xs deep.1 more kept) in
-    let ends : MayEnd close = λ before alone. closer_may before (is_brace d) d hi (events_of rest) alone in
+    let ends : MayEnd close = λ before alone. closer_may before (is_brace d) d hi (laid_front rest) alone in
     and_from _ _ (delimiter_may (Opens d lo) (is_brace d) f close (λ next later. refl) refl (ends (Opens d lo) refl))
     (laid_apart (is_brace d) f close deep.0 ends closed)
 

@@ -4,10 +4,10 @@ use Rattle.std.specs.Prelude.{codes, if◌then◌else◌}
 use Rattle.std.specs.List.{list_all, list_any}
 use Rattle.std.specs.Char.{is_ascii_digit}
 use Rattle.lexical.specs.Class.{is_white, is_ident_continue}
-use Rattle.lexical.specs.Text.{first_passes}
+use Rattle.lexical.specs.Text.{ends_with, first_passes}
 use Rattle.lexical.specs.Token.{Token, Name, Mark, Literal, token_text}
 use Rattle.lexical.specs.Mark.{is_mark}
-use Rattle.lexical.specs.Number.{is_sign}
+use Rattle.lexical.specs.Number.{bars_dot, is_digit_or_underscore, is_sign}
 use Rattle.pm_stream.specs.Delimited.{opening, closing}
 use Rattle.pm_stream.specs.Events.{Event, One, Opens, Closes}
 use Rattle.pm_stream.specs.Forest.{Forest, flattening}
@@ -60,31 +60,30 @@ is_dot (One (Literal text) lo hi) = false
 is_dot (Opens d lo) = false
 is_dot (Closes d hi) = false
 
--- whether the first of the events is the mark `.`
-abbrev pub begins_with_dot : List Event → Bool
-begins_with_dot [] = false
-begins_with_dot (event ∷ events) = is_dot event
+-- whether the text is a digit and then only digits and `_`
+abbrev pub is_digits : List ℕ → Bool
+is_digits text = first_passes is_ascii_digit text && list_all is_digit_or_underscore text
 
--- whether the two dots of a range begin here: `.` Joint and then `.`
-abbrev pub begins_range : Event → List Event → Bool
-begins_range event events = is_joint event && (is_dot event && begins_with_dot events)
+-- whether a dot right after the literal does not extend it, where `later` is the text after the dot: digits take the
+-- dot unless `later` bars it, and of the other literals only one that ends with a dot must not touch it
+abbrev pub frees_dot : List ℕ → List ℕ → Bool
+frees_dot text later = if is_digits text then first_passes bars_dot later else not (ends_with 46 text)
 
--- whether the event is a plain literal, whose characters may all continue an identifier; a range's dots do not extend
--- it
-abbrev pub is_plain : Event → Bool
-is_plain (One (Name raw name) lo hi) = false
-is_plain (One (Mark c joint) lo hi) = false
-is_plain (One (Literal text) lo hi) = list_all is_ident_continue text
-is_plain (Opens d lo) = false
-is_plain (Closes d hi) = false
+-- whether a dot right after the event does not extend its token, where `later` is the text after the dot
+abbrev pub leaves_dot : Event → List ℕ → Bool
+leaves_dot (One (Name raw name) lo hi) later = false
+leaves_dot (One (Mark c joint) lo hi) later = false
+leaves_dot (One (Literal text) lo hi) later = frees_dot text later
+leaves_dot (Opens d lo) later = false
+leaves_dot (Closes d hi) later = false
 
--- `must-part`: whether white space must be between `before` and `next`, where `later` follows `next`
-abbrev pub must_part : Event → Event → List Event → Bool
-must_part before next later = goes_on before (event_text next) && not (is_plain before && begins_range next later)
+-- `must-part`: whether white space must be between `before` and `next`, where `later` is the text right after `next`
+abbrev pub must_part : Event → Event → List ℕ → Bool
+must_part before next later = goes_on before (event_text next) && not (is_dot next && leaves_dot before later)
 
--- whether the gap is allowed between `before` and `next`, where `later` follows `next`: it is empty after a Joint mark,
--- and it is not empty where the two must be parted
-abbrev pub may_part : Event → List ℕ → Event → List Event → Bool
+-- whether the gap is allowed between `before` and `next`, where `later` is the text right after `next`: it is empty
+-- after a Joint mark, and it is not empty where the two must be parted
+abbrev pub may_part : Event → List ℕ → Event → List ℕ → Bool
 may_part before [] next later = is_joint before || not (must_part before next later)
 may_part before (c ∷ gap) next later = not (is_joint before)
 
@@ -98,6 +97,11 @@ Laid = List ℕ × Event
 abbrev pub laid_onto : List Laid → List ℕ → List ℕ
 laid_onto [] rest = rest
 laid_onto (x ∷ xs) rest = x.0 ++ (event_text x.1 ++ laid_onto xs rest)
+
+-- the text of the first event with the gap before it
+abbrev pub laid_front : List Laid → List ℕ
+laid_front [] = []
+laid_front (x ∷ xs) = x.0 ++ event_text x.1
 
 -- the events without the gaps
 abbrev pub events_of : List Laid → List Event
@@ -116,7 +120,7 @@ AreGaps (x ∷ xs) = IsGap x.0 × AreGaps xs
 -- whether the gap right after `before` is allowed there
 abbrev pub may_follow : Event → List Laid → Bool
 may_follow before [] = true
-may_follow before (x ∷ xs) = may_part before x.0 x.1 (events_of xs)
+may_follow before (x ∷ xs) = may_part before x.0 x.1 (laid_front xs)
 
 -- whether each gap is allowed where it is
 abbrev pub keeps_apart : List Laid → Bool

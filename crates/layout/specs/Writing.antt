@@ -1,19 +1,18 @@
 -- What a stream is written as with chosen gaps.
-use Rattle.std.specs.Prelude.{Bool, false, not, ◌&&◌, ◌==◌}
-use Rattle.std.specs.Prelude.{ℕ, List, [], ◌∷◌, codes, Option, Some, None, zero, suc}
+use Rattle.std.specs.Prelude.{ℕ, Bool, true, false, List, [], ◌∷◌, ◌++◌, codes, Option, Some, None, zero, suc}
 use Rattle.std.specs.Prelude.{if◌then◌else◌}
+use Rattle.lexical.specs.Number.{bars_dot}
+use Rattle.lexical.specs.Text.{ends_with, first_passes}
 use Rattle.lexical.specs.Token as tokens
 use Rattle.pm_token.specs.Leaf.{name_token, mark_token, text_token}
-use Rattle.pm_token.specs.Leaf.{is_joint as spacing_joint}
 use Rattle.pm_stream.specs.Events.{Event, One, Opens, Closes}
 use Rattle.pm_stream.specs.Forest.{Forest}
 use Rattle.pm_stream.specs.Steps.{Step, Enter, Leave, Token, step_of}
-use Rattle.pm_stream.specs.WellSpaced.{next_token}
 use Rattle.pm_stream.specs.declared.steps.Step.{Step as Given}
 use Rattle.pm_stream.specs.declared.stream.TokenTree.{TokenTree}
 use Rattle.pm_stream.specs.declared.stream.TokenTree.TheVariants.{Group, Ident, Punct, Literal}
 use Rattle.proc_macro2.specs.Laws.{Gives}
-use Rattle.layout.specs.Layout.{goes_on, is_joint, is_plain}
+use Rattle.layout.specs.Layout.{event_text, goes_on, is_digits, is_dot, is_joint, must_part}
 use Rattle.layout.specs.declared.errors.LayoutError.{LayoutError}
 use Rattle.layout.specs.declared.errors.LayoutError.TheVariants.{NotWellSpaced, Memory, Write}
 use Rattle.layout.specs.declared.gaps.Gap.{Gap}
@@ -69,32 +68,57 @@ event_before (Some step) = Some (event_of step)
 abbrev pub before_of : Option Given → Option Event
 before_of step = event_before (step_before step)
 
--- whether there is a token and it is the mark `.`
-abbrev pub is_dot_token : Option tokens.Token → Bool
-is_dot_token None = false
-is_dot_token (Some (tokens.Name raw name)) = false
-is_dot_token (Some (tokens.Mark c joint)) = c == 46
-is_dot_token (Some (tokens.Literal text)) = false
+-- ---- the gap that is written
 
--- whether the tree is a Joint `.` mark
-abbrev pub is_joint_dot : TokenTree → Bool
-is_joint_dot (Group g) = false
-is_joint_dot (Ident i) = false
-is_joint_dot (Punct p) = spacing_joint p.spacing && (p.mark == 46)
-is_joint_dot (Literal l) = false
+-- the gap that is written before `next` if `chosen` is chosen, where `later` is the text right after `next`
+abbrev pub fitting : Option Event → Gap → Event → List ℕ → Gap
+fitting None chosen next later = chosen
+fitting (Some before) chosen next later =
+    if is_joint before then Nothing else (if must_part before next later then some chosen else chosen)
 
--- whether the step is the first of the two dots of a range
-abbrev pub steps_range : Step → Bool
-steps_range (Enter g after) = false
-steps_range (Leave g after) = false
-steps_range (Token tree after) = is_joint_dot tree && is_dot_token (next_token after)
+-- the gap that is written between the literal and a dot if nothing is chosen, or `None` if the text after the dot
+-- decides
+abbrev pub literal_gap : List ℕ → Option Gap
+literal_gap text = if is_digits text then None else (if ends_with 46 text then Some Space else Some Nothing)
 
--- the gap that is written before `text` if `chosen` is chosen; `range` says whether `text` is the first dot of a range
-abbrev pub fitting : Option Event → Gap → List ℕ → Bool → Gap
-fitting None chosen text range = chosen
-fitting (Some before) chosen text range =
-    if is_joint before then Nothing
-    else (if goes_on before text && not (is_plain before && range) then some chosen else chosen)
+-- the gap that is written between the event and a dot that would extend it by its first character
+abbrev pub gap_before_dot : Event → Option Gap
+gap_before_dot (One (tokens.Name raw name) lo hi) = Some Space
+gap_before_dot (One (tokens.Mark c joint) lo hi) = Some Space
+gap_before_dot (One (tokens.Literal text) lo hi) = literal_gap text
+gap_before_dot (Opens d lo) = Some Space
+gap_before_dot (Closes d hi) = Some Space
+
+-- the gap that is written where nothing is chosen after an event that is not Joint
+abbrev pub gap_for_nothing : Event → Event → Option Gap
+gap_for_nothing before next =
+    if goes_on before (event_text next) then (if is_dot next then gap_before_dot before else Some Space)
+    else Some Nothing
+
+-- the gap that is written after an event that is not Joint
+abbrev pub gap_apart : Event → Gap → Event → Option Gap
+gap_apart before Nothing next = gap_for_nothing before next
+gap_apart before Space next = Some Space
+gap_apart before (Line columns) next = Some (Line columns)
+gap_apart before (Blank columns) next = Some (Blank columns)
+
+-- the gap that is written before `next` if `chosen` is chosen, or `None` if the text after `next` decides: then `next`
+-- is a dot after digits
+abbrev pub known_gap : Option Event → Gap → Event → Option Gap
+known_gap None chosen next = Some chosen
+known_gap (Some before) chosen next = if is_joint before then Some Nothing else gap_apart before chosen next
+
+-- the dot that is held back, if there is one, with the gap before it, where `later` is the text after the dot
+abbrev pub held_text : Bool → List ℕ → List ℕ
+held_text false later = []
+held_text true later = if first_passes bars_dot later then codes "." else codes " ."
+
+-- what is written when the gap before `next` is chosen: nothing if the gap is not known yet, and otherwise also the dot
+-- that is held back
+abbrev pub pushed : Bool → Option Gap → Event → List ℕ
+pushed held None next = []
+pushed held (Some gap) next =
+    held_text held (gap_text gap ++ event_text next) ++ (gap_text gap ++ event_text next)
 
 -- the text of a delimiter's mark, if it has one
 abbrev pub option_list : Option ℕ → List ℕ

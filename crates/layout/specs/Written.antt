@@ -1,12 +1,12 @@
 -- What is written with the gaps that a chooser gives.
 use Rattle.std.specs.Prelude.{◌≡◌, ◌++◌, ◌+◌, ◌-◌, ◌^◌, ℕ, List, [], ◌∷◌, map, min, Option, Some, None}
-use Rattle.std.specs.List.{FoldsTo, flat_map}
+use Rattle.std.specs.List.{FoldsTo}
 use Rattle.std.specs.Io.KnownBytes.{Appends}
 use Rattle.std.specs.Str.{encode_utf8_all}
 use Rattle.pm_stream.specs.Forest.{Forest}
 use Rattle.pm_stream.specs.Steps.{Step, Enter, Leave, Token, steps}
 use Rattle.layout.specs.Layout.{IsLayout, event_text}
-use Rattle.layout.specs.Writing.{ReadsBack, event_before, event_of, fitting, gap_text, step_before, steps_range}
+use Rattle.layout.specs.Writing.{ReadsBack, event_before, event_of, fitting, gap_text, step_before}
 use Rattle.layout.specs.declared.gaps.Gap.{Gap}
 use Rattle.layout.specs.declared.gaps.GapContext.{GapContext}
 
@@ -56,20 +56,27 @@ pub record Choice : Type 0 where
 abbrev pub choice_of : GapContext → Gap → Choice
 choice_of place gap = record { place = spot_of place; gap = gap }
 
--- the gap that is written for a chosen one: nothing after a Joint mark, a space if nothing is chosen and the tokens
--- must be parted, and the chosen one otherwise
-abbrev pub fitting_gap : Option Step → Option Step → Gap → Gap
-fitting_gap before None gap = gap
-fitting_gap before (Some step) gap = fitting (event_before before) gap (event_text (event_of step)) (steps_range step)
+-- the gap that is written for a chosen one, where `later` is the text that is written right after the next step:
+-- nothing after a Joint mark, a space if nothing is chosen and the tokens must be parted, and the chosen one otherwise
+abbrev pub fitting_gap : Option Step → Option Step → Gap → List ℕ → Gap
+fitting_gap before None gap later = gap
+fitting_gap before (Some step) gap later = fitting (event_before before) gap (event_of step) later
 
 -- the text of the token, opener or closer after a gap, if there is one
 abbrev pub text_after : Option Step → List ℕ
 text_after None = []
 text_after (Some step) = event_text (event_of step)
 
--- the text of a gap and of what follows it
-abbrev pub written_at : Choice → List ℕ
-written_at c = gap_text (fitting_gap c.place.before c.place.after c.gap) ++ text_after c.place.after
+-- the text of the first gap and of what follows it. Whether digits may touch a dot depends on the second choice
+abbrev pub written_front : List Choice → List ℕ
+written_front [] = []
+written_front (c ∷ choices) =
+    gap_text (fitting_gap c.place.before c.place.after c.gap (written_front choices)) ++ text_after c.place.after
+
+-- the text of each gap and of what follows it
+abbrev pub written_text : List Choice → List ℕ
+written_text [] = []
+written_text (c ∷ choices) = written_front (c ∷ choices) ++ written_text choices
 
 -- the text consists of the stream and the gaps that a chooser gives. The chooser is called once for each gap of the
 -- stream, in order, which takes it from its old state to its new one
@@ -78,7 +85,7 @@ pub record IsWritten {C : Type 0} (gives : C → Choice → C → Type 0) (old n
   pub choices : List Choice
   pub each : map (λ c. c.place) choices ≡ places stream
   pub given : FoldsTo gives old choices new
-  pub whole : text ≡ flat_map written_at choices
+  pub whole : text ≡ written_text choices
 
 -- a wanted text is written; it is a layout of the stream and reads back to it
 pub record Writes (wanted : List ℕ → Type 0) (stream : Forest) (old new : Option (List ℕ)) : Type 0 where

@@ -6,9 +6,9 @@ ghost use Rattle.layout.specs.Laws.{LayoutsComeBack, PrintedIsLayout};
 ///
 /// A layout (`layout`) has the stream's tokens, openers and closers in order, with a gap before each and one at the
 /// end. A gap is white characters or nothing. After a Joint mark it is nothing. Between two neighbours that must be
-/// parted (`must-part`) it is not: this depends on the first of them and on the first character of the second. The dots
-/// of a range need not be parted from an integer, so the tokens of `0..10` may touch. In `0.max` and `0. .x`, the `0`
-/// and the dot may not touch.
+/// parted (`must-part`) it is not: this depends on the first of them and on the first character of the second, and for
+/// a dot after digits also on the text after the dot. So the tokens of `x.0.y`, `0..10` and `1i32.abs()` may touch. In
+/// `0 . y` and `0 .(y)`, the `0` and the dot may not touch, because `0.` would be a float.
 ///
 /// The printed text is a layout. `a+=b` is a layout of the same stream as `a += b` with a line break after `=`, but
 /// `a + = b` is not.

@@ -47,66 +47,109 @@ pub trait Chooser {
 }
 
 /// Returns the gap that is written where `chosen` is chosen. Nothing is written after a Joint mark. A space is written
-/// if nothing is chosen and the text of the next step would extend the token before, unless that text begins a range
-/// after a plain literal.
+/// if nothing is chosen and the text of the next step would extend the token before. Returns `None` if the step before
+/// is a number of digits and the next step is a dot, because the text after the dot then decides.
 #[cfg_attr(not(debug_assertions), inline(always))]
-pub(crate) fn fitting(before: Option<Step<'_>>, chosen: Gap, next: Step<'_>) -> Gap
+pub(crate) fn fitting(before: Option<Step<'_>>, chosen: Gap, next: Step<'_>) -> Option<Gap>
 {
     let Some(step) = before else {
-        return chosen;
+        return Some(chosen);
     };
     if is_joint(step) {
-        return Gap::Nothing;
+        return Some(Gap::Nothing);
     }
     let Gap::Nothing = chosen else {
-        return chosen;
+        return Some(chosen);
     };
-    if goes_on(step, next) && !(is_plain(step) && begins_range(next)) {
-        return Gap::Space;
+    if !goes_on(step, next) {
+        return Some(Gap::Nothing);
     }
-    Gap::Nothing
+    if is_dot(next) {
+        return gap_before_dot(step);
+    }
+    Some(Gap::Space)
 }
 
-/// Whether the step is a plain literal: each of its characters may continue an identifier, as in `0` and `0x1F`.
-fn is_plain(step: Step<'_>) -> bool
+/// Whether the step is the mark `.`.
+fn is_dot(step: Step<'_>) -> bool
 {
     match step {
-        Step::Token(TokenTree::Literal(literal), _) => is_all_continue(literal.text()),
+        Step::Token(TokenTree::Punct(punct), _) => punct.as_char() == '.',
         _ => false,
     }
 }
 
-/// Whether each character may continue an identifier.
-fn is_all_continue(text: &str) -> bool
-{
-    text.chars().all(|c| crate::shim::unicode_ident::is_xid_continue(c))
-}
-
-/// Whether the step is the first of the two dots of a range.
-fn begins_range(step: Step<'_>) -> bool
+/// Returns the gap between the step and a dot if nothing is chosen, or `None` if the text after the dot decides.
+fn gap_before_dot(step: Step<'_>) -> Option<Gap>
 {
     match step {
-        Step::Token(tree, after) => is_joint_dot(tree) && is_dot_next(after),
-        _ => false,
+        Step::Token(TokenTree::Literal(literal), _) => literal_gap(literal.text()),
+        _ => Some(Gap::Space),
     }
 }
 
-/// Whether the tree is a Joint `.` mark.
-fn is_joint_dot(tree: &TokenTree) -> bool
+/// Returns the gap between the literal of this text and a dot, or `None` if the text after the dot decides.
+fn literal_gap(text: &str) -> Option<Gap>
 {
-    match tree {
-        TokenTree::Punct(punct) => punct.spacing() == Spacing::Joint && punct.as_char() == '.',
-        _ => false,
+    if is_digits(text) {
+        return None;
+    }
+    if ends_with_dot(text) {
+        return Some(Gap::Space);
+    }
+    Some(Gap::Nothing)
+}
+
+/// Whether the text is a digit and then only digits and `_`.
+fn is_digits(text: &str) -> bool
+{
+    begins_with_digit(text) && is_all_digits(text)
+}
+
+/// Whether each character is an ASCII digit or `_`.
+fn is_all_digits(text: &str) -> bool
+{
+    text.chars().all(|c| c.is_ascii_digit() || c == '_')
+}
+
+/// Whether the text ends with a dot.
+fn ends_with_dot(text: &str) -> bool
+{
+    text.ends_with('.')
+}
+
+/// Whether a dot before this gap and step belongs to no number: the gap is empty, and a dot or a character that may
+/// begin an identifier follows it.
+pub(crate) fn frees_dot(gap: Gap, next: Step<'_>) -> bool
+{
+    let Gap::Nothing = gap else {
+        return false;
+    };
+    begins_with_bar(next)
+}
+
+/// Whether the step's text begins with a dot or with a character that may begin an identifier.
+fn begins_with_bar(step: Step<'_>) -> bool
+{
+    match first_of(step) {
+        Some(first) => bars_dot(first),
+        None => false,
     }
 }
 
-/// Whether the first of the trees is a `.` mark.
-fn is_dot_next(trees: &[TokenTree]) -> bool
+/// Whether a dot right before the character belongs to no number.
+fn bars_dot(c: char) -> bool
 {
-    match trees.first() {
-        Some(TokenTree::Punct(punct)) => punct.as_char() == '.',
-        _ => false,
+    c == '.' || begins_name(c)
+}
+
+/// Whether an identifier may begin with the character.
+fn begins_name(c: char) -> bool
+{
+    if c != '_' && !crate::shim::unicode_ident::is_xid_start(c) {
+        return false;
     }
+    !c.is_whitespace() && c != '\u{200E}' && c != '\u{200F}' && c != '\u{FEFF}'
 }
 
 /// Whether the step is a Joint mark.

@@ -2,7 +2,7 @@
 //! Writes a stream with chosen gaps.
 
 use crate::layout::errors::LayoutError;
-use crate::layout::gaps::{Chooser, GapContext, fitting, push_gap};
+use crate::layout::gaps::{Chooser, Gap, GapContext, fitting, frees_dot, push_gap};
 use crate::pm_stream::{Step, TokenStream, TokenTree};
 use crate::pm_token::parts::{TextBuilder, is_raw, name_of};
 use crate::pm_token::{Delimiter, Ident};
@@ -12,8 +12,10 @@ use crate::shim::io::Write;
 /// Returns the tokens of the stream with the gaps that the chooser gives.
 ///
 /// Each gap is written as it is given, with two exceptions. Nothing is written after a Joint mark, and a space is
-/// written if the chooser gives nothing and the next token would extend the one before. So the text is a layout of the
-/// stream and reads back to it up to spans, whatever the chooser gives.
+/// written if the chooser gives nothing and the next token would extend the one before (`must-part`). Whether a dot
+/// would extend the digits before it depends on the next gap: `x.0.y` is written if the chooser gives nothing there,
+/// and `x.0 . y` if it gives a space after the dot only. So the text is a layout of the stream and reads back to it up
+/// to spans, whatever the chooser gives.
 ///
 /// Returns `NotWellSpaced` exactly if the stream isn't `well-spaced`, and `Memory` if memory runs out. The call takes
 /// time proportional to the length of the text.
@@ -61,6 +63,8 @@ fn laid_out<C: Chooser>(
     let mut steps = stream.steps();
     let mut before = None;
     let mut depth: usize = 0;
+    // Whether `before` is a dot that is not written yet.
+    let mut held = false;
     while let Some(step) = steps.try_next()? {
         let place = GapContext {
             before,
@@ -68,8 +72,7 @@ fn laid_out<C: Chooser>(
             depth: depth_at(depth, step),
         };
         let chosen = chooser.gap(place);
-        push_gap(&mut text, fitting(before, chosen, step))?;
-        push_step(&mut text, step)?;
+        push_fitting(&mut text, &mut held, before, chosen, step)?;
         depth = depth_past(depth, step);
         before = Some(step);
     }
@@ -79,8 +82,66 @@ fn laid_out<C: Chooser>(
         depth,
     };
     let last = chooser.gap(place);
-    push_gap(&mut text, last)?;
+    push_end(&mut text, held, last)?;
     Ok(text.into_string())
+}
+
+/// Writes the step with the gap before it, after the dot that is held back. If the step is a dot whose gap depends on
+/// the text after it, this dot is held back instead.
+#[cfg_attr(not(debug_assertions), inline(always))]
+fn push_fitting(
+    text: &mut TextBuilder,
+    held: &mut bool,
+    before: Option<Step<'_>>,
+    chosen: Gap,
+    step: Step<'_>,
+) -> Result<(), AllocError>
+{
+    let Some(gap) = fitting(before, chosen, step) else {
+        *held = true;
+        return Ok(());
+    };
+    push_held(text, held, gap, step)?;
+    push_gap(text, gap)?;
+    push_step(text, step)
+}
+
+/// Writes the dot that is held back, if there is one, before this gap and step.
+#[cfg_attr(not(debug_assertions), inline(always))]
+fn push_held(
+    text: &mut TextBuilder,
+    held: &mut bool,
+    gap: Gap,
+    next: Step<'_>,
+) -> Result<(), AllocError>
+{
+    if !*held {
+        return Ok(());
+    }
+    *held = false;
+    push_dot(text, gap, next)
+}
+
+/// Writes a dot, and a space before it unless this gap and step come after the dot and keep it out of a number.
+#[cold]
+fn push_dot(text: &mut TextBuilder, gap: Gap, next: Step<'_>) -> Result<(), AllocError>
+{
+    if frees_dot(gap, next) {
+        return text.push('.');
+    }
+    text.push(' ')?;
+    text.push('.')
+}
+
+/// Writes the last gap, after the dot that is held back.
+fn push_end(text: &mut TextBuilder, held: bool, last: Gap) -> Result<(), AllocError>
+{
+    if !held {
+        return push_gap(text, last);
+    }
+    text.push(' ')?;
+    text.push('.')?;
+    push_gap(text, last)
 }
 
 /// Returns the depth of the gap before the step, when `depth` groups are open. A gap before a closer counts as outside

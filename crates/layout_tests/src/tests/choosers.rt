@@ -1,6 +1,7 @@
 // Choosers, and the texts that they make.
-use crate::tests::checks::{check_answer, laid_out, stream_of};
+use crate::tests::checks::{check_answer, comes_back, laid_out, stream_of};
 use layout::{Chooser, Gap, GapContext, LayoutError, text_with, write_with};
+use proc_macro2::token_stream::Step;
 use proc_macro2::{Punct, Spacing, TokenStream, TokenTree};
 use std::process::Abort;
 use test_helpers::release;
@@ -30,6 +31,65 @@ impl Chooser for Lines {
             return Gap::Nothing;
         }
         Gap::Line(place.depth)
+    }
+}
+
+/// Chooses a gap before and a gap after each dot, and nothing elsewhere.
+#[derive(Drop)]
+struct AroundDots {
+    before: Gap,
+    after: Gap,
+}
+
+impl Chooser for AroundDots {
+    fn gap(&mut self, place: GapContext<'_>) -> Gap {
+        if is_dot(place.before) {
+            return self.after;
+        }
+        if is_dot(place.after) {
+            return self.before;
+        }
+        Gap::Nothing
+    }
+}
+
+/// Returns whether the step is the mark `.`.
+fn is_dot(step: Option<Step<'_>>) -> bool {
+    match step {
+        Some(Step::Token(TokenTree::Punct(punct), _)) => punct.as_char() == '.',
+        _ => false,
+    }
+}
+
+/// A source, the gaps before and after each dot, and the text of its stream with these gaps.
+const DOTS: &[(&str, Gap, Gap, &str)] = &[
+    ("x . 0 . y", Gap::Nothing, Gap::Nothing, "x.0.y"),
+    ("x . 0 . y", Gap::Nothing, Gap::Space, "x. 0 . y"),
+    ("x . 0 . y", Gap::Space, Gap::Nothing, "x .0 .y"),
+    ("x . 0 . y", Gap::Nothing, Gap::Line(1), "x.\n 0 .\n y"),
+    ("1 .. 2", Gap::Nothing, Gap::Space, "1.. 2"),
+    ("1 .. 2", Gap::Space, Gap::Nothing, "1 ..2"),
+    ("1 . . 2", Gap::Nothing, Gap::Space, "1 . . 2"),
+    ("1i32 . abs", Gap::Nothing, Gap::Space, "1i32. abs"),
+    ("1. . a", Gap::Nothing, Gap::Space, "1. . a"),
+    ("0 .", Gap::Nothing, Gap::Nothing, "0 ."),
+    ("0 .", Gap::Nothing, Gap::Space, "0 . "),
+];
+
+/// Asserts what the text of the source's stream is with these gaps around its dots, and that the stream comes back.
+fn check_dots(rt: &(impl Abort + AllocGlobal), row: &(&str, Gap, Gap, &str)) {
+    let &(source, before, after, want) = row;
+    let stream = stream_of(rt, source);
+    let text = laid_out(rt, &stream, &mut AroundDots { before, after });
+    check_answer(rt, source, &text.as_str(), &want);
+    check_answer(rt, source, &comes_back(rt, &stream, want), &true);
+    release((stream, text));
+}
+
+#[test]
+fn a_dot_touches_digits_only_before_a_name_or_a_dot(rt: HostRuntime) {
+    for row in DOTS {
+        check_dots(&rt, row);
     }
 }
 
