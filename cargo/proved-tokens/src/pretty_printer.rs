@@ -22,23 +22,11 @@ mod sides;
 mod signs;
 mod tree;
 
-use chosen::Chosen;
-use crate::layout::{Chooser, Gap, GapContext, LayoutError, text_with};
+use crate::layout::{LayoutError, text_with};
 use printer::Printer;
 use crate::proc_macro2::TokenStream;
 use crate::quoting::join::join_marks;
 use crate::quoting::{Quote, QuoteError};
-
-impl Chooser for Chosen {
-    #[cfg_attr(not(debug_assertions), inline(always))]
-    fn gap(&mut self, place: GapContext<'_>) -> Gap {
-        match (place.after, place.before) {
-            (Some(_), _) => self.next_gap(),
-            (None, Some(_)) => Gap::Line(0),
-            (None, None) => Gap::Nothing,
-        }
-    }
-}
 
 /// Returns the stream's tokens as text for people: each statement or item begins a line, and blocks and long lists take
 /// several lines.
@@ -93,7 +81,7 @@ fn lay_out(stream: &TokenStream) -> Result<String, LayoutError>
 {
     laws::joining();
     let mut chosen = Printer::new(stream)?.choose()?;
-    let joined = join_marks(stream, chosen.visits())?;
+    let joined = join_marks(stream, &chosen.visits)?;
     let text = text_with(&joined, &mut chosen)?;
     Ok(text)
 }

@@ -24,7 +24,6 @@ pub enum Lexeme {
     /// A keyword that no rule mentions.
     Keyword,
     As,
-    Await,
     Else,
     Extern,
     Fn,
@@ -179,21 +178,6 @@ impl Atom {
         }
     }
 
-    /// The first and the last mark of an operator or a lifetime. Of an operator that may have others there: `=` or `.`.
-    pub fn marks(&self) -> (char, char) {
-        match self.kind {
-            Kind::Sign(Sign::One(mark)) => (mark, mark),
-            Kind::Sign(Sign::Path) => (':', ':'),
-            Kind::Sign(Sign::Arrow) => ('-', '>'),
-            Kind::Sign(Sign::Arm) => ('=', '>'),
-            Kind::Sign(Sign::And) => ('&', '&'),
-            Kind::Sign(Sign::Or) => ('|', '|'),
-            Kind::Sign(Sign::Range) => ('.', '.'),
-            Kind::Sign(_) => ('=', '='),
-            _ => ('\'', '='),
-        }
-    }
-
     pub fn is_word(&self, word: Lexeme) -> bool {
         matches!(self.kind, Kind::Lexeme(own) if own == word)
     }
@@ -260,7 +244,7 @@ impl Atom {
     /// Whether an operator after it has two sides.
     pub fn is_value(&self) -> bool {
         match self.kind {
-            Kind::Lexeme(_) => self.is_name() || self.is_word(Lexeme::Await),
+            Kind::Lexeme(_) => self.is_name(),
             Kind::Group(_) => self.role != Role::Attribute,
             _ => self.role == Role::Greater || self.role == Role::After,
         }
@@ -271,7 +255,6 @@ impl Atom {
 pub fn word_of(text: &str) -> Lexeme {
     match text.as_bytes() {
         b"as" => Lexeme::As,
-        b"await" => Lexeme::Await,
         b"else" => Lexeme::Else,
         b"extern" => Lexeme::Extern,
         b"fn" => Lexeme::Fn,

@@ -1,5 +1,6 @@
 //! Breaks the lines of groups and of items.
 use crate::atoms::{Atom, Kind, Lexeme, Role};
+use crate::limits::CALL;
 use crate::lines::{LayStep, Task, WIDTH, deeper};
 use crate::tree::{Form, NOWHERE, Node, Tree};
 use layout::Gap;
@@ -25,30 +26,28 @@ impl Tree {
         }
         // The last part goes on over the next lines, as if there were no delimiters.
         let last = *self.node(own.last);
-        self.open_group(LayStep::Shut, task);
+        self.open_group(LayStep::Shut, task, task.node);
         self.put(own.from, last.first);
         self.lead(&own, last.first);
         self.lay(own.last, task.indent, task.tail.saturating_add(1));
     }
 
     /// Writes the opener of a group, and leaves its closer to this step.
-    fn open_group(&mut self, step: LayStep, task: &Task) {
+    fn open_group(&mut self, step: LayStep, task: &Task, group: usize) {
         self.put_mark();
         self.is_shut = false;
-        self.push(step, task, NOWHERE, NOWHERE);
+        self.push(step, task, group, NOWHERE);
     }
 
-    /// Begins to write a group, which is in the node of the task, with its parts on lines.
+    /// Begins to write a group, which is in the node of the task or is it, with its parts on lines.
     pub fn lay_lines(&mut self, task: &Task, group: usize) {
         self.read_parts(group);
         let own = *self.node(group);
         if own.child == NOWHERE {
             return self.put(own.first, own.end);
         }
-        let mut lines = *task;
-        lines.node = group;
-        self.open_group(LayStep::Close, &lines);
-        self.push_parts(self.step_of(&own), &lines, group);
+        self.open_group(LayStep::Close, task, group);
+        self.push_parts(self.step_of(&own, task.tail), task, group);
     }
 
     /// Leaves the parts of a list to this step. Their lines are deeper than those of the task.
@@ -59,17 +58,19 @@ impl Tree {
         self.push(step, &parts, self.node(list).child, NOWHERE);
     }
 
-    /// Returns the step that writes the parts of a group.
-    fn step_of(&self, own: &Node) -> LayStep {
+    /// Returns the step that writes the parts of a group, with so many characters after it.
+    fn step_of(&self, own: &Node, tail: usize) -> LayStep {
+        let (from, until) = (own.from, own.until);
         let atom = self.atom(own.first);
-        let several = own.child != own.last;
-        let list = atom.is_list() && !matches!(atom.role, Role::Params | Role::Repeated);
+        // Arguments and tuples that would fit on this line without their last comma have a line each.
+        let comma = atom.is_round() && self.previous(until).is_mark(',');
+        let fits = comma && self.width(from, until) <= CALL + 1 && self.fit(from, until, tail);
+        let list = atom.is_list() && !fits && !matches!(atom.role, Role::Params | Role::Repeated);
         let meta = atom.role == Role::Meta;
         let most = if meta { usize::MAX } else { SHORT };
-        let short = list && several && self.are_short(own.from, own.until, Role::Comma, most);
+        let short = list && self.are_short(from, until, Role::Comma, most);
         match atom.role {
-            Role::Use if self.find_role(own.from, own.until, Role::Use) < own.until =>
-                LayStep::Names,
+            Role::Use if self.find_role(from, until, Role::Use) < until => LayStep::Names,
             role if role == Role::Use || short => LayStep::Fill,
             _ => LayStep::Part,
         }
@@ -81,13 +82,11 @@ impl Tree {
         for index in from..end {
             let atom = self.atom(index);
             let mark = matches!(atom.role, Role::Dot | Role::Before | Role::After);
-            if atom.role == between {
-                start = index.saturating_add(1);
-            } else if !(atom.is_any_word() || mark)
-                || atom.tall
-                || self.width(start, index.saturating_add(1)) > most
-            {
-                return false;
+            let short = !atom.tall && self.width(start, index.saturating_add(1)) <= most;
+            match atom.role == between {
+                true => start = index.saturating_add(1),
+                false if short && (mark || atom.is_any_word()) => {}
+                false => return false,
             }
         }
         true
@@ -170,12 +169,9 @@ impl Tree {
 
     /// Writes the bounds after `where`.
     fn next_bounds(&mut self, task: &Task, own: &Node, child: &Node) {
-        self.write(own, task.at, child.first);
-        match task.step == LayStep::Broken && self.is_shut {
-            // They go on after the parameters.
-            true => self.lead(own, child.first),
-            false => self.begin_line(child.first, task.indent),
-        }
+        // After parameters on lines they go on.
+        let goes_on = task.step == LayStep::Broken && self.is_shut && task.at == child.first;
+        self.reach(task, own, child, !goes_on);
         self.put(child.first, child.from);
         self.leave(LayStep::Apart, task, child);
         self.read_parts(task.child);
@@ -188,7 +184,7 @@ impl Tree {
         self.leave(LayStep::Next, task, child);
         if task.step != LayStep::Next && !brace.is_full() {
             self.put_mark();
-            return self.close(child, task.indent);
+            return self.close(child.until, task.indent);
         }
         self.lay(task.child, task.indent, 0);
     }

@@ -29,24 +29,12 @@ mod sides;
 mod signs;
 mod tree;
 
-use chosen::Chosen;
-use layout::{Chooser, Gap, GapContext, LayoutError, text_with};
+use layout::{LayoutError, text_with};
 use printer::Printer;
 use proc_macro2::TokenStream;
 use quoting::join::join_marks;
 use quoting::{Quote, QuoteError};
 use std::alloc::Global;
-
-impl Chooser for Chosen {
-    #[inline(always)]
-    fn gap(&mut self, place: GapContext<'_>) -> Gap {
-        match (place.after, place.before) {
-            (Some(_), _) => self.next_gap(),
-            (None, Some(_)) => Gap::Line(0),
-            (None, None) => Gap::Nothing,
-        }
-    }
-}
 
 /// Returns the stream's tokens as text for people: each statement or item begins a line, and blocks and long lists take
 /// several lines.
@@ -93,7 +81,7 @@ fn lay_out(alloc: Global, stream: &TokenStream) -> Result<String, LayoutError>
 {
     laws::joining();
     let mut chosen = Printer::new(alloc, stream)?.choose()?;
-    let joined = join_marks(alloc, stream, chosen.visits())?;
+    let joined = join_marks(alloc, stream, &chosen.visits)?;
     let text = text_with(&joined, &mut chosen, alloc)?;
     Ok(text)
 }

@@ -26,25 +26,19 @@ impl Tree {
             Form::Control | Form::Let if self.previous(end).role == Role::Branch => BRANCHES,
             _ => usize::MAX,
         };
-        let wide = self.width(own.first, end) > limit;
-        let must = own.must || wide || self.is_tall(own.first, end);
+        let must = own.must || self.width(own.first, end) > limit || self.is_tall(own.first, end);
         let head = self.head_of(own, self.node(own.last));
         if let Some(node) = self.nodes.get_mut(index) {
             node.end = end;
             node.must = must;
             node.head = head;
-            if node.form == Form::Leaf && node.child != NOWHERE {
-                node.form = Form::Plain;
-            }
         }
     }
 
     /// Returns the width of the first line of a node with this last child, or `NO_HEAD`.
     fn head_of(&self, own: &Node, last: &Node) -> usize {
-        let opener = match own.form {
-            Form::Control => self.node(own.from),
-            _ => last,
-        };
+        let control = own.form == Form::Control;
+        let opener = if control { self.node(own.from) } else { last };
         let first = self.atom(last.first);
         // The body of a closure begins on the line of its parameters if it is a block, or ends with one.
         let block = match last.form {
@@ -53,7 +47,7 @@ impl Tree {
             form => form == Form::Closure,
         };
         let head = match own.form {
-            Form::Leaf | Form::Plain | Form::Chain => last.head,
+            Form::Plain | Form::Chain => last.head,
             Form::Closure if block => last.head,
             Form::Control if opener.form == Form::Group => 1,
             _ => NO_HEAD,
@@ -66,9 +60,8 @@ impl Tree {
 
     /// Sets the offset of each atom in the list on one line. All its groups are measured.
     pub fn place(&mut self, first: usize, end: usize) {
-        let (mut offset, mut tall): (usize, usize) = (0, 0);
         // No space is before the first.
-        let mut space: usize = 0;
+        let (mut offset, mut tall, mut space): (usize, usize, usize) = (0, 0, 0);
         if first <= end && end <= self.atoms.len() {
             for own in self.atoms[first..end].iter_mut() {
                 own.offset = offset.saturating_add(space & own.is_spaced() as usize);
@@ -140,15 +133,14 @@ impl Tree {
         let before = self.atom(own.first.saturating_sub(2));
         let variant = next.ends && (before.ends || matches!(before.kind, Kind::Nothing));
         let limit = match atom.role {
+            Role::Use if self.find_role(own.from, own.until, Role::Use) < own.until => 0,
             Role::Fields if variant => VARIANT,
             Role::Fields => FIELDS,
             Role::Meta if !single => META,
             Role::Plain | Role::Tuple if !(single || pattern || index) => CALL,
             _ => usize::MAX,
         };
-        atom.role == Role::Use && self.find_role(own.from, own.until, Role::Use) < own.until
-            || comma && !loose && !lone
-            || inner.saturating_sub(comma as usize) > limit
+        comma && !loose && !lone || inner.saturating_sub(comma as usize) > limit
     }
 
     /// Returns the width of the first line inside a group if its last part goes on over the next lines, or `NO_HEAD`.
@@ -175,15 +167,14 @@ impl Tree {
         let long = root.must || self.node(root.next).next != NOWHERE;
         let parted = !several && short && atom.is_round();
         let chain = value.form == Form::Chain && parted;
-        // Parentheses in parentheses break their lines themselves.
-        let round = value.form == Form::Group && self.atom(value.first).is_round();
-        let operators = value.form == Form::Operators && parted && !bang;
-        if chain && long || operators || tuple && (value.head == NO_HEAD || round) {
-            return 0;
-        }
-        let head = match value.form == Form::Leaf && value.must && parted && !bang {
-            true => self.atom(value.first).width,
-            false => value.head,
+        let first = self.atom(value.first);
+        let head = match value.form {
+            _ if chain && long || tuple && value.head == NO_HEAD => return 0,
+            // Parentheses in parentheses break their lines themselves.
+            Form::Group if tuple && first.is_round() => return 0,
+            Form::Operators if parted && !bang => return 0,
+            Form::Plain if parted && !bang && value.child == NOWHERE && value.must => first.width,
+            _ => value.head,
         };
         let width = self.distance(own.from, value.first).saturating_add(head);
         match width <= CALL || tuple {

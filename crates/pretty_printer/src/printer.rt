@@ -3,10 +3,9 @@ use crate::atoms::{Lexeme, Role};
 use crate::chosen::{Chosen, ListPosition};
 use crate::reading::{Unread, push_list};
 use crate::roles::assign_roles;
-use crate::tree::{NOWHERE, Tree};
+use crate::tree::{NOWHERE, Tree, push_item};
 use layout::Gap;
 use proc_macro2::TokenStream;
-use quoting::join::begins_operator;
 use std::alloc::{AllocError, Global};
 
 /// Chooses the gaps of a stream, one after another.
@@ -36,11 +35,10 @@ impl<'a> Printer<'a> {
         let mut tree = Tree::new(alloc)?;
         let mut groups = Vec::new(alloc);
         push_list(&mut tree, &mut groups, stream.trees())?;
-        let first = 1;
         let end = tree.atoms.len().saturating_sub(1);
-        assign_roles(&mut tree, first, end, true, Role::Block);
+        assign_roles(&mut tree, 1, end, true, Role::Block);
         let part = tree.nodes.len();
-        tree.add_parts(NOWHERE, first, end, true, false);
+        tree.add_parts(NOWHERE, 1, end, true, false);
         Ok(Printer {
             nodes: tree.nodes.len(),
             tree,
@@ -49,7 +47,7 @@ impl<'a> Printer<'a> {
             end,
             part,
             next_group: 0,
-            here: ListPosition::new(first, first),
+            here: ListPosition::new(1, 1),
             outer: Vec::new(alloc),
             chosen: Chosen::new(alloc),
         })
@@ -63,8 +61,8 @@ impl<'a> Printer<'a> {
             }
             if let Some(around) = self.outer.pop() {
                 let gap = self.tree.atom(self.here.end).gap;
-                let depth = self.outer.len();
-                self.chosen.close(gap, depth)?;
+                self.chosen.entered = self.chosen.entered.min(self.outer.len());
+                self.chosen.add(gap)?;
                 self.here = around;
             } else if self.part < self.nodes {
                 self.lay_part();
@@ -86,20 +84,21 @@ impl<'a> Printer<'a> {
         for own in tree.atoms.get(here.at..here.end).unwrap_or(&[]) {
             let marks = own.is_sign() || own.is_word(Lexeme::Lifetime);
             let touches = marks && before.is_sign() && !before.glued;
-            if touches && matches!(own.gap, Gap::Nothing) && may_touch(tree, here.at) {
+            if touches && matches!(own.gap, Gap::Nothing) && !is_doc_bang(tree, here.at) {
                 self.chosen.want(&self.outer, &here)?;
             }
+            let tokens = own.tokens();
             self.chosen.add(own.gap)?;
             here.at = here.at.saturating_add(1);
+            here.trees = here.trees.saturating_add(tokens);
             if own.is_group() {
                 let inner = tree.node(own.node);
                 self.outer.push(here)?;
                 self.here = ListPosition::new(inner.from, inner.until);
                 return Ok(true);
             }
-            for _ in 1..own.tokens() {
+            for _ in 1..tokens {
                 self.chosen.add(Gap::Nothing)?;
-                here.extra = here.extra.saturating_add(1);
             }
             before = own;
         }
@@ -137,8 +136,7 @@ impl<'a> Printer<'a> {
         for next in self.next_group..top {
             match self.groups.get(next).copied() {
                 Some(group) if self.tree.node(group.node).first < end => {
-                    let pushed = self.groups.push(group);
-                    self.tree.check(pushed);
+                    push_item(&mut self.groups, group, &mut self.tree.failure);
                     self.next_group = next.saturating_add(1);
                 }
                 _ => break,
@@ -175,19 +173,11 @@ impl<'a> Printer<'a> {
     }
 }
 
-/// Returns whether the operator before this atom, which begins with a mark, may be written close to it. The marks of an
-/// inner doc attribute stay Alone, as they are read from `//!`.
-fn may_touch(tree: &Tree, index: usize) -> bool {
-    let before = tree.previous(index);
-    if begins_operator(before.marks().1, tree.atom(index).marks().0) {
-        return false;
-    }
+/// Returns whether the atom is the `!` of an inner doc attribute, whose marks stay Alone, as they are read from `//!`.
+fn is_doc_bang(tree: &Tree, index: usize) -> bool {
     let list = tree.next(index);
-    if !before.is_mark('#') || !list.is_group() {
-        return true;
-    }
     let first = tree.node(list.node).from;
     let named = tree.atom(first).width == "doc".len();
     let text = tree.atom(first.saturating_add(2));
-    !(named && text.is_word(Lexeme::String))
+    tree.previous(index).is_mark('#') && list.is_group() && named && text.is_word(Lexeme::String)
 }

@@ -55,15 +55,12 @@ pub fn push_list<'a>(
 fn has_statements(trees: &[TokenTree]) -> bool {
     let mut equals = false;
     for tree in trees {
-        match tree {
-            TokenTree::Punct(mark) => {
-                let c = mark.as_char();
-                if c == ';' || equals && c == '>' {
-                    return true;
-                }
-                equals = c == '=' && mark.spacing() == Spacing::Joint;
+        if let TokenTree::Punct(mark) = tree {
+            let c = mark.as_char();
+            if c == ';' || equals && c == '>' {
+                return true;
             }
-            _ => equals = false,
+            equals = c == '=' && mark.spacing() == Spacing::Joint;
         }
     }
     false
@@ -87,12 +84,9 @@ fn literal_atom(text: &str) -> Atom {
         true => Lexeme::String,
         false => Lexeme::Literal,
     };
-    let (line, tall) = match text.split_once('\n') {
-        Some((line, _)) => (line, true),
-        None => (text, false),
-    };
+    let (line, _) = text.split_once('\n').unwrap_or((text, ""));
     let mut atom = Atom::new(Kind::Lexeme(word), char_count(line));
-    atom.tall = tall;
+    atom.tall = line.len() < text.len();
     atom
 }
 

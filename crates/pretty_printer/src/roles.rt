@@ -85,12 +85,11 @@ impl State {
             }
             Kind::Nothing => {}
         }
-        let begins = matches!(previous.kind, Kind::Nothing);
-        let spaced = !begins && wants_space(tree, index, previous, own, role);
-        self.ends = self.ends && self.start < NOWHERE && !own.glued;
-        if self.ends {
+        let spaced = wants_space(tree, index, previous, own, role);
+        if self.start < NOWHERE && (self.ends || role == Role::Arm) {
             self.start = index.saturating_add(1);
         }
+        self.ends = self.ends && self.start < NOWHERE && !own.glued;
         if let Some(changed) = tree.atoms.get_mut(index) {
             changed.role = role;
             changed.ends = self.ends;
@@ -111,8 +110,7 @@ impl State {
         }
         let item = is_item(self.head);
         let role = self.brace_role(own, previous, next);
-        let operand = awaits_operand(previous)
-            && !(passed == 1 && previous.is_word(Lexeme::Prefix));
+        let value = awaits_operand(previous) && !(passed == 1 && previous.is_word(Lexeme::Prefix));
         let goes_on = match next.kind {
             Kind::Lexeme(word) => word == Lexeme::Else,
             Kind::Sign(sign) => matches!(sign, Sign::Arm | Sign::One(';' | ',' | '.' | '?')),
@@ -129,10 +127,12 @@ impl State {
                 matches!(second.role, Role::Bang | Role::Path) || second.is_any_word()
             }
             Kind::Lexeme(word) => head_of(word).is_some(),
+            // For example `::a::m! {}`, and `$a::m! {}` in a macro.
+            Kind::Sign(Sign::Path | Sign::One('$' | '#')) => previous.role == Role::Bang,
             _ => false,
         };
         let braces = role == Role::Block || role == Role::Expression || second.is_any_word();
-        let ends = braces && !goes_on && !operand && self.head != Head::Other;
+        let ends = braces && !goes_on && !value && self.head != Head::Other;
         self.ends = ends && self.depth == 0 && (item || statement);
         role
     }
@@ -144,12 +144,9 @@ impl State {
         if bounds || inner {
             return;
         }
-        let after_sign = previous.is_sign()
-            && previous.role != Role::Greater
-            && previous.role != Role::Semicolon;
-        let is_value = after_sign
-            || matches!(previous.kind, Kind::Nothing) && self.start == NOWHERE
-            || previous.is_word(Lexeme::Return);
+        let sign = previous.is_sign() && !matches!(previous.role, Role::Greater | Role::Semicolon);
+        let begins = matches!(previous.kind, Kind::Nothing) && self.start == NOWHERE;
+        let is_value = sign || begins || previous.is_word(Lexeme::Return);
         self.head = match word {
             Lexeme::If if previous.is_word(Lexeme::Else) => self.last,
             Lexeme::If if is_value => Head::Branch,
@@ -163,27 +160,19 @@ impl State {
         if previous.role == Role::Path {
             return Role::Use;
         }
-        if self.depth > 0 {
-            // It is an argument of a type.
-            return Role::Expression;
-        }
         let sign = matches!(next.kind, Kind::Sign(Sign::One('=' | '|' | ':')));
         let goes_on = sign || next.is_word(Lexeme::In) || awaits_operand(previous);
-        if self.head == Head::Nothing || !is_item(self.head) && goes_on {
-            return self.value_role(own, previous);
+        let body = is_item(self.head) || self.head != Head::Nothing && !goes_on;
+        if body && self.depth == 0 {
+            self.last = self.head;
+            self.head = Head::Nothing;
         }
-        self.last = self.head;
-        self.head = Head::Nothing;
-        match self.last {
-            Head::Branch if own.role != Role::Block => Role::Branch,
-            _ => Role::Block,
-        }
-    }
-
-    /// Returns the role of braces that belong to no head.
-    fn value_role(&self, own: &Atom, previous: &Atom) -> Role {
         match previous.role {
+            // It is an argument of a type.
+            _ if self.depth > 0 => Role::Expression,
             _ if own.role == Role::Block => Role::Block,
+            _ if body && self.last == Head::Branch => Role::Branch,
+            _ if body => Role::Block,
             Role::Attribute | Role::Arm | Role::Bang | Role::BarClose => Role::Block,
             Role::Greater => Role::Fields,
             _ if previous.is_name() => Role::Fields,
@@ -226,8 +215,8 @@ fn head_of(word: Lexeme) -> Option<Head> {
 /// Returns whether braces after the atom are an operand and not a body.
 pub fn awaits_operand(previous: &Atom) -> bool {
     match previous.kind {
-        Kind::Lexeme(Lexeme::If | Lexeme::While | Lexeme::Match | Lexeme::In | Lexeme::Prefix) =>
-            true,
+        Kind::Lexeme(Lexeme::If | Lexeme::While | Lexeme::Match) => true,
+        Kind::Lexeme(Lexeme::In | Lexeme::Prefix) => true,
         _ => previous.role == Role::Between,
     }
 }

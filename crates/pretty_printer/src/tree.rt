@@ -2,7 +2,7 @@
 use crate::atoms::{Atom, NOTHING, Role};
 use crate::lines::Task;
 use layout::Gap;
-use std::alloc::{AllocError, AllocFailed, Global};
+use std::alloc::{AllocError, Global};
 
 /// The index of nothing.
 pub const NOWHERE: usize = usize::MAX;
@@ -17,8 +17,6 @@ const ROOM: usize = 32;
 pub enum Form {
     /// A short part of a list that is not read yet.
     Unread,
-    /// Atoms on one line.
-    Leaf,
     /// A group, or the angles around an item's parameters. Its children are its parts.
     Group,
     /// Atoms on one line, except for its children, as in `a::b(c)?` and `&a`.
@@ -66,7 +64,7 @@ pub struct Node {
 
 /// No node.
 pub static NO_NODE: Node = Node {
-    form: Form::Leaf,
+    form: Form::Plain,
     first: 0,
     end: 0,
     child: NOWHERE,
@@ -100,9 +98,8 @@ pub struct Tree {
     pub angles: Vec<usize>,
     /// What is left to do, the next last.
     pub tasks: Vec<Task>,
-    /// The number of characters of the line that is written, whether it has only spaces, and whether only closers.
+    /// The number of characters of the line that is written, and whether it has only closers.
     pub column: usize,
-    pub is_fresh: bool,
     pub is_shut: bool,
     /// The error of an allocation that failed.
     pub failure: Option<AllocError>,
@@ -125,7 +122,6 @@ impl Tree {
             angles: Vec::new(alloc),
             tasks: Vec::with_capacity(alloc, ROOM)?,
             column: 0,
-            is_fresh: true,
             is_shut: false,
             failure: None,
         })
@@ -151,13 +147,6 @@ impl Tree {
         self.nodes.get(index).unwrap_or(&NO_NODE)
     }
 
-    /// Keeps the error of an allocation that failed.
-    pub fn check<T: Drop>(&mut self, pushed: Result<(), AllocFailed<T>>) {
-        if let Err(error) = pushed {
-            self.failure = Some(AllocError::from(error));
-        }
-    }
-
     /// Adds a node without children, and returns its index, or `NOWHERE` once an allocation failed.
     pub fn push_node(&mut self, form: Form, first: usize, end: usize) -> usize {
         let index = self.nodes.len();
@@ -165,8 +154,7 @@ impl Tree {
         node.form = form;
         node.first = first;
         node.end = end;
-        let pushed = self.nodes.push(node);
-        self.check(pushed);
+        push_item(&mut self.nodes, node, &mut self.failure);
         match self.failure {
             Some(_) => NOWHERE,
             None => index,
@@ -235,5 +223,12 @@ impl Tree {
             }
         }
         end
+    }
+}
+
+/// Adds an item to a list. If the allocation fails, its error is kept.
+pub fn push_item<T: Drop>(list: &mut Vec<T>, item: T, failure: &mut Option<AllocError>) {
+    if let Err(error) = list.push(item) {
+        *failure = Some(AllocError::from(error));
     }
 }

@@ -3,38 +3,28 @@
 
 use crate::shim::prelude::Grow;
 
-use crate::layout::Gap;
+use crate::layout::{Chooser, Gap, GapContext};
 use crate::quoting::join::Visit;
 use crate::shim::alloc::AllocError;
 
 /// How far a list of trees is read: up to an atom.
 #[derive(Clone, Copy)]
 pub struct ListPosition {
-    /// The index of the first atom, the next one, and the one after the last.
-    pub first: usize,
+    /// The index of the next atom, and the one after the last.
     pub at: usize,
     pub end: usize,
-    /// The number by which the trees before the next atom are more than the atoms.
-    pub extra: usize,
+    /// The number of trees before the next atom.
+    pub trees: usize,
 }
 
 impl ListPosition {
     /// Returns a list of which no atom is read.
     pub fn new(first: usize, end: usize) -> ListPosition {
         ListPosition {
-            first,
             at: first,
             end,
-            extra: 0,
+            trees: 0,
         }
-    }
-
-    /// Returns the index of the tree before the next atom.
-    fn last_tree(&self) -> usize {
-        self.at
-            .saturating_sub(self.first)
-            .saturating_add(self.extra)
-            .saturating_sub(1)
     }
 }
 
@@ -43,10 +33,10 @@ pub struct Chosen {
     gaps: Vec<Gap>,
     /// The index of the next of them.
     at: usize,
-    /// The marks that are to be joined, and the groups around them.
-    visits: Vec<Visit>,
+    /// The marks that are to be joined, in reading order, with each group around them before the marks inside it.
+    pub visits: Vec<Visit>,
     /// The number of groups around the next atom that are among them.
-    entered: usize,
+    pub entered: usize,
 }
 
 impl Chosen {
@@ -60,18 +50,11 @@ impl Chosen {
         }
     }
 
-    /// Adds the gap before the next token or opener.
+    /// Adds the gap before the next token, opener or closer.
     #[cfg_attr(not(debug_assertions), inline(always))]
     pub fn add(&mut self, gap: Gap) -> Result<(), AllocError> {
         self.gaps.push_fallibly(gap)?;
         Ok(())
-    }
-
-    /// Adds the gap before the closer of a group in this number of groups.
-    #[cfg_attr(not(debug_assertions), inline(always))]
-    pub fn close(&mut self, gap: Gap, depth: usize) -> Result<(), AllocError> {
-        self.entered = self.entered.min(depth);
-        self.add(gap)
     }
 
     /// Wants the mark to be joined that is before the next atom of a list in these lists.
@@ -79,26 +62,28 @@ impl Chosen {
     pub fn want(&mut self, outer: &[ListPosition], here: &ListPosition) -> Result<(), AllocError> {
         for depth in self.entered..outer.len() {
             if let Some(around) = outer.get(depth) {
-                let index = around.last_tree();
+                let index = around.trees.saturating_sub(1);
                 self.visits.push_fallibly(Visit { depth, index })?;
             }
         }
         self.entered = outer.len();
-        let (depth, index) = (outer.len(), here.last_tree());
+        let (depth, index) = (outer.len(), here.trees.saturating_sub(1));
         self.visits.push_fallibly(Visit { depth, index })?;
         Ok(())
     }
+}
 
-    /// Returns the marks that are to be joined, in reading order, with each group before the marks inside it.
-    pub fn visits(&self) -> &[Visit] {
-        &self.visits
-    }
-
-    /// Returns the gap before the next token, opener or closer.
+impl Chooser for Chosen {
     #[cfg_attr(not(debug_assertions), inline(always))]
-    pub fn next_gap(&mut self) -> Gap {
-        let gap = self.gaps.get(self.at).copied();
-        self.at = self.at.saturating_add(1);
-        gap.unwrap_or(Gap::Nothing)
+    fn gap(&mut self, place: GapContext<'_>) -> Gap {
+        match (place.after, place.before) {
+            (None, None) => Gap::Nothing,
+            (None, Some(_)) => Gap::Line(0),
+            (Some(_), _) => {
+                let gap = self.gaps.get(self.at).copied();
+                self.at = self.at.saturating_add(1);
+                gap.unwrap_or(Gap::Nothing)
+            }
+        }
     }
 }

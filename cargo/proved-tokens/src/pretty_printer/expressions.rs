@@ -1,35 +1,31 @@
 // Made from crates/pretty_printer/src/expressions.rt by dev/erase: change that file, not this one.
 //! Reads expressions, patterns and types as trees. Each operator takes the operands that bind more strongly.
 
-use crate::shim::prelude::Grow;
-
 use crate::pretty_printer::atoms::{Atom, Kind, Lexeme, Role, Sign};
 use crate::pretty_printer::parts::SHORT;
 use crate::pretty_printer::roles::awaits_operand;
-use crate::pretty_printer::tree::{Form, NOWHERE, Tree};
+use crate::pretty_printer::tree::{Form, NOWHERE, Tree, push_item};
 
 /// The strengths with which nodes take their operands. Nothing but the end of a part ends an arm.
 const ARM: usize = 0;
-/// Of closures, control flow and `return`.
-const WEAKEST: usize = 1;
-
-const ASSIGN: usize = 2;
-
-const RANGE: usize = 3;
-
-const AND: usize = 5;
+/// Of `if`, `match` and loops.
+const CONTROL: usize = 1;
+/// Of closures, `let` and `return`.
+const WEAKEST: usize = 2;
+/// Of `=` and operators such as `+=`.
+const ASSIGN: usize = 3;
+/// Of `..` and its kin.
+const RANGE: usize = 4;
+/// Of `&&`.
+const AND: usize = 6;
 /// Of `as`.
-const CAST: usize = 13;
+const CAST: usize = 14;
 /// Of what is before its only operand.
-const BEFORE: usize = 14;
+const BEFORE: usize = 15;
 
 impl Tree {
     /// Reads these atoms, of which there is at least one, and returns their node.
     pub fn read_expression(&mut self, first: usize, end: usize) -> usize {
-        self.reader.opens.clear();
-        self.reader.controls = 0;
-        self.reader.operand = NOWHERE;
-        self.reader.chain = NOWHERE;
         // A label, or the name of a field, is before what is read.
         let named = self.next(first).role == Role::Colon;
         let mut at = first.saturating_add(if named { 2 } else { 0 });
@@ -53,7 +49,7 @@ impl Tree {
             return node;
         }
         // The part is not valid Rust.
-        let all = self.push_node(Form::Leaf, first, end);
+        let all = self.push_node(Form::Plain, first, end);
         self.append(all, node);
         self.finish(all, end);
         all
@@ -62,7 +58,7 @@ impl Tree {
     /// Adds the atom to the operand, or begins an operand with it.
     fn go_on(&mut self, index: usize, own: &Atom) {
         if self.reader.operand == NOWHERE {
-            self.reader.operand = self.push_node(Form::Leaf, index, index);
+            self.reader.operand = self.push_node(Form::Plain, index, index);
         }
         if own.is_full() {
             self.append(self.reader.operand, own.node);
@@ -74,7 +70,7 @@ impl Tree {
         let own = *self.atom(first);
         self.go_on(first, &own);
         if self.width(first, end) > SHORT || self.is_tall(first, end) {
-            let angles = self.push_list_node(Form::Group, first, end);
+            let angles = self.push_list_node(Form::Group, first, end, false);
             self.append(self.reader.operand, angles);
         }
     }
@@ -84,36 +80,26 @@ impl Tree {
         let previous = *self.previous(index);
         let next = *self.next(index);
         let closure = next.role == Role::BarOpen || next.role == Role::BarClose;
-        let awaits = self.node(self.top().0).form == Form::Control;
         let opens = own.role == Role::BarOpen || own.role == Role::BarClose && !own.is_mark('|');
         // It is the rest of an operator such as `>>`, or the `|` after `move`.
         let passed = own.role == Role::Between && previous.glued
             || opens && previous.is_word(Lexeme::Prefix);
+        let body = own.is_body() && self.top().1 == CONTROL && !awaits_operand(&previous);
         match own.kind {
-            _ if passed => {}
-            Kind::Sign(_) => match own.role {
-                Role::Before => self.open(Form::Plain, index, BEFORE),
-                Role::Range => self.open(Form::Plain, index, RANGE),
-                _ if opens => self.open(Form::Closure, index, WEAKEST),
-                Role::BarClose => {}
-                _ => self.go_on(index, own),
-            },
+            _ if passed || own.role == Role::BarClose && !opens || own.is_word(Lexeme::Else) => {}
+            _ if opens => self.open(Form::Closure, index, WEAKEST),
+            _ if body => self.take_block(index, own),
+            Kind::Sign(_) if own.role == Role::Before => self.open(Form::Plain, index, BEFORE),
+            Kind::Sign(_) if own.role == Role::Range => self.open(Form::Plain, index, RANGE),
+            Kind::Lexeme(Lexeme::If) if previous.is_word(Lexeme::Else) => {}
+            Kind::Lexeme(Lexeme::For) if next.is_mark('<') => self.go_on(index, own),
+            Kind::Lexeme(Lexeme::If | Lexeme::Match) => self.open(Form::Control, index, CONTROL),
+            Kind::Lexeme(Lexeme::For | Lexeme::While) => self.open(Form::Control, index, CONTROL),
+            Kind::Lexeme(Lexeme::Loop) => self.open(Form::Control, index, CONTROL),
+            Kind::Lexeme(Lexeme::Let) => self.open(Form::Let, index, WEAKEST),
+            Kind::Lexeme(Lexeme::Return) => self.open(Form::Plain, index, WEAKEST),
             Kind::Lexeme(Lexeme::Prefix) if closure => self.open(Form::Closure, index, WEAKEST),
-            Kind::Lexeme(word) => match word {
-                Lexeme::For if next.is_mark('<') => self.go_on(index, own),
-                Lexeme::If if previous.is_word(Lexeme::Else) => {}
-                Lexeme::If | Lexeme::Match | Lexeme::While | Lexeme::For | Lexeme::Loop => {
-                    self.open(Form::Control, index, WEAKEST);
-                }
-                Lexeme::Else => {}
-                Lexeme::Let => self.open(Form::Let, index, WEAKEST),
-                Lexeme::Return => self.open(Form::Plain, index, WEAKEST),
-                Lexeme::Prefix => self.open(Form::Plain, index, BEFORE),
-                _ => self.go_on(index, own),
-            },
-            _ if awaits && own.is_body() && !awaits_operand(&previous) => {
-                self.take_block(index, own);
-            }
+            Kind::Lexeme(Lexeme::Prefix) => self.open(Form::Plain, index, BEFORE),
             _ => self.go_on(index, own),
         }
     }
@@ -121,10 +107,9 @@ impl Tree {
     /// Opens a node, which takes operands.
     fn open(&mut self, form: Form, index: usize, strength: usize) {
         let node = self.push_node(form, index, index);
-        let control = (form == Form::Control) as usize;
+        let control = (strength == CONTROL) as usize;
         self.reader.controls = self.reader.controls.saturating_add(control);
-        let pushed = self.reader.opens.push_fallibly((node, strength));
-        self.check(pushed);
+        push_item(&mut self.reader.opens, (node, strength), &mut self.failure);
     }
 
     /// Returns the last open node and its strength.
@@ -140,28 +125,23 @@ impl Tree {
         let previous = *self.previous(index);
         let strength = strength_of(own, &previous, self.next(index));
         let bang = previous.role == Role::Bang;
+        let body = own.is_body() && self.reader.controls > 0 && !bang;
+        let inside = !self.reader.opens.is_empty();
         match own.kind {
-            Kind::Group(_) if own.is_body() && self.reader.controls > 0 && !bang => {
-                return self.take_block(index, own);
-            }
-            Kind::Lexeme(Lexeme::In | Lexeme::Else) if !self.reader.opens.is_empty() => {
-                return self.attach(ASSIGN, index);
-            }
-            Kind::Lexeme(Lexeme::If) => return self.take_arm(index),
-            Kind::Sign(_) if own.role == Role::Arm => return self.take_arm(index),
-            Kind::Sign(_) if own.role == Role::Dot && !previous.glued => {
-                return self.take_dot(index);
-            }
-            Kind::Sign(_) if own.role == Role::BarClose => return self.attach(ASSIGN, index),
-            _ if strength > WEAKEST => return self.take_operator(index, strength),
-            _ => {}
+            Kind::Group(_) if body => self.take_block(index, own),
+            Kind::Lexeme(Lexeme::In | Lexeme::Else) if inside => self.attach(ASSIGN, index),
+            Kind::Lexeme(Lexeme::If) => self.take_arm(index),
+            Kind::Sign(_) if own.role == Role::Arm => self.take_arm(index),
+            Kind::Sign(_) if own.role == Role::Dot && !previous.glued => self.take_dot(index),
+            Kind::Sign(_) if own.role == Role::BarClose => self.attach(ASSIGN, index),
+            _ if strength > WEAKEST => self.take_operator(index, strength),
+            _ => self.go_on(index, own),
         }
-        self.go_on(index, own);
     }
 
     /// Ends the pattern of an arm, or its guard.
     fn take_arm(&mut self, index: usize) {
-        self.reduce(WEAKEST, index);
+        self.reduce(CONTROL, index);
         let child = self.take_operand(index);
         if self.node(self.top().0).form != Form::Arm {
             let first = self.node(child).first;
@@ -178,7 +158,7 @@ impl Tree {
             self.reader.chain = self.push_node(Form::Chain, first, index);
         }
         self.append(self.reader.chain, call);
-        self.reader.operand = self.push_node(Form::Leaf, index, index);
+        self.reader.operand = self.push_node(Form::Plain, index, index);
     }
 
     /// Ends the operand, and returns its node, or that of its last call.
@@ -198,9 +178,6 @@ impl Tree {
     fn take_operand(&mut self, end: usize) -> usize {
         let chain = self.reader.chain;
         self.reader.chain = NOWHERE;
-        if self.reader.operand == NOWHERE {
-            return NOWHERE;
-        }
         let call = self.take_call(end);
         if chain == NOWHERE {
             return call;
@@ -223,13 +200,13 @@ impl Tree {
     /// Ends the last open node.
     fn reduce_one(&mut self, end: usize) {
         let child = self.take_operand(end);
-        if let Some((node, _)) = self.reader.opens.pop() {
-            let control = self.node(node).form == Form::Control;
-            self.reader.controls = self.reader.controls.saturating_sub(control as usize);
+        if let Some((node, strength)) = self.reader.opens.pop() {
+            let control = (strength == CONTROL) as usize;
+            self.reader.controls = self.reader.controls.saturating_sub(control);
             self.append(node, child);
             self.finish(node, end);
             let first = self.node(node).first;
-            self.reader.operand = self.push_node(Form::Leaf, first, first);
+            self.reader.operand = self.push_node(Form::Plain, first, first);
             self.append(self.reader.operand, node);
         }
     }
@@ -243,12 +220,7 @@ impl Tree {
 
     /// Takes the block of the last `if`, `match` or loop, which ends unless `else` follows.
     fn take_block(&mut self, index: usize, own: &Atom) {
-        for _ in 0..self.reader.opens.len() {
-            if self.node(self.top().0).form == Form::Control {
-                break;
-            }
-            self.reduce_one(index);
-        }
+        self.reduce(WEAKEST, index);
         let child = self.take_operand(index);
         let (node, _) = self.top();
         self.append(node, child);
@@ -272,8 +244,7 @@ impl Tree {
             self.attach(ASSIGN, index);
             self.reader.opens.pop();
             let kept = if statement { WEAKEST } else { AND };
-            let pushed = self.reader.opens.push_fallibly((node, kept));
-            return self.check(pushed);
+            return push_item(&mut self.reader.opens, (node, kept), &mut self.failure);
         }
         if own.form == Form::Operators && own_strength == strength && strength != CAST {
             return self.attach(BEFORE, index);
@@ -299,21 +270,16 @@ fn strength_of(own: &Atom, previous: &Atom, next: &Atom) -> usize {
         _ if own.role == Role::Range => RANGE,
         Kind::Lexeme(Lexeme::As) => CAST,
         _ if own.role != Role::Between || previous.glued && previous.is_sign() => WEAKEST,
-        Kind::Sign(Sign::Assign) => ASSIGN,
-        Kind::Sign(Sign::Or) => 4,
+        Kind::Sign(Sign::Assign | Sign::One('=')) => ASSIGN,
+        Kind::Sign(Sign::Or) => 5,
         Kind::Sign(Sign::And) => AND,
-        Kind::Sign(Sign::Compare) => 6,
-        Kind::Sign(Sign::One(mark)) => match mark {
-            '=' => ASSIGN,
-            '<' | '>' if own.glued && next.is_mark(mark) => 10,
-            '<' | '>' => 6,
-            '|' => 7,
-            '^' => 8,
-            '&' => 9,
-            '+' | '-' => 11,
-            '*' | '/' | '%' => 12,
-            _ => WEAKEST,
-        },
+        Kind::Sign(Sign::One(mark @ ('<' | '>'))) if own.glued && next.is_mark(mark) => 11,
+        Kind::Sign(Sign::Compare | Sign::One('<' | '>')) => 7,
+        Kind::Sign(Sign::One('|')) => 8,
+        Kind::Sign(Sign::One('^')) => 9,
+        Kind::Sign(Sign::One('&')) => 10,
+        Kind::Sign(Sign::One('+' | '-')) => 12,
+        Kind::Sign(Sign::One('*' | '/' | '%')) => 13,
         _ => WEAKEST,
     }
 }

@@ -1,10 +1,8 @@
 // Made from crates/pretty_printer/src/lines.rt by dev/erase: change that file, not this one.
 //! Breaks the lines of a part from the outside in, by a list of tasks.
 
-use crate::shim::prelude::Grow;
-
 use crate::pretty_printer::atoms::Role;
-use crate::pretty_printer::tree::{Form, NOWHERE, Node, Tree};
+use crate::pretty_printer::tree::{Form, NOWHERE, Node, Tree, push_item};
 use crate::layout::Gap;
 
 /// The number of columns of a line.
@@ -29,7 +27,7 @@ pub enum LayStep {
     Part,
     Fill,
     Names,
-    /// Write the closer of the group: on its own line, and on this line.
+    /// Write the closer of the child, a group: on its own line, and on this line.
     Close,
     Shut,
 }
@@ -51,9 +49,7 @@ pub struct Task {
 impl Tree {
     /// Breaks the lines of a node, which begins a line.
     pub fn lay_all(&mut self, node: usize) {
-        self.column = 0;
-        self.is_fresh = true;
-        self.is_shut = false;
+        self.begin_line(self.node(node).first, 0);
         self.tasks.clear();
         self.lay(node, 0, 1);
         // An atom begins at most eight nodes, and a node has at most four tasks. A task that is left keeps its gaps.
@@ -68,7 +64,7 @@ impl Tree {
     /// Writes a node if it fits on this line. Otherwise that is the next task.
     pub fn lay(&mut self, node: usize, indent: usize, tail: usize) {
         let own = *self.node(node);
-        if own.form == Form::Leaf || self.fits(&own, tail) {
+        if self.fits(&own, tail) {
             return self.put(own.first, own.end);
         }
         let task = Task {
@@ -79,8 +75,7 @@ impl Tree {
             indent,
             tail,
         };
-        let pushed = self.tasks.push_fallibly(task);
-        self.check(pushed);
+        push_item(&mut self.tasks, task, &mut self.failure);
     }
 
     /// Leaves the children of a task's node from `child` on to this step.
@@ -89,8 +84,7 @@ impl Tree {
         left.step = step;
         left.child = child;
         left.at = at;
-        let pushed = self.tasks.push_fallibly(left);
-        self.check(pushed);
+        push_item(&mut self.tasks, left, &mut self.failure);
     }
 
     /// Leaves the children after this one to this step.
@@ -103,7 +97,7 @@ impl Tree {
         let own = *self.node(task.node);
         match task.step {
             LayStep::Lay => return self.lay_node(task, &own),
-            LayStep::Close => return self.close(&own, task.indent),
+            LayStep::Close => return self.close(self.node(task.child).until, task.indent),
             LayStep::Shut => return self.put_mark(),
             _ => {}
         }
@@ -170,11 +164,7 @@ impl Tree {
 
     /// Writes the atoms in `from..end` on this line. The gap before them is written.
     pub fn put(&mut self, from: usize, end: usize) {
-        if end <= from {
-            return;
-        }
         self.column = self.column.saturating_add(self.width(from, end));
-        self.is_fresh = false;
         // Only `?` may follow closers that a chain goes on from.
         let only = end == from.saturating_add(1) && self.atom(from).role == Role::After;
         self.is_shut = self.is_shut && only;
@@ -183,7 +173,6 @@ impl Tree {
     /// Writes one character on this line.
     pub fn put_mark(&mut self) {
         self.column = self.column.saturating_add(1);
-        self.is_fresh = false;
     }
 
     /// Writes the space before an atom of a node that is not its first.
@@ -196,10 +185,9 @@ impl Tree {
     /// Writes the atoms of a node before one of its children, and the space before it, or a line break if `line`.
     pub fn reach(&mut self, task: &Task, own: &Node, child: &Node, line: bool) {
         self.write(own, task.at, child.first);
-        if line {
-            self.begin_line(child.first, task.indent);
-        } else {
-            self.lead(own, child.first);
+        match line {
+            true => self.begin_line(child.first, task.indent),
+            false => self.lead(own, child.first),
         }
     }
 
@@ -218,15 +206,13 @@ impl Tree {
         }
         self.set_gap(index, Gap::Line(column));
         self.column = column;
-        self.is_fresh = true;
         self.is_shut = false;
     }
 
-    /// Writes the closer of a group on its own line.
-    pub fn close(&mut self, own: &Node, column: usize) {
-        self.set_gap(own.until, Gap::Line(column));
-        self.column = column.saturating_add(1);
-        self.is_fresh = false;
+    /// Writes the closer of a group, whose list ends before this index, on its own line.
+    pub fn close(&mut self, until: usize, column: usize) {
+        self.begin_line(until, column);
+        self.put_mark();
         self.is_shut = true;
     }
 }

@@ -73,14 +73,13 @@ impl Tree {
 
     /// Reads the part with these atoms, and returns its node.
     pub fn read_part(&mut self, first: usize, end: usize, block: bool) -> usize {
-        for index in first..end {
+        let stop = if block { end } else { first };
+        for index in first..stop {
             let own = self.atom(index);
             match own.kind {
-                Kind::Lexeme(Lexeme::Impl | Lexeme::Item) if block => {
-                    return self.read_item(first, index, end);
-                }
-                Kind::Lexeme(Lexeme::Fn)
-                    if block && self.find_role(index, end, Role::Params) < end => {
+                Kind::Lexeme(Lexeme::Fn) if self.find_role(index, end, Role::Params) == end =>
+                    break,
+                Kind::Lexeme(Lexeme::Fn | Lexeme::Impl | Lexeme::Item) => {
                     return self.read_item(first, index, end);
                 }
                 Kind::Lexeme(Lexeme::Pub | Lexeme::Prefix | Lexeme::Extern | Lexeme::String) => {}
@@ -100,7 +99,7 @@ impl Tree {
         let mut from = at.saturating_add(2).saturating_sub(impls as usize);
         if self.atom(from).role == Role::Less {
             let past = self.atom(from).node.saturating_add(1);
-            let generics = self.push_list_node(Form::Group, from, past);
+            let generics = self.push_list_node(Form::Group, from, past, false);
             self.append(node, generics);
             from = past;
         }
@@ -109,18 +108,15 @@ impl Tree {
             self.append(node, self.atom(from).node);
             from = from.saturating_add(1);
         }
-        if !impls && self.width(from, head) > SHORT {
+        if !impls && (self.width(from, head) > SHORT || self.is_tall(from, head)) {
             let result = self.read_expression(from.saturating_add(1), head);
             self.append(node, result);
         }
         if head < stop {
-            let bounds = self.push_list_node(Form::Bounds, head, stop);
             // Only one bound of an `impl` without items may be on the line of its head.
             let single = self.part_end(head, stop, false) >= stop;
             let lone = impls && last.is_brace() && !last.is_full() && single;
-            if let Some(own) = self.nodes.get_mut(bounds) {
-                own.must = own.must || !lone;
-            }
+            let bounds = self.push_list_node(Form::Bounds, head, stop, !lone);
             self.append(node, bounds);
         }
         if last.is_brace() {
@@ -133,12 +129,12 @@ impl Tree {
         node
     }
 
-    /// Adds a list that is not a group: the bounds after `where`, or angles. Its parts are read when it is laid out.
-    pub fn push_list_node(&mut self, form: Form, first: usize, end: usize) -> usize {
+    /// Adds a list that is not a group: the bounds after `where`, or angles. If `must`, it needs several lines. Its
+    /// parts are read when it is laid out.
+    pub fn push_list_node(&mut self, form: Form, first: usize, end: usize, must: bool) -> usize {
         let node = self.push_node(form, first, end);
-        let angles = (form == Form::Group) as usize;
-        let until = end.saturating_sub(angles);
-        let must = self.previous(until).ends_part() || self.is_tall(first, until);
+        let until = end.saturating_sub((form == Form::Group) as usize);
+        let must = must || self.previous(until).ends_part() || self.is_tall(first, until);
         if let Some(own) = self.nodes.get_mut(node) {
             own.must = must;
             own.from = first.saturating_add(1);

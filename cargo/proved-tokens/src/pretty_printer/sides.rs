@@ -34,7 +34,7 @@ impl Tree {
         for _ in own.first..own.end {
             let next = self.node(joined).next;
             let before = self.distance(own.first, self.node(next).first);
-            if !self.is_fresh || joined == own.last || before > TAB {
+            if self.column > task.indent || joined == own.last || before > TAB {
                 break;
             }
             joined = next;

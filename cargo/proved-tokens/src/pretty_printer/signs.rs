@@ -1,11 +1,9 @@
 // Made from crates/pretty_printer/src/signs.rt by dev/erase: change that file, not this one.
 //! Pairs angles, gives operators their roles, and chooses the spaces of a line.
 
-use crate::shim::prelude::Grow;
-
 use crate::pretty_printer::atoms::{Atom, Kind, Lexeme, Role, Sign};
 use crate::pretty_printer::roles::{Head, State, is_item};
-use crate::pretty_printer::tree::{NOWHERE, Tree};
+use crate::pretty_printer::tree::{Tree, push_item};
 
 /// Pairs the `<` at this index and those after it with the `>` that end types.
 pub fn pair_angles(tree: &mut Tree, index: usize, end: usize) {
@@ -13,14 +11,12 @@ pub fn pair_angles(tree: &mut Tree, index: usize, end: usize) {
     for later in index..end {
         let next = tree.atom(later);
         if next.is_mark('<') {
-            let pushed = tree.angles.push_fallibly(later);
-            tree.check(pushed);
+            push_item(&mut tree.angles, later, &mut tree.failure);
+            tree.set_role(later, Role::Between, 0);
         } else if next.is_mark('>') {
-            let less = tree.angles.pop();
-            tree.set_role(later, Role::Greater, less.unwrap_or(0));
-            if let Some(less) = less {
-                tree.set_role(less, Role::Less, later);
-            }
+            let less = tree.angles.pop().unwrap_or(0);
+            tree.set_role(later, Role::Greater, less);
+            tree.set_role(less, Role::Less, later);
         } else if ends_types(next, tree.previous(later)) {
             break;
         }
@@ -28,56 +24,37 @@ pub fn pair_angles(tree: &mut Tree, index: usize, end: usize) {
             break;
         }
     }
-    for _ in 0..tree.angles.len() {
-        if let Some(unmatched) = tree.angles.pop() {
-            tree.set_role(unmatched, Role::Between, 0);
-        }
-    }
 }
 
 /// Returns whether no type goes on with the atom after this one.
 fn ends_types(atom: &Atom, previous: &Atom) -> bool {
+    let begins = matches!(previous.kind, Kind::Sign(Sign::One('<' | ',' | '=')));
     match atom.kind {
         Kind::Lexeme(Lexeme::String) => !previous.is_word(Lexeme::Extern),
         Kind::Lexeme(Lexeme::If | Lexeme::Let | Lexeme::Match | Lexeme::Else) => true,
-        Kind::Lexeme(_) => false,
-        // Braces may be an argument, as in `f::<{ N }>()`.
-        Kind::Group(_) => {
-            atom.is_brace() && !matches!(previous.kind, Kind::Sign(Sign::One('<' | ',' | '=')))
-        }
-        Kind::Sign(sign) => match sign {
-            Sign::Path | Sign::Arrow => false,
-            Sign::One('-') => !matches!(previous.kind, Kind::Sign(Sign::One('<' | ','))),
-            Sign::One(mark) => !matches!(
-                mark,
-                ',' | '&' | ':' | '=' | '+' | '?' | '*' | '!' | '$' | '#' | '\''
-            ),
-            _ => true,
-        },
-        Kind::Nothing => true,
+        Kind::Lexeme(_) | Kind::Sign(Sign::Path | Sign::Arrow) => false,
+        // Braces and numbers may be arguments, as in `f::<{ N }, -1>()`.
+        Kind::Group(_) => atom.is_brace() && !begins,
+        Kind::Sign(Sign::One('-')) => !begins,
+        Kind::Sign(Sign::One(',' | '&' | ':' | '=' | '+' | '?' | '*' | '!')) => false,
+        Kind::Sign(Sign::One('$' | '#' | '\'')) => false,
+        _ => true,
     }
 }
 
 impl State {
     /// Returns the role of an operator at this index. `role` is the one that it has as an angle.
     pub fn sign_role(&mut self, tree: &Tree, index: usize, sign: Sign, role: Role) -> Role {
-        let (previous, next) = (tree.previous(index), tree.next(index));
-        let mark = match sign {
-            Sign::One(mark) => mark,
-            _ => ' ',
-        };
+        let (previous, own, next) = (tree.previous(index), tree.atom(index), tree.next(index));
         let listed = self.depth > 0 || self.in_bars || is_item(self.head);
-        self.ends = mark == ';' || mark == ',' && !listed;
+        self.ends = own.is_mark(';') || own.is_mark(',') && !listed;
         if self.ends || matches!(sign, Sign::Arm) {
             self.head = Head::Nothing;
-            if self.start < NOWHERE {
-                self.start = index.saturating_add(1);
-            }
         }
         if previous.role == Role::Repeated || previous.role == Role::Separator {
-            match mark {
-                '*' | '+' | '?' => return Role::After,
-                ',' | ';' | '|' => return Role::Separator,
+            match sign {
+                Sign::One('*' | '+' | '?') => return Role::After,
+                Sign::One(',' | ';' | '|') => return Role::Separator,
                 _ => {}
             }
         }
@@ -86,19 +63,19 @@ impl State {
         match sign {
             Sign::One('!') => bang_role(previous, next, value),
             Sign::One('|') if begins && begins_arm(tree, index) => Role::Between,
-            Sign::One('|') | Sign::Or => self.bar_role(mark, value && !ends_binder(tree, previous)),
+            Sign::One('|') | Sign::Or => self.bar_role(own, value && !ends_binder(tree, previous)),
             // For example `a ?= b` in a macro.
-            Sign::One('?') if next.is_mark('=') && tree.atom(index).glued => Role::Between,
+            Sign::One('?') if next.is_mark('=') && own.glued => Role::Between,
             _ if role != Role::Plain => role,
             _ => plain_role(sign, value),
         }
     }
 
     /// Returns the role of `|` or `||`.
-    fn bar_role(&mut self, mark: char, value: bool) -> Role {
-        let closes = mark == '|' && self.in_bars;
+    fn bar_role(&mut self, own: &Atom, value: bool) -> Role {
+        let single = own.is_mark('|');
         let found = match value {
-            _ if closes || !value && mark != '|' => Role::BarClose,
+            _ if single && self.in_bars || !single && !value => Role::BarClose,
             true => Role::Between,
             false => Role::BarOpen,
         };
@@ -143,24 +120,20 @@ fn plain_role(sign: Sign, value: bool) -> Role {
         Sign::Path => Role::Path,
         Sign::Range => Role::Range,
         Sign::Arm => Role::Arm,
-        Sign::And => side,
-        Sign::One(c) => match c {
-            ':' => Role::Colon,
-            ',' => Role::Comma,
-            ';' => Role::Semicolon,
-            '.' => Role::Dot,
-            '#' => Role::Hash,
-            '$' | '~' => Role::Before,
-            '?' if value => Role::After,
-            '-' | '*' | '&' | '@' | '?' => side,
-            _ => Role::Between,
-        },
+        Sign::One(':') => Role::Colon,
+        Sign::One(',') => Role::Comma,
+        Sign::One(';') => Role::Semicolon,
+        Sign::One('.') => Role::Dot,
+        Sign::One('#') => Role::Hash,
+        Sign::One('$' | '~') => Role::Before,
+        Sign::One('?') if value => Role::After,
+        Sign::And | Sign::One('-' | '*' | '&' | '@' | '?') => side,
         _ => Role::Between,
     }
 }
 
-/// Returns whether a space should be before the atom `next` at this index, which gets this role. The atom is not the
-/// first of its list.
+/// Returns whether a space should be before the atom `next` at this index, which gets this role. The gap before the
+/// first atom of a list is chosen when the list is measured.
 #[cfg_attr(not(debug_assertions), inline(always))]
 pub fn wants_space(tree: &Tree, index: usize, previous: &Atom, next: &Atom, role: Role) -> bool {
     if previous.glued || next.is_sign() && is_close(role, next) {
@@ -186,7 +159,7 @@ pub fn wants_space(tree: &Tree, index: usize, previous: &Atom, next: &Atom, role
     }
     match previous.kind {
         Kind::Lexeme(Lexeme::Pub) => !next.is_round(),
-        Kind::Lexeme(Lexeme::Fn | Lexeme::Await | Lexeme::MacroRules) => false,
+        Kind::Lexeme(Lexeme::Fn | Lexeme::MacroRules) => false,
         Kind::Lexeme(Lexeme::Lifetime) => true,
         Kind::Lexeme(_) => !previous.is_name(),
         _ => previous.is_brace() || previous.role == Role::Attribute,

@@ -6,7 +6,7 @@ use crate::shim::prelude::Grow;
 use crate::pretty_printer::atoms::{Atom, NOTHING, Role};
 use crate::pretty_printer::lines::Task;
 use crate::layout::Gap;
-use crate::shim::alloc::{AllocError, AllocFailed};
+use crate::shim::alloc::AllocError;
 
 /// The index of nothing.
 pub const NOWHERE: usize = usize::MAX;
@@ -21,8 +21,6 @@ const ROOM: usize = 32;
 pub enum Form {
     /// A short part of a list that is not read yet.
     Unread,
-    /// Atoms on one line.
-    Leaf,
     /// A group, or the angles around an item's parameters. Its children are its parts.
     Group,
     /// Atoms on one line, except for its children, as in `a::b(c)?` and `&a`.
@@ -70,7 +68,7 @@ pub struct Node {
 
 /// No node.
 pub static NO_NODE: Node = Node {
-    form: Form::Leaf,
+    form: Form::Plain,
     first: 0,
     end: 0,
     child: NOWHERE,
@@ -102,9 +100,8 @@ pub struct Tree {
     pub angles: Vec<usize>,
     /// What is left to do, the next last.
     pub tasks: Vec<Task>,
-    /// The number of characters of the line that is written, whether it has only spaces, and whether only closers.
+    /// The number of characters of the line that is written, and whether it has only closers.
     pub column: usize,
-    pub is_fresh: bool,
     pub is_shut: bool,
     /// The error of an allocation that failed.
     pub failure: Option<AllocError>,
@@ -127,7 +124,6 @@ impl Tree {
             angles: Vec::new(),
             tasks: Vec::with_capacity_fallibly(ROOM)?,
             column: 0,
-            is_fresh: true,
             is_shut: false,
             failure: None,
         })
@@ -153,13 +149,6 @@ impl Tree {
         self.nodes.get(index).unwrap_or(&NO_NODE)
     }
 
-    /// Keeps the error of an allocation that failed.
-    pub fn check<T>(&mut self, pushed: Result<(), AllocFailed<T>>) {
-        if let Err(error) = pushed {
-            self.failure = Some(AllocError::from(error));
-        }
-    }
-
     /// Adds a node without children, and returns its index, or `NOWHERE` once an allocation failed.
     pub fn push_node(&mut self, form: Form, first: usize, end: usize) -> usize {
         let index = self.nodes.len();
@@ -167,8 +156,7 @@ impl Tree {
         node.form = form;
         node.first = first;
         node.end = end;
-        let pushed = self.nodes.push_fallibly(node);
-        self.check(pushed);
+        push_item(&mut self.nodes, node, &mut self.failure);
         match self.failure {
             Some(_) => NOWHERE,
             None => index,
@@ -237,5 +225,12 @@ impl Tree {
             }
         }
         end
+    }
+}
+
+/// Adds an item to a list. If the allocation fails, its error is kept.
+pub fn push_item<T>(list: &mut Vec<T>, item: T, failure: &mut Option<AllocError>) {
+    if let Err(error) = list.push_fallibly(item) {
+        *failure = Some(AllocError::from(error));
     }
 }
