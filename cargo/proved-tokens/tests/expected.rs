@@ -2,10 +2,10 @@
 
 use proved_tokens::declarations::Fault;
 use proved_tokens::items::{
-    parse_field, parse_item, parse_type_item, parse_variant, split_attributes, split_expression, split_generics,
-    split_type, split_where,
+    after_where, check_entries, parse_entry, parse_field, parse_item, parse_type_item, parse_variant, split_attributes,
+    split_expression, split_generics, split_type, split_where, within_generics, Entries,
 };
-use proved_tokens::{TokenStream, TokenTree};
+use proved_tokens::{Delimiter, Group, TokenStream, TokenTree};
 
 /// The text of the call's error for these trees.
 fn text_of<T>(call: impl Fn(&[TokenTree]) -> Result<T, Fault>, text: &str) -> String {
@@ -104,4 +104,58 @@ fn an_error_within_a_group_says_what_was_expected_at_its_end() {
     let Some(TokenTree::Group(group)) = stream.trees().first() else { panic!("it is a group") };
     let Err(error) = split_type(group.stream_ref().trees()) else { panic!("the type is missing") };
     assert_eq!(error.within(group).to_string(), "expected a type");
+}
+
+#[test]
+fn an_error_of_generics_or_a_where_clause_names_what_is_missing() {
+    check(|trees| within_generics(trees).map(|_| ()), &[
+        ("T", "expected `<`"),
+        ("<T", "the declaration ends too early, expected `>`"),
+    ]);
+    check(|trees| after_where(trees).map(|_| ()), &[("T: A", "expected `where`")]);
+}
+
+/// The text of the error of these entries, of which `skip` is known. It is the same as that of `Entries`.
+fn entries_text(trees: &[TokenTree]) -> String {
+    let error = check_entries(trees, &["skip"]).expect_err("it has an error");
+    let fault = Entries { left: trees }.find_map(Result::err).expect("an entry has an error");
+    assert_eq!(error.expected().to_string(), fault.expected().to_string());
+    assert_eq!(error.to_string(), fault.to_string());
+    error.to_string()
+}
+
+/// The trees of the text in a group without delimiters, as a macro by example passes them, and then those after it.
+fn held(inside: &str, after: &str) -> TokenStream {
+    let inside = Group::new(Delimiter::None, inside.parse().expect("the delimiters match"));
+    let after: TokenStream = after.parse().expect("the delimiters match");
+    std::iter::once(TokenTree::from(inside)).chain(after).collect()
+}
+
+#[test]
+fn an_error_of_entries_says_what_was_expected() {
+    check(|trees| parse_entry(trees).map(|_| ()), &[
+        ("a::5", "expected a name"),
+        ("a = = 1", "expected an expression"),
+        ("- a", "expected a literal"),
+    ]);
+    for (text, wanted) in [
+        ("skip, = 1", "expected an entry"),
+        ("skip = , a", "expected an expression"),
+        ("skip =", "the declaration ends too early, expected an expression"),
+        ("skip(a) b", "expected `,` or the end"),
+    ] {
+        let stream: TokenStream = text.parse().expect("the delimiters match");
+        assert_eq!(entries_text(stream.trees()), wanted, "{text:?}");
+    }
+    for (inside, after, wanted) in [
+        ("skip = ", "", "expected an expression"),
+        ("skip a", "", "expected `=`, a group, `::` or the end"),
+        ("skip", "a", "expected `,`, `=`, a group or the end"),
+        ("skip = 1", "= 2", "expected `,` or the end"),
+    ] {
+        assert_eq!(entries_text(held(inside, after).trees()), wanted, "{inside:?} and then {after:?}");
+    }
+    let unknown: TokenStream = "a = 1".parse().expect("the delimiters match");
+    let error = check_entries(unknown.trees(), &["skip"]).expect_err("it is unknown");
+    assert_eq!((error.expected().to_string(), error.expected().has_end()), (String::new(), false));
 }

@@ -1,29 +1,20 @@
 -- The errors of lists.
-use Rattle.std.proofs.Common.{◌≡◌, refl, ◌∙◌, ap, subst, ◌-◌, Bool, true, false, List, [], ◌∷◌, length, None, inl, inr}
+use Rattle.std.proofs.Common.{◌≡◌, refl, ◌∙◌, ap, ◌-◌, Bool, true, false, List, [], ◌∷◌, length, inr}
 use Rattle.std.proofs.Common.{arith}
 use Rattle.std.proofs.lemmas.List.{length-append}
-use Rattle.std.specs.Prelude.{◌⊎◌, MatchOption}
 use Rattle.grammars.specs.Deterministic.{IsStart}
 use Rattle.pm_stream.specs.declared.stream.TokenTree.{TokenTree}
-use Rattle.declarations.specs.Bare.{bare_first, inside_of}
-use Rattle.declarations.specs.Entry.{IsEntryAt, IsFaultAfter, IsFaultWithin, IsHeldEntryAt}
-use Rattle.declarations.specs.Entry.{IsNearEntryAt, IsNearFault, IsNoEntry, IsPlainEntryAt, IsPlainFault}
-use Rattle.declarations.specs.EntryList.{IsPlainListFault}
-use Rattle.declarations.specs.Expected.{Expects}
 use Rattle.declarations.specs.Explore.{ExpectsComma}
 use Rattle.declarations.specs.Fault.{first_extent}
 use Rattle.declarations.specs.Forms.{IsVariant}
 use Rattle.declarations.specs.List.{IsListFault, IsPastComma, field_form, field_rule}
 use Rattle.declarations.specs.Reading.{Reads}
 use Rattle.item_tables.specs.declared.class.SignClass.{SignClass}
-use Rattle.declarations.specs.declared.entry.Entry.{Entry}
 use Rattle.declarations.specs.declared.fault.Fault.{Fault}
-use Rattle.declarations.specs.rules.Entries as entries
 use Rattle.declarations.specs.rules.Names.{G}
 use Rattle.declarations.specs.rules.Parts as parts
 use Rattle.declarations.specs.rules.Pieces.{ByRule, ReadsBy}
 use Rattle.declarations.specs.rules.Rules.{follows, rules}
-use Rattle.declarations.proofs.EntryLemmas.{starts_entry}
 use Rattle.declarations.proofs.FormLemmas.{one_field, one_tuple_field, one_variant}
 use Rattle.declarations.proofs.ListLemmas.{none_past, part_span}
 use Rattle.declarations.proofs.RuleExpectsLemmas.{reads_expects}
@@ -79,25 +70,3 @@ pub variant_lacks_comma : (trees part rest : List TokenTree) (fault : Fault) →
     → fault.span ≡ first_extent rest → ExpectsComma parts.variant trees fault.expected
     → IsListFault IsVariant trees fault
 variant_lacks_comma = lacks_comma parts.variant (starts parts.variant refl refl) IsVariant one_variant
-
--- ---- entries
-
-pub entry_lacks_comma : (trees rest : List TokenTree) (entry : Entry) (fault : Fault) → IsEntryAt trees entry rest
-    → ((left : List TokenTree) → IsPastComma rest left → ⊥) → fault.at ≡ length trees - length rest
-    → fault.span ≡ first_extent rest → (bare_first trees ≡ None → ExpectsComma entries.entry trees fault.expected)
-    → IsPlainListFault trees fault
-entry_lacks_comma trees rest entry fault is none at span e = λ plain.
-    let found : IsPlainEntryAt trees entry rest =
-    subst (λ o. MatchOption o (IsPlainEntryAt trees entry rest)
-    (λ f. IsHeldEntryAt IsNearEntryAt (inside_of f.0) f.1 entry rest)) plain is in
-    lacks_comma entries.entry starts_entry (ByRule entries.entry) (by_rule entries.entry) trees found.part rest fault
-    found.reads none at span (e plain)
-
-pub entry_lacks_part : (trees : List TokenTree) (fault : Fault) → IsNoEntry trees fault
-    → (bare_first trees ≡ None → Expects (ByRule entries.entry) trees fault.at fault.expected)
-    → IsPlainListFault trees fault
-entry_lacks_part trees fault is e = λ plain.
-    let found : IsPlainFault trees fault =
-    subst (λ o. MatchOption o (IsPlainFault trees fault)
-    (λ f. IsFaultWithin IsNearFault f.0 fault ⊎ IsFaultAfter IsNearEntryAt f.0 f.1 fault)) plain is in
-    record { place = inl (record { place = found.place; expected = e plain }); span = found.span }

@@ -1,13 +1,10 @@
 -- Errors with the span of a closing delimiter.
-use Rattle.std.proofs.Common.{◌≡◌, sym, subst, List, None, Option}
+use Rattle.std.proofs.Common.{◌≡◌, sym, subst, List, Option}
 use Rattle.pm_span.specs.Extent.{Extent}
 use Rattle.pm_stream.specs.declared.stream.TokenTree.{TokenTree}
-use Rattle.declarations.specs.Bare.{bare_first}
 use Rattle.declarations.specs.Ending.{EndsAt, ending_at}
-use Rattle.declarations.specs.Expected.{Expects}
+use Rattle.declarations.specs.EntryExpects.{ExpectsEntry}
 use Rattle.declarations.specs.declared.fault.Fault.{Fault}
-use Rattle.declarations.specs.rules.Entries.{entry}
-use Rattle.declarations.specs.rules.Pieces.{ByRule}
 
 pub ends_at : (end : Option Extent) (fails : Fault → Type 0) (found fault : Fault) → fails found
     → fault ≡ ending_at end found → EndsAt end fails fault
@@ -15,8 +12,6 @@ ends_at end fails found fault failed is = (found, failed, is)
 
 -- the signs stay those that can come next
 pub expected_within : (trees : List TokenTree) (found fault : Fault) (end : Option Extent) → fault ≡ ending_at end found
-    → (bare_first trees ≡ None → Expects (ByRule entry) trees found.at found.expected)
-    → bare_first trees ≡ None
-    → Expects (ByRule entry) trees fault.at fault.expected
-expected_within trees found fault end is e none =
-    subst (λ f. Expects (ByRule entry) trees f.at f.expected) (sym is) (e none)
+    → ExpectsEntry trees found.at found.expected
+    → ExpectsEntry trees fault.at fault.expected
+expected_within trees found fault end is e = subst (λ f. ExpectsEntry trees f.at f.expected) (sym is) e

@@ -14,7 +14,9 @@ use Rattle.declarations.specs.EntryCheck.{HasNames, IsEntryError, IsRepeated, Is
 use Rattle.declarations.specs.EntryCheck.{StandsBefore}
 use Rattle.declarations.specs.EntryCheck.{has_name, more, more_known, next_known, none, place_of}
 use Rattle.pm_stream.specs.declared.stream.TokenTree.{TokenTree}
-use Rattle.declarations.specs.Entry.{IsEntryAt, IsEntryListFault, entry_spot}
+use Rattle.declarations.specs.Entry.{IsEntryAt, entry_spot}
+use Rattle.declarations.specs.EntryList.{IsEntryListFault}
+use Rattle.declarations.specs.Expected.{HasSigns}
 use Rattle.declarations.specs.List.{IsFirst}
 use Rattle.declarations.specs.declared.entry.Entry.{Entry}
 use Rattle.declarations.specs.declared.entry_check.EntryError.{EntryError}
@@ -115,47 +117,50 @@ pub unknown_error : (known : Names) (list left next : List TokenTree) (seen : Li
     → place ≡ place_of known entry
     → place ≡ length known → error.problem ≡ problems.Unknown → error.at ≡ length list - length left
     → error.span ≡ entry_spot left entry → NamesEntry error entry → error.known.now ≡ known
+    → HasSigns error.expected (λ class. false) false
     → IsEntryError known list error
-unknown_error known list left next seen entry place error c first is all problem at span named known_names = record {
-  places = c.places;
-  left = left;
-  names = c.names;
-  wrong = subst (λ p. IsWrong p known list c.places left error) (sym problem)
-      (unknown_first known list left next entry place error first (record { counted = at; span = span }) is all named);
-  kind_and_name = known_names;
-}
+unknown_error known list left next seen entry place error c first is all problem at span named known_names
+    signs = record {
+      places = c.places;
+      left = left;
+      names = c.names;
+      wrong = subst (λ p. IsWrong p known list c.places left error) (sym problem)
+          (unknown_first known list left next entry place error first
+          (record { counted = at; span = span; expected = signs }) is all named);
+      kind_and_name = known_names;
+    }
 
 pub repeated_error : (known : Names) (list left next : List TokenTree) (seen : List Bool) (entry : Entry) (place : ℕ)
     (error : EntryError) → Checked known list left seen → IsFirst IsEntryAt left entry next
     → place ≡ place_of known entry
     → (place ≡ length known → ⊥) → length known ≤ 128 → get_or seen place false ≡ true
     → error.problem ≡ problems.Repeated → error.at ≡ length list - length left → error.span ≡ entry_spot left entry
-    → NamesEntry error entry → error.known.now ≡ known
+    → NamesEntry error entry → error.known.now ≡ known → HasSigns error.expected (λ class. false) false
     → IsEntryError known list error
 repeated_error known list left next seen entry place error c first is other limit seen_marks problem at span named
-    known_names =
+    known_names signs =
     record {
       places = c.places;
       left = left;
       names = c.names;
       wrong = subst (λ p. IsWrong p known list c.places left error) (sym problem)
-          (repeated_first known list left next seen entry place error c first (record { counted = at; span = span }) is
-          other limit seen_marks named);
+          (repeated_first known list left next seen entry place error c first
+          (record { counted = at; span = span; expected = signs }) is other limit seen_marks named);
       kind_and_name = known_names;
     }
 
 pub no_entry_error : (known : Names) (list left : List TokenTree) (seen : List Bool) (fault : Fault)
     (error : EntryError)
     → Checked known list left seen → IsEntryListFault left fault → error.problem ≡ problems.NoEntry
-    → error.at ≡ length list - length left + fault.at → error.span ≡ fault.span → error.name ≡ None
-    → error.known.now ≡ known
+    → error.at ≡ length list - length left + fault.at → error.span ≡ fault.span → error.expected ≡ fault.expected
+    → error.name ≡ None → error.known.now ≡ known
     → IsEntryError known list error
-no_entry_error known list left seen fault error c stands problem at span unnamed known_names = record {
+no_entry_error known list left seen fault error c stands problem at span signs unnamed known_names = record {
   places = c.places;
   left = left;
   names = c.names;
   wrong = subst (λ p. IsWrong p known list c.places left error) (sym problem)
-      (record { fault = fault; stands = stands; counted = at; span = span; unnamed = unnamed });
+      (record { fault = fault; stands = stands; counted = at; span = span; expected = signs; unnamed = unnamed });
   kind_and_name = known_names;
 }
 

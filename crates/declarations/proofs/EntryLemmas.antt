@@ -43,13 +43,13 @@ use Rattle.declarations.specs.rules.Names.{G, Value, one}
 use Rattle.declarations.specs.rules.Pieces.{ByRule}
 use Rattle.declarations.specs.rules.Rules.{follows, rules}
 use Rattle.declarations.proofs.ClassLemmas.{every_holds, same_class}
-use Rattle.declarations.proofs.ItemLemmas.{signs_group}
 use Rattle.declarations.proofs.ReaderLemmas.{remains_span, remains_within, classes_sign, first_finds, first_sticks}
 use Rattle.declarations.proofs.ReaderLemmas.{heads_either, heads_none, heads_sign, lacks, mark_finds, mark_sticks}
 use Rattle.declarations.proofs.ReaderLemmas.{other_finds, other_sticks, perhaps_stays, sign_finds, then_fails}
 use Rattle.declarations.proofs.ReaderLemmas.{then_finds, then_sticks}
 use Rattle.declarations.proofs.RuleFormLemmas.{found_reads, only_reading, rule_fewer, stuck_fault}
 use Rattle.declarations.proofs.RuleLemmas.{starts}
+use Rattle.declarations.proofs.SignLemmas.{signs_group}
 use Rattle.declarations.proofs.SortLemmas.{is_group_sign, groups, sort_of, unseen}
 use Rattle.declarations.proofs.TableReaderLemmas.{table_reads}
 

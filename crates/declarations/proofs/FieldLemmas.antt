@@ -1,35 +1,58 @@
--- The parts of a field that is all of the trees.
-use Rattle.std.proofs.Common.{◌≡◌, refl, sym, ◌∙◌, ap, subst, ℕ, List, [], ◌∷◌, ◌++◌, Some, None}
-use Rattle.std.proofs.Common.{Option, true, append_assoc, append-nil, length, arith}
-use Rattle.std.proofs.lemmas.List.{append_cancel_left}
+-- Attributes and a visibility before a part, and the parts of a field with a name.
+use Rattle.std.proofs.Common.{◌≡◌, refl, sym, ◌∙◌, ap, subst, ℕ, ◌-◌, true, false, List, [], ◌∷◌, ◌++◌}
+use Rattle.std.proofs.Common.{Option, Some, None, append_assoc, append-nil, length, arith}
+use Rattle.std.proofs.lemmas.List.{append_cancel_left, append_cancel_right}
+use Rattle.grammars.specs.Deterministic.{IsStart}
+use Rattle.grammars.specs.First.{may_begin}
+use Rattle.grammars.specs.Grammar.{Mark, Then}
+use Rattle.pm_span.specs.Extent.{Extent}
 use Rattle.pm_token.specs.Leaf.{Name}
 use Rattle.pm_stream.specs.declared.stream.TokenTree.{TokenTree}
 use Rattle.pm_stream.specs.declared.stream.TokenTree.TheVariants.{Ident}
-use Rattle.declarations.proofs.CutLemmas.{Goes, Begins, begins_whole, begins_after, no_fault}
-use Rattle.declarations.proofs.ItemLemmas.{goes_whole, reads_whole, goes_first, attributes_cut, visibility_cut}
-use Rattle.declarations.proofs.PartLemmas.{at, range, Front, field, tuple_field, before, after_attributes}
-use Rattle.declarations.proofs.PartLemmas.{after_visibility, visible}
-use Rattle.declarations.proofs.SignLemmas.{after_first_sign, signs-cons, pair_signs}
-use Rattle.declarations.proofs.SortLemmas.{sort_of, FirstTree, one, two, first_tree, is_identifier_sign, names, marks}
-use Rattle.declarations.proofs.SortLemmas.{pairs}
-use Rattle.declarations.specs.Field.{HasFront, HasFieldParts, IsNamed}
-use Rattle.declarations.specs.declared.field.Field.{Field}
-use Rattle.declarations.specs.Forms.{IsFrom, AreAttributes, IsVisibility, IsType}
-use Rattle.item_tables.specs.Grammar.{step, else_follow, after_range}
-use Rattle.declarations.specs.Item.{IsNameClass}
-use Rattle.declarations.specs.Reading.{Reads, FaultAt, IsOnly}
-use Rattle.declarations.specs.Signs.{Sign, signs, trees_of, name_class, pair_class, tree_class}
-use Rattle.item_tables.specs.TypeStep.{step_of}
+use Rattle.declarations.specs.Expected.{Expects}
+use Rattle.declarations.specs.Explore.{ExpectsWhole}
+use Rattle.declarations.specs.Fault.{extent_at, first_extent}
+use Rattle.declarations.specs.Field.{HasColonType, HasFieldParts, HasFront, HasNameType, IsFieldAt, IsNamed}
+use Rattle.declarations.specs.Field.{ReadsFront, field_rest}
+use Rattle.declarations.specs.Forms.{AreAttributes, IsField, IsFrom, IsType, start}
+use Rattle.declarations.specs.Function.{IsNameAt}
+use Rattle.declarations.specs.Reader.{Finds, Remains, Sticks}
+use Rattle.declarations.specs.Reading.{FaultAt, Reads}
+use Rattle.declarations.specs.Signs.{BeginsWith, Sign, classes_of, pair_class, signs, tree_class, trees_of}
+use Rattle.declarations.specs.Walk.{Stops}
 use Rattle.declarations.specs.Whole.{ReadsAll}
+use Rattle.item_tables.specs.Classes.{is}
+use Rattle.item_tables.specs.Grammar.{step}
 use Rattle.item_tables.specs.declared.class.SignClass.{SignClass}
-use Rattle.item_tables.specs.declared.class.SignClass.TheVariants as signs
-use Rattle.item_tables.specs.declared.walk_state.Item.TheVariants as items
+use Rattle.item_tables.specs.declared.class.SignClass.TheVariants as classes
+use Rattle.item_tables.specs.declared.walk_state.Continuation.TheVariants as places
 use Rattle.item_tables.specs.declared.walk_state.Part.TheVariants as parts
-use Rattle.item_tables.specs.declared.walk_state.WalkState.{WalkState}
-use Rattle.item_tables.specs.declared.walk_state.Continuation.TheVariants as rules
 use Rattle.item_tables.specs.declared.walk_state.Spot.TheVariants as spots
+use Rattle.item_tables.specs.declared.walk_state.State.TheVariants as states
+use Rattle.item_tables.specs.declared.walk_state.WalkState.{WalkState}
 use Rattle.item_tables.specs.declared.types.TypeState.TheVariants as types
-use Rattle.item_tables.specs.declared.types.TypeStep.{TypeStep}
+use Rattle.declarations.specs.declared.expected.Expected.{Expected}
+use Rattle.declarations.specs.declared.field.Field.{Field}
+use Rattle.declarations.specs.rules.Names.{G, Named, OfType, Rest, one, word}
+use Rattle.declarations.specs.rules.Parameters.{with_type}
+use Rattle.declarations.specs.rules.Parts as rule
+use Rattle.declarations.specs.rules.Pieces.{ByRule}
+use Rattle.declarations.specs.rules.Rules.{follows, rules}
+use Rattle.declarations.specs.rules.Types.{type}
+use Rattle.declarations.proofs.FormLemmas as forms
+use Rattle.declarations.proofs.FunctionPartLemmas.{name_finds}
+use Rattle.declarations.proofs.PartReaderLemmas as parts_read
+use Rattle.declarations.proofs.ReaderLemmas.{heads_none, heads_sign, lacks, mark_finds, mark_sticks}
+use Rattle.declarations.proofs.ReaderLemmas.{remains_span, sign_finds, then_fails, then_finds, then_sticks}
+use Rattle.declarations.proofs.ReadingLemmas.{classes-append, trees-append}
+use Rattle.declarations.proofs.RuleFaultLemmas as faults
+use Rattle.declarations.proofs.RuleFormLemmas.{found_reads}
+use Rattle.declarations.proofs.RuleLemmas.{starts}
+use Rattle.declarations.proofs.SignLemmas.{after_first_sign, pair_signs, signs-cons}
+use Rattle.declarations.proofs.SortLemmas.{marks, sort_of}
+use Rattle.declarations.proofs.TransferLemmas.{reads_to}
+use Rattle.declarations.proofs.ClassLemmas.{same_class}
+use Rattle.declarations.proofs.TreeLemmas.{is_mark_sign, or_nothing}
 
 -- ---- a part without the trees after it
 
@@ -108,160 +131,263 @@ reads_alone place trees part rest reads =
       );
     }
 
+-- a walk that stops before some signs also stops before the first of them
+stops_before : (place : WalkState) (cs more : List SignClass) → Stops step place (cs ++ more) → Stops step place cs
+stops_before place [] more stops = tt
+stops_before place (c ∷ cs) more stops = stops
+
+-- what is read before other trees is also read if the last of these trees are left away
+pub reads_before : (place : WalkState) (trees part mid rest : List TokenTree) → Reads (IsFrom place) trees part mid
+    → (b : Remains rest mid)
+    → Reads (IsFrom place) (part ++ trees_of b.front) part (trees_of b.front)
+reads_before place trees part mid rest reads b =
+    let all : signs trees ≡ (reads.piece ++ b.front) ++ signs rest =
+    reads.read ∙ (ap (λ ss. reads.piece ++ ss) b.read ∙ sym (append_assoc reads.piece b.front (signs rest))) in
+    let both : part ++ trees_of b.front ≡ trees_of (reads.piece ++ b.front) =
+    ap (λ p. p ++ trees_of b.front) reads.taken ∙ sym (trees-append reads.piece b.front) in
+    let whole : trees ≡ trees_of (reads.piece ++ b.front) ++ rest =
+    reads.whole ∙ (ap (λ ts. part ++ ts) b.whole
+    ∙ (sym (append_assoc part (trees_of b.front) rest) ∙ ap (λ ts. ts ++ rest) both)) in
+    let here : signs (trees_of b.front) ≡ b.front = alone_signs b.front mid rest b.read b.whole in
+    let classes : classes_of (signs mid) ≡ classes_of b.front ++ classes_of (signs rest) =
+    ap classes_of b.read ∙ classes-append b.front (signs rest) in
+    record {
+      piece = reads.piece;
+      read = ap signs both ∙ (alone_signs (reads.piece ++ b.front) trees rest all whole
+          ∙ ap (λ ss. reads.piece ++ ss) (sym here));
+      taken = reads.taken;
+      whole = refl;
+      stands = record {
+        last = reads.stands.last;
+        walks = reads.stands.walks;
+        ended = reads.stands.ended;
+        stops = subst (λ ss. Stops step reads.stands.last (classes_of ss)) (sym here)
+            (stops_before reads.stands.last (classes_of b.front) (classes_of (signs rest))
+            (subst (Stops step reads.stands.last) classes reads.stands.stops));
+      };
+    }
+
 -- ---- attributes and a visibility
 
-pub attributes_found : (front : Front) (trees part rest : List TokenTree)
-    → ReadsAll (IsFrom (at items.Alone (before front))) trees → IsOnly AreAttributes trees part rest
-    → Begins (after_attributes front) rest
-attributes_found front trees part rest all only =
-    begins_after (at items.Alone (spots.Before parts.Attributes)) (after_attributes front) trees part rest
-    (attributes_cut front trees (goes_whole (at items.Alone (before front)) trees all)) only
+pub front_reads : (trees a v mid rest : List TokenTree) → Finds rule.attributes trees mid
+    → Finds rule.visibility mid rest → trees ≡ a ++ mid → mid ≡ v ++ rest
+    → ReadsFront trees a v rest
+front_reads trees a v mid rest f g whole more = record {
+  from_visibility = mid;
+  attributes_found = f;
+  visibility_found = g;
+  attributes_whole = whole;
+  visibility_whole = more;
+}
 
-pub attributes_stand : (front : Front) (trees : List TokenTree) (fault : ℕ)
-    → ReadsAll (IsFrom (at items.Alone (before front))) trees → FaultAt AreAttributes trees fault → ⊥
-attributes_stand front trees fault all wrong =
-    no_fault (at items.Alone (spots.Before parts.Attributes)) (after_attributes front) trees fault
-    (attributes_cut front trees (goes_whole (at items.Alone (before front)) trees all)) wrong
+pub ruleset fronts = (front_reads)
 
-pub visibility_found : (front : Front) (trees part rest : List TokenTree) → Begins (after_attributes front) trees
-    → IsOnly IsVisibility trees part rest → Begins (after_visibility front) rest
-visibility_found front trees part rest begins only =
-    begins_after (at items.Alone (spots.Before parts.Visibility)) (after_visibility front) trees part rest
-    (visibility_cut front trees begins) only
+module _ (trees a v mid rest : List TokenTree) (f : ReadsFront trees a v mid) where
+  front_before : (b : Remains rest mid) → HasFront (a ++ (v ++ trees_of b.front)) a v (trees_of b.front)
+  front_before b =
+      let here = f.visibility_found.remains in
+      let shown : v ≡ trees_of here.front =
+      append_cancel_right v (trees_of here.front) mid (sym f.visibility_whole ∙ here.whole) in
+      let same : trees_of (here.front ++ b.front) ≡ v ++ trees_of b.front =
+      trees-append here.front b.front ∙ ap (λ ts. ts ++ trees_of b.front) (sym shown) in
+      let more : Remains rest f.from_visibility = record {
+        front = here.front ++ b.front;
+        read = here.read ∙ (ap (λ ss. here.front ++ ss) b.read ∙ sym (append_assoc here.front b.front (signs rest)));
+        whole = f.visibility_whole
+            ∙ (ap (λ ts. v ++ ts) b.whole
+            ∙ (sym (append_assoc v (trees_of b.front) rest) ∙ ap (λ ts. ts ++ rest) (sym same)));
+      } in
+      let attributed = parts_read.attributes_read trees a f.from_visibility f.attributes_found f.attributes_whole in
+      let visible = parts_read.visibility_reads f.from_visibility v mid f.visibility_found f.visibility_whole in
+      record {
+        whole = refl;
+        attributes_read = subst (λ r. Reads AreAttributes (a ++ r) a r) same
+            (reads_before (start places.Alone (states.At (spots.Before parts.Attributes))) trees a f.from_visibility
+            rest attributed more);
+        visibility_read =
+            reads_before (start places.Alone (states.At (spots.Before parts.Visibility))) f.from_visibility v mid rest
+            visible b;
+      }
 
-pub visibility_stands : (front : Front) (trees : List TokenTree) (fault : ℕ) → Begins (after_attributes front) trees
-    → FaultAt IsVisibility trees fault → ⊥
-visibility_stands front trees fault begins wrong =
-    no_fault (at items.Alone (spots.Before parts.Visibility)) (after_visibility front) trees fault
-    (visibility_cut front trees begins) wrong
+  -- attributes and a visibility before these trees, without the rest
+  pub front_of : (other : List TokenTree) → Remains rest mid → mid ≡ other ++ rest
+      → HasFront (a ++ (v ++ other)) a v other
+  front_of other b whole =
+      let same : trees_of b.front ≡ other = append_cancel_right (trees_of b.front) other rest (sym b.whole ∙ whole) in
+      subst (λ o. HasFront (a ++ (v ++ o)) a v o) same (front_before b)
 
-pub front_of : (trees attributes r1 visibility r2 other : List TokenTree) → Reads AreAttributes trees attributes r1
-    → Reads IsVisibility r1 visibility r2 → r2 ≡ other → HasFront trees attributes visibility other
-front_of trees attributes r1 visibility r2 other first second same =
-    let e1 : r1 ≡ visibility ++ other = second.whole ∙ ap (λ r. visibility ++ r) same in
-    record {
-      whole = first.whole ∙ ap (λ r. attributes ++ r) e1;
-      attributes_read = subst (Reads AreAttributes trees attributes) e1 first;
-      visibility_read = subst (λ r. Reads IsVisibility r visibility other) e1
-          (subst (Reads IsVisibility r1 visibility) same second);
-    }
+  pub front_whole : (other : List TokenTree) → mid ≡ other ++ rest → trees ≡ (a ++ (v ++ other)) ++ rest
+  front_whole other whole =
+      f.attributes_whole
+      ∙ (ap (λ r. a ++ r) (f.visibility_whole
+      ∙ (ap (λ r. v ++ r) whole ∙ sym (append_assoc v other rest)))
+      ∙ sym (append_assoc a (v ++ other) rest))
+
+-- a rule that begins with attributes and a visibility
+module _ (g : G) where
+  pub front_finds : (trees a v mid rest : List TokenTree) → ReadsFront trees a v mid → Finds g mid rest
+      → Finds (Then rule.attributes (Then rule.visibility g)) trees rest
+  front_finds trees a v mid rest f h =
+      then_finds rule.attributes (Then rule.visibility g) trees f.from_visibility rest f.attributes_found
+      (then_finds rule.visibility g f.from_visibility mid rest f.visibility_found h)
+
+  pub front_fails : (trees a v mid left : List TokenTree) → ReadsFront trees a v mid → Sticks g mid left
+      → Sticks (Then rule.attributes (Then rule.visibility g)) trees left
+  front_fails trees a v mid left f s =
+      then_fails rule.attributes (Then rule.visibility g) trees f.from_visibility left f.attributes_found
+      (then_fails rule.visibility g f.from_visibility mid left f.visibility_found s)
+
+  pub front_sticks : (trees left : List TokenTree) → Sticks rule.attributes trees left
+      → Sticks (Then rule.attributes (Then rule.visibility g)) trees left
+  front_sticks trees left s = then_sticks rule.attributes (Then rule.visibility g) trees left s
+
+-- ---- `:` and a type
+
+pub starts_type : IsStart rules follows (type ∷ [])
+starts_type = starts type refl refl
+
+-- a sign that passes the test of a class has this class
+pub begins_as : (trees rest : List TokenTree) (x class : SignClass) → BeginsWith trees class rest → is x class ≡ true
+    → BeginsWith trees x rest
+begins_as trees rest x class b h = subst (λ c. BeginsWith trees c rest) (same_class x class h) b
+
+-- a sign that is a mark is one tree
+pub mark_first : (trees rest : List TokenTree) (class : SignClass) → BeginsWith trees class rest
+    → sort_of class ≡ marks
+    → (tree : TokenTree) × (trees ≡ tree ∷ rest) × (tree_class tree ≡ class)
+mark_first trees rest class b sort =
+    let sign : Sign = record { class = class; trees = b.front } in
+    let at = is_mark_sign trees sign (signs rest) b.read sort in
+    let one : b.front ≡ at.0 ∷ [] = ap (λ s. s.trees) at.2.is in
+    (at.0, b.whole ∙ ap (λ ts. ts ++ rest) one, sym (ap (λ s. s.class) at.2.is))
+
+module _ (trees from_type : List TokenTree) (class : SignClass) (b : BeginsWith trees class from_type)
+    (h : is classes.Colon class ≡ true) where
+  pub colon_finds : (rest : List TokenTree) → Finds type from_type rest → Finds with_type trees rest
+  colon_finds rest f =
+      mark_finds Rest _ trees rest
+      (then_finds (one classes.Colon) _ trees from_type rest (sign_finds (is classes.Colon) trees from_type class b h)
+      (mark_finds OfType type from_type rest f))
+
+  pub colon_fails : (left : List TokenTree) → Sticks type from_type left → Sticks with_type trees left
+  colon_fails left s =
+      mark_sticks Rest _ trees left
+      (then_fails (one classes.Colon) _ trees from_type left (sign_finds (is classes.Colon) trees from_type class b h)
+      (mark_sticks OfType type from_type left s))
+
+  pub colon_has : (ty rest : List TokenTree) → Finds type from_type rest → from_type ≡ ty ++ rest
+      → HasColonType trees ty rest
+  colon_has ty rest f whole = record {
+    from_type = from_type;
+    colon = begins_as trees from_type classes.Colon class b h;
+    type_read = found_reads type starts_type from_type ty rest f whole;
+  }
+
+pub no_colon : (trees rest : List TokenTree) (class : SignClass) → BeginsWith trees class rest
+    → is classes.Colon class ≡ false
+    → Sticks with_type trees trees
+no_colon trees rest class b h =
+    lacks with_type trees
+    (heads_sign with_type trees rest class b
+    ∙ (or_nothing (is classes.Colon class) (may_begin (Then (Mark OfType) type) class) ∙ h)) refl
+
+pub colon_none : (trees : List TokenTree) → trees ≡ [] → Sticks with_type trees trees
+colon_none trees e = lacks with_type trees (heads_none with_type trees e) refl
+
+pub ruleset colon_types = (colon_finds, colon_fails, colon_has, no_colon, colon_none)
 
 -- ---- a name, `:` and a type
 
-pub record AfterVisible (trees : List TokenTree) : Type 0 where
-  pub ident : Name
-  pub colon : TokenTree
-  pub more : List TokenTree
-  pub whole : trees ≡ Ident ident ∷ colon ∷ more
-  pub is_name : IsNameClass (name_class ident)
-  pub is_colon : tree_class colon ≡ signs.Colon
-  pub type_read : ReadsAll IsType more
+pub named_finds : (trees mid rest : List TokenTree) (n : Name) → IsNameAt trees n mid → Finds with_type mid rest
+    → Finds field_rest trees rest
+named_finds trees mid rest n at f =
+    mark_finds Named (Then word with_type) trees rest
+    (then_finds word with_type trees mid rest (name_finds trees mid n at) f)
 
-record LedField (class : SignClass) (next : WalkState) : Type 0 where
-  sort : sort_of class ≡ names
-  is_name : IsNameClass class
-  is : next ≡ at items.Alone spots.FieldName
+pub named_has : (trees mid ty rest : List TokenTree) (n : Name) → IsNameAt trees n mid → HasColonType mid ty rest
+    → HasNameType trees n ty rest
+named_has trees mid ty rest n at typed = record { from_colon = mid; named = at; typed = typed }
 
-led_field : (class : SignClass) (next : WalkState) → after_visibility field class ≡ Some next → LedField class next
-led_field (signs.Word word) next steps = record { sort = refl; is_name = tt; is = (cc) }
-led_field class next steps = cc
+pub named_fails : (trees mid left : List TokenTree) (n : Name) → IsNameAt trees n mid → Sticks with_type mid left
+    → Sticks field_rest trees left
+named_fails trees mid left n at s =
+    mark_sticks Named (Then word with_type) trees left
+    (then_fails word with_type trees mid left (name_finds trees mid n at) s)
 
-led_colon : (class : SignClass) (next : WalkState) → step (at items.Alone spots.FieldName) class ≡ Some next
-    → (class ≡ signs.Colon) × (next ≡ range items.Alone rules.Alone types.Wanted 0)
-led_colon signs.Colon next steps = (refl, cc)
-led_colon class next steps = cc
+pub named_sticks : (trees left : List TokenTree) → Sticks word trees left → Sticks field_rest trees left
+named_sticks trees left s =
+    mark_sticks Named (Then word with_type) trees left (then_sticks word with_type trees left s)
 
-pub record OneTree (trees : List TokenTree) (sign : Sign) : Type 0 where
-  pub tree : TokenTree
-  pub is : sign ≡ record { class = tree_class tree; trees = tree ∷ [] }
+pub ruleset named_types = (named_finds, named_has, named_fails, named_sticks)
 
-pub mark_tree : (trees : List TokenTree) (sign : Sign) → FirstTree trees sign → sort_of sign.class ≡ marks
-    → OneTree trees sign
-mark_tree trees sign (one tree is) sort = record { tree = tree; is = is.is }
-mark_tree trees sign (two pair) sort =
-    let same : pairs ≡ marks = sym pair ∙ sort in
-    cc
+-- ---- a field
 
-pub type_goes : (trees : List TokenTree) → Goes (range items.Alone rules.Alone types.Wanted 0) trees
-    → ReadsAll IsType trees
-type_goes trees goes = reads_whole (range items.Alone rules.Alone types.Wanted 0) trees goes
+pub starts_field : IsStart rules follows (rule.field ∷ [])
+starts_field = starts rule.field refl refl
 
-pub after_visible : (trees : List TokenTree) → Begins (after_visibility field) trees → AfterVisible trees
-after_visible trees begins =
-    let led = led_field begins.sign.class begins.next begins.steps in
-    let found = is_identifier_sign trees begins.sign (signs begins.more) begins.begins led.sort in
-    let is : begins.sign.class ≡ name_class found.0 = ap (λ s. s.class) found.1.is in
-    let name : begins.sign.trees ≡ Ident found.0 ∷ [] = ap (λ s. s.trees) found.1.is in
-    let goes = subst (λ p. Goes p begins.more) led.is begins.left in
-    let colon = begins_whole (at items.Alone spots.FieldName) begins.more goes refl in
-    let led2 = led_colon colon.sign.class colon.next colon.steps in
-    let mark = mark_tree begins.more colon.sign
-    (first_tree begins.more colon.sign (signs colon.more) colon.begins) (ap sort_of led2.0) in
-    let colons : colon.sign.trees ≡ mark.tree ∷ [] = ap (λ s. s.trees) mark.is in
-    let rest : begins.more ≡ mark.tree ∷ colon.more = colon.follows ∙ ap (λ ts. ts ++ colon.more) colons in
+-- what is read as a type before a rest is a type by itself
+pub type_alone : (trees ty rest : List TokenTree) → Reads (ByRule type) trees ty rest → ReadsAll IsType ty
+type_alone trees ty rest reads =
+    reads_alone (start places.Alone (states.Range types.Wanted)) trees ty rest
+    (reads_to (ByRule type) IsType forms.types trees ty rest reads)
+
+pub field_finds : (trees a v mid rest : List TokenTree) → ReadsFront trees a v mid → Finds field_rest mid rest
+    → Finds rule.field trees rest
+field_finds = front_finds field_rest
+
+pub field_fails : (trees a v mid left : List TokenTree) → ReadsFront trees a v mid → Sticks field_rest mid left
+    → Sticks rule.field trees left
+field_fails = front_fails field_rest
+
+pub field_sticks : (trees left : List TokenTree) → Sticks rule.attributes trees left → Sticks rule.field trees left
+field_sticks = front_sticks field_rest
+
+pub field_at : (trees mid rest : List TokenTree) (n : Name) (found : Field)
+    → ReadsFront trees found.attributes.now found.visibility.now mid → Finds field_rest mid rest
+    → HasNameType mid n found.field_type.now rest → IsNamed n found
+    → IsFieldAt IsField HasFieldParts trees found rest
+field_at trees mid rest n found f h typed named =
+    let a = found.attributes.now in
+    let v = found.visibility.now in
+    let ty = found.field_type.now in
+    let from_colon = typed.from_colon in
+    let from_type = typed.typed.from_type in
+    let colon = mark_first from_colon from_type classes.Colon typed.typed.colon refl in
+    let other : List TokenTree = Ident n ∷ colon.0 ∷ ty in
+    let whole : mid ≡ other ++ rest =
+    typed.named.whole ∙ ap (λ r. Ident n ∷ r) (colon.1 ∙ ap (λ r. colon.0 ∷ r) typed.typed.type_read.whole) in
     record {
-      ident = found.0;
-      colon = mark.tree;
-      more = colon.more;
-      whole = begins.follows ∙ ap (λ ts. ts ++ begins.more) name ∙ ap (λ r. Ident found.0 ∷ r) rest;
-      is_name = subst IsNameClass is led.is_name;
-      is_colon = sym (ap (λ s. s.class) mark.is) ∙ led2.0;
-      type_read = type_goes colon.more (subst (λ p. Goes p colon.more) led2.1 colon.left);
+      part = a ++ (v ++ other);
+      reads = parts_read.part_reads rule.field IsField forms.one_field starts_field trees (a ++ (v ++ other)) rest
+          (field_finds trees a v mid rest f h) (front_whole trees a v mid rest f other whole);
+      parts = record {
+        ident = n;
+        colon = colon.0;
+        front = front_of trees a v mid rest f other h.remains whole;
+        name = named;
+        is_name = typed.named.is_name;
+        is_colon = colon.2;
+        type_read = type_alone from_type ty rest typed.typed.type_read;
+      };
     }
 
--- ---- a type alone
+pub ruleset fields_of = (field_finds, field_fails, field_sticks, field_at)
 
--- a step after a visibility is also a step where a type must come
-tuple_type : (taken : Option TypeStep) (next : WalkState)
-    → after_range (visible tuple_field) taken ≡ Some next
-    → after_range (range items.Alone rules.Alone types.Wanted 0) taken ≡ Some next
-tuple_type None next steps = cc
-tuple_type (Some taken) next steps = steps
+-- ---- errors
 
-type_starts : (o : Option TypeStep) (class : SignClass) (next : WalkState)
-    → after_range (range items.Alone rules.Alone types.Wanted 0) o ≡ Some next
-    → else_follow (after_range (range items.Alone rules.Alone types.Wanted 0) o)
-    (range items.Alone rules.Alone types.Wanted 0) types.Wanted class ≡ Some next
-type_starts None class next steps = cc
-type_starts (Some taken) class next steps = steps
+pub field_fault : (trees left : List TokenTree) (at : ℕ) → Sticks rule.field trees left
+    → at ≡ length trees - length left
+    → FaultAt IsField trees at
+field_fault = faults.form_fault rule.field IsField forms.one_field starts_field
 
-tuple_step : (class : SignClass) (next : WalkState) → after_visibility tuple_field class ≡ Some next
-    → step (range items.Alone rules.Alone types.Wanted 0) class ≡ Some next
-tuple_step class next steps =
-    type_starts (step_of types.Wanted class true) class next (tuple_type (step_of types.Wanted class true) next steps)
+pub field_span : (trees left : List TokenTree) (at : ℕ) (span : Option Extent) → Sticks rule.field trees left
+    → at ≡ length trees - length left → span ≡ first_extent left
+    → span ≡ extent_at trees at
+field_span trees left at span s counted first = remains_span trees left at span s.remains counted first
 
-pub after_tuple : (trees : List TokenTree) → Begins (after_visibility tuple_field) trees → ReadsAll IsType trees
-after_tuple trees begins =
-    type_goes trees (goes_first (range items.Alone rules.Alone types.Wanted 0) begins.next trees begins.more
-    begins.sign begins.begins (tuple_step begins.sign.class begins.next begins.steps) begins.left)
+pub field_expects : (trees left : List TokenTree) (at : ℕ) (set : Expected) → Sticks rule.field trees left
+    → at ≡ length trees - length left → ExpectsWhole rule.field trees set
+    → Expects IsField trees at set
+field_expects = faults.form_expects rule.field IsField forms.one_field starts_field
 
--- ---- the parts that were found
-
-pub named_parts : (trees r1 r2 : List TokenTree) (found : Field) (name : Name) (r3 : List TokenTree)
-    (colon : TokenTree) → Reads AreAttributes trees found.attributes.now r1
-    → Reads IsVisibility r1 found.visibility.now r2 → AfterVisible r2 → r2 ≡ Ident name ∷ r3
-    → r3 ≡ colon ∷ found.field_type.now → IsNamed name found → HasFieldParts trees found
-named_parts trees r1 r2 found name r3 colon attributes visibility after whole left is_named =
-    let same : Ident after.ident ∷ after.colon ∷ after.more ≡ Ident name ∷ colon ∷ found.field_type.now =
-    sym after.whole ∙ whole ∙ ap (λ r. Ident name ∷ r) left in
-    let idents : after.ident ≡ name = cc in
-    let colons : after.colon ≡ colon = cc in
-    let rests : after.more ≡ found.field_type.now = cc in
-    record {
-      ident = name;
-      colon = colon;
-      front = front_of trees found.attributes.now r1 found.visibility.now r2
-          (Ident name ∷ colon ∷ found.field_type.now) attributes visibility
-          (whole ∙ ap (λ r. Ident name ∷ r) left);
-      name = is_named;
-      is_name = subst (λ i. IsNameClass (name_class i)) idents after.is_name;
-      is_colon = ap tree_class (sym colons) ∙ after.is_colon;
-      type_read = subst (ReadsAll IsType) rests after.type_read;
-    }
-
-pub colon_stands : (trees : List TokenTree) (name : Name) (rest : List TokenTree) → AfterVisible trees
-    → trees ≡ Ident name ∷ rest → length rest ≡ 0 → ⊥
-colon_stands trees name [] after whole none =
-    let same : Ident after.ident ∷ after.colon ∷ after.more ≡ Ident name ∷ [] = sym after.whole ∙ whole in
-    cc
-colon_stands trees name (tree ∷ rest) after whole none = omega arith
+pub ruleset field_faults = (field_fault, field_span, field_expects)

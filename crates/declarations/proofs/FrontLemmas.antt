@@ -1,12 +1,14 @@
 -- Attributes and a visibility, read by their rules.
-use Rattle.std.proofs.Common.{◌≡◌, refl, sym, ◌∙◌, ap, Bool, true, false, ◌&&◌, ◌||◌, List, [], ◌∷◌}
+use Rattle.std.proofs.Common.{◌≡◌, refl, sym, ◌∙◌, ap, subst, Bool, true, false, ◌&&◌, ◌||◌, List, [], ◌∷◌, length}
+use Rattle.std.proofs.Common.{arith}
 use Rattle.std.proofs.lemmas.Bool.{both_ways}
 use Rattle.grammars.specs.First.{heads, may_begin}
 use Rattle.grammars.specs.Grammar.{Mark, Nothing, Sign, Then, Either}
 use Rattle.pm_stream.specs.declared.stream.TokenTree.{TokenTree}
-use Rattle.declarations.specs.Parts.{begins_identifier, begins_mark}
+use Rattle.pm_stream.specs.declared.stream.TokenTree.TheVariants.{Group, Ident, Literal, Punct}
+use Rattle.declarations.specs.Parts.{begins_identifier, begins_mark, is_group_of, is_pub_tree}
 use Rattle.declarations.specs.Reader.{Finds, classes_in}
-use Rattle.declarations.specs.Signs.{BeginsWith}
+use Rattle.declarations.specs.Signs.{BeginsWith, group_class, name_class}
 use Rattle.item_tables.specs.declared.class.SignClass.{SignClass}
 use Rattle.item_tables.specs.declared.class.SignClass.TheVariants as signs
 use Rattle.item_tables.specs.declared.class.Keyword.TheVariants as keywords
@@ -16,10 +18,12 @@ use Rattle.declarations.specs.rules.Names.{G, Label, Name, Visible, Generics, Wh
 use Rattle.declarations.specs.rules.Parts.{attribute, closed_parameters, generics, predicate, restriction, visibility}
 use Rattle.declarations.specs.rules.Parts.{visible, where_clause}
 use Rattle.declarations.proofs.ClassLemmas.{same_class}
+use Rattle.declarations.proofs.FunctionPartLemmas.{begins_group, begins_name}
+use Rattle.declarations.proofs.PublicLemmas.{pub_is, pub_is_not, public}
 use Rattle.declarations.proofs.TreeLemmas.{is_mark_sign, no_sign, or_nothing}
 use Rattle.declarations.proofs.ReaderLemmas.{first_finds, heads_none, heads_sign, mark_finds, other_finds}
 use Rattle.declarations.proofs.ReaderLemmas.{perhaps_stays, sign_finds, then_finds}
-use Rattle.declarations.proofs.SortLemmas.{marks, is_identifier_sign, names, sort_of}
+use Rattle.declarations.proofs.SortLemmas.{groups, is_group_sign, is_identifier_sign, marks, names, sort_of}
 
 -- ---- attributes
 
@@ -103,18 +107,108 @@ group_finds trees rest class b differs h =
     (heads_sign (Then (key keywords.Pub) restriction) trees rest class b ∙ (public_first class ∙ differs)) refl
     (sign_finds (is signs.Visibility) trees rest class b h)))
 
-pub not_visible : (trees rest : List TokenTree) (class : SignClass) → BeginsWith trees class rest
-    → is (signs.Keyword keywords.Pub) class ≡ false → is signs.Visibility class ≡ false
+abbrev pub_sign : G
+pub_sign = key keywords.Pub
+
+abbrev group_sign : G
+group_sign = one signs.Visibility
+
+visible_heads : (cs : List SignClass) → heads marked_visible cs ≡ (heads pub_sign cs || heads group_sign cs)
+visible_heads [] = refl
+visible_heads (c ∷ cs) = visible_first c
+
+-- ---- the first tree
+
+-- a tree that is `pub`
+pub_begins : (trees rest : List TokenTree) (tree : TokenTree) → trees ≡ tree ∷ rest → is_pub_tree tree ≡ true
+    → BeginsWith trees public rest
+pub_begins trees rest (Ident i) whole h =
+    subst (λ c. BeginsWith trees c rest) (pub_is i h) (begins_name trees rest i whole)
+pub_begins trees rest (Group g) whole h = absurd (both_ways _ refl h)
+pub_begins trees rest (Punct p) whole h = absurd (both_ways _ refl h)
+pub_begins trees rest (Literal l) whole h = absurd (both_ways _ refl h)
+
+pub_heads : (trees rest : List TokenTree) (tree : TokenTree) → trees ≡ tree ∷ rest → is_pub_tree tree ≡ false
+    → heads pub_sign (classes_in trees) ≡ false
+pub_heads trees rest tree whole h =
+    no_sign (is public) trees
+    (λ sign after e i.
+    let at = is_identifier_sign trees sign after e (ap sort_of (same_class public sign.class i)) in
+    let both : tree ∷ rest ≡ Ident at.0 ∷ at.1.more = sym whole ∙ at.1.whole in
+    let same : tree ≡ Ident at.0 = cc in
+    let class : sign.class ≡ name_class at.0 = ap (λ s. s.class) at.1.is in
+    both_ways _ (pub_is_not at.0 (ap is_pub_tree (sym same) ∙ h)) (ap (is public) (sym class) ∙ i))
+
+-- a tree that is a group of a class
+group_begins : (class : SignClass) (trees rest : List TokenTree) (tree : TokenTree) → trees ≡ tree ∷ rest
+    → is_group_of class tree ≡ true
+    → BeginsWith trees class rest
+group_begins class trees rest (Group g) whole h =
+    subst (λ c. BeginsWith trees c rest) (same_class class (group_class g.delimiter g.stream) h)
+    (begins_group trees rest g whole)
+group_begins class trees rest (Ident i) whole h = absurd (both_ways _ refl h)
+group_begins class trees rest (Punct p) whole h = absurd (both_ways _ refl h)
+group_begins class trees rest (Literal l) whole h = absurd (both_ways _ refl h)
+
+group_heads : (class : SignClass) (trees rest : List TokenTree) (tree : TokenTree) → sort_of class ≡ groups
+    → trees ≡ tree ∷ rest → is_group_of class tree ≡ false
+    → heads {N = Name} {L = Label} (Sign (is class)) (classes_in trees) ≡ false
+group_heads class trees rest tree sort whole h =
+    no_sign (is class) trees
+    (λ sign after e i.
+    let at = is_group_sign trees sign after e (ap sort_of (same_class class sign.class i) ∙ sort) in
+    let both : tree ∷ rest ≡ Group at.0 ∷ at.1.more = sym whole ∙ at.1.whole in
+    let same : tree ≡ Group at.0 = cc in
+    let is_class : sign.class ≡ group_class at.0.delimiter at.0.stream = ap (λ s. s.class) at.1.is in
+    both_ways _ (ap (is_group_of class) (sym same) ∙ h) (ap (is class) (sym is_class) ∙ i))
+
+pub public_tree : (trees mid rest : List TokenTree) (tree : TokenTree) → trees ≡ tree ∷ mid
+    → is_pub_tree tree ≡ true → Finds restriction mid rest
+    → Finds visibility trees rest
+public_tree trees mid rest tree whole h f =
+    public_finds trees mid rest public (pub_begins trees mid tree whole h) refl f
+
+pub group_tree : (trees rest : List TokenTree) (tree : TokenTree) → trees ≡ tree ∷ rest
+    → is_group_of signs.Visibility tree ≡ true
+    → Finds visibility trees rest
+group_tree trees rest tree whole h =
+    group_finds trees rest signs.Visibility (group_begins signs.Visibility trees rest tree whole h) refl refl
+
+pub other_tree : (trees rest : List TokenTree) (tree : TokenTree) → trees ≡ tree ∷ rest
+    → is_pub_tree tree ≡ false → is_group_of signs.Visibility tree ≡ false
     → Finds visibility trees trees
-not_visible trees rest class b differs none =
+other_tree trees rest tree whole h i =
     perhaps_stays marked_visible trees
-    (heads_sign marked_visible trees rest class b
-    ∙ (visible_first class ∙ (ap (λ x. x || is signs.Visibility class) differs ∙ none)))
+    (visible_heads (classes_in trees)
+    ∙ rw (pub_heads trees rest tree whole h, group_heads signs.Visibility trees rest tree refl whole i) refl)
 
-pub visible_end : (trees : List TokenTree) → trees ≡ [] → Finds visibility trees trees
-visible_end trees e = perhaps_stays marked_visible trees (heads_none marked_visible trees e)
+pub no_tree : (trees : List TokenTree) → length trees ≡ 0 → Finds visibility trees trees
+no_tree [] none = perhaps_stays marked_visible [] (heads_none marked_visible [] refl)
+no_tree (tree ∷ trees) none = absurd (omega arith)
 
-pub ruleset visibilities = (public_finds, group_finds, not_visible, visible_end)
+pub ruleset visibilities = (public_tree, group_tree, other_tree, no_tree)
+
+pub restriction_finds : (trees rest : List TokenTree) (tree : TokenTree) → trees ≡ tree ∷ rest
+    → is_group_of signs.Restriction tree ≡ true
+    → Finds restriction trees rest
+restriction_finds trees rest tree whole h =
+    let b = group_begins signs.Restriction trees rest tree whole h in
+    first_finds (one signs.Restriction) Nothing trees rest
+    (heads_sign (one signs.Restriction) trees rest signs.Restriction b)
+    (sign_finds (is signs.Restriction) trees rest signs.Restriction b refl)
+
+pub no_restriction : (trees rest : List TokenTree) (tree : TokenTree) → trees ≡ tree ∷ rest
+    → is_group_of signs.Restriction tree ≡ false
+    → Finds restriction trees trees
+no_restriction trees rest tree whole h =
+    perhaps_stays (one signs.Restriction) trees (group_heads signs.Restriction trees rest tree refl whole h)
+
+pub restriction_none : (trees : List TokenTree) → length trees ≡ 0 → Finds restriction trees trees
+restriction_none [] none =
+    perhaps_stays (one signs.Restriction) [] (heads_none (one signs.Restriction) [] refl)
+restriction_none (tree ∷ trees) none = absurd (omega arith)
+
+pub ruleset restrictions = (restriction_finds, no_restriction, restriction_none)
 
 -- ---- generic parameters and where clauses that are left out
 

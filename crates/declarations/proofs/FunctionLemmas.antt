@@ -190,11 +190,6 @@ pub attributes_stick : (trees left : List TokenTree) → Sticks attributes trees
     → Sticks rule.function_item trees left
 attributes_stick trees left f = then_sticks attributes from_visibility trees left f
 
-pub visibility_sticks : (trees mid left : List TokenTree) → Left from_visibility trees mid → Sticks visibility mid left
-    → Sticks rule.function_item trees left
-visibility_sticks trees mid left l f =
-    stuck rule.function_item visibility (Then (Mark Front) from_qualifiers) trees mid left l f
-
 pub fn_sticks : (trees mid left : List TokenTree) → Left from_fn trees mid → Sticks (key keywords.Fn) mid left
     → Sticks rule.function_item trees left
 fn_sticks trees mid left l f = stuck rule.function_item (key keywords.Fn) from_name trees mid left l f

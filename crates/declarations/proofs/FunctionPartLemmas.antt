@@ -26,7 +26,6 @@ use Rattle.item_tables.specs.declared.class.SignClass.{SignClass}
 use Rattle.item_tables.specs.declared.class.SignClass.TheVariants as signs
 use Rattle.item_tables.specs.declared.class.Keyword.TheVariants as keywords
 use Rattle.item_tables.specs.declared.class.Word.TheVariants as words
-use Rattle.item_tables.specs.declared.walk_state.Part.TheVariants as parts
 use Rattle.item_tables.specs.declared.walk_state.Continuation.TheVariants as places
 use Rattle.item_tables.specs.declared.walk_state.Spot.TheVariants as spots
 use Rattle.item_tables.specs.declared.walk_state.State.TheVariants as states
@@ -36,17 +35,17 @@ use Rattle.declarations.specs.rules.Fronts.{is_safe}
 use Rattle.declarations.specs.rules.Functions as rule
 use Rattle.declarations.specs.rules.Names.{Body, Label, Name as RuleName, Rest, Returns, key}
 use Rattle.declarations.specs.rules.Names.{G, one, word}
-use Rattle.declarations.specs.rules.Parts.{generics, visibility, where_clause}
+use Rattle.declarations.specs.rules.Parts.{generics, where_clause}
 use Rattle.declarations.specs.rules.Rules.{follows, rules}
 use Rattle.declarations.specs.rules.Types.{type}
 use Rattle.declarations.proofs.ClassLemmas.{same_class}
-use Rattle.declarations.proofs.ItemLemmas.{signs_group}
 use Rattle.declarations.proofs.ReaderLemmas.{first_finds, first_sticks, heads_none, heads_sign, lacks, mark_finds}
 use Rattle.declarations.proofs.ReaderLemmas.{mark_sticks, other_finds, other_sticks, perhaps_stays}
 use Rattle.declarations.proofs.ReaderLemmas.{sign_ends, sign_finds, sign_sticks}
 use Rattle.declarations.proofs.ReaderLemmas.{then_fails, then_finds}
 use Rattle.declarations.proofs.RuleFormLemmas.{found_reads}
 use Rattle.declarations.proofs.RuleLemmas.{starts}
+use Rattle.declarations.proofs.SignLemmas.{signs_group}
 use Rattle.declarations.proofs.SortLemmas.{is_group_sign, groups, is_identifier_sign, names, sort_of, unseen}
 use Rattle.declarations.proofs.TableReaderLemmas.{table_reads}
 
@@ -56,13 +55,6 @@ starts_type : IsStart rules follows (type ∷ [])
 starts_type = starts type refl refl
 
 -- ---- parts that the tables read
-
-pub visibility_reads : (trees : List TokenTree) (result : Result (Bor (List TokenTree)) (Bor (List TokenTree)))
-    → MatchResult result
-    (λ rest. StopsAt (start places.Alone (states.At (spots.Before parts.Visibility))) true trees rest.now)
-    (λ left. StopsAt (start places.Alone (states.At (spots.Before parts.Visibility))) false trees left.now)
-    → ReadsRule visibility trees result
-visibility_reads = table_reads (start places.Alone (states.At (spots.Before parts.Visibility))) visibility refl
 
 pub generics_read : (trees : List TokenTree) (result : Result (Bor (List TokenTree)) (Bor (List TokenTree)))
     → MatchResult result
@@ -233,7 +225,7 @@ round_sort (signs.Word w) h = absurd (both_ways _ refl h)
 round_sort (signs.Keyword k) h = absurd (both_ways _ refl h)
 round_sort _ h = absurd (both_ways _ refl h)
 
-round_class : (f : Forest) → is_round (group_class delimiters.Parenthesis f) ≡ true
+pub round_class : (f : Forest) → is_round (group_class delimiters.Parenthesis f) ≡ true
 round_class f =
     elim (is_restriction f) as (λ b. is_round (parentheses_class b) ≡ true) [ true ↦ refl | false ↦ refl ]
 
@@ -249,17 +241,21 @@ pub are_parentheses : (trees rest : List TokenTree) (g : Grouped) → trees ≡ 
     → AreParentheses trees g rest
 are_parentheses trees rest g whole round = record { whole = whole; round = round }
 
-pub no_parentheses : (trees : List TokenTree)
+-- where no parentheses are
+pub no_round : (trees : List TokenTree)
     → ((g : Grouped) (rest : List TokenTree) → trees ≡ Group g ∷ rest → g.delimiter ≡ delimiters.Parenthesis → ⊥)
-    → Sticks (Sign is_round) trees trees
-no_parentheses trees none =
-    lacks (Sign is_round) trees
-    (no_sign is_round trees
+    → heads {N = RuleName} {L = Label} (Sign is_round) (classes_in trees) ≡ false
+no_round trees none =
+    no_sign is_round trees
     (λ sign after e h.
     let at = is_group_sign trees sign after e (round_sort sign.class h) in
     let class : sign.class ≡ group_class at.0.delimiter at.0.stream = ap (λ s. s.class) at.1.is in
-    none at.0 at.1.more at.1.whole (round_delimiter at.0.delimiter at.0.stream (ap is_round (sym class) ∙ h))))
-    refl
+    none at.0 at.1.more at.1.whole (round_delimiter at.0.delimiter at.0.stream (ap is_round (sym class) ∙ h)))
+
+pub no_parentheses : (trees : List TokenTree)
+    → ((g : Grouped) (rest : List TokenTree) → trees ≡ Group g ∷ rest → g.delimiter ≡ delimiters.Parenthesis → ⊥)
+    → Sticks (Sign is_round) trees trees
+no_parentheses trees none = lacks (Sign is_round) trees (no_round trees none) refl
 
 pub parentheses_find : (trees rest : List TokenTree) (g : Grouped) → AreParentheses trees g rest
     → Finds (Sign is_round) trees rest

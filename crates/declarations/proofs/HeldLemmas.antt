@@ -13,33 +13,29 @@ use Rattle.pm_stream.specs.declared.stream.TokenTree.{TokenTree}
 use Rattle.pm_stream.specs.declared.stream.TokenTree.TheVariants.{Group, Ident, Punct, Literal}
 use Rattle.declarations.specs.Bare.{bare_first, has_no_delimiters, inside_of}
 use Rattle.declarations.specs.Entry.{Begins, BeginsWithHeld, BeginsWithNone, Continues, Fails, GoesOn, HasArgs}
-use Rattle.declarations.specs.Entry.{IsAfterEntry, IsArgsFault, IsEntryListFault, IsFaultAfter, IsFaultWithin}
-use Rattle.declarations.specs.Entry.{IsEntryAt, IsHeldEntryAt, IsNearEntryAt, IsNearFault, IsNoEntry, IsOnlyPlainRest}
+use Rattle.declarations.specs.Entry.{IsAfterEntry, IsArgsFault, IsFaultAfter, IsFaultWithin}
+use Rattle.declarations.specs.Entry.{IsHeldEntryAt, IsNearEntryAt, IsNearFault, IsNoEntry, IsOnlyPlainRest}
 use Rattle.declarations.specs.Entry.{IsOnlyRest, IsPlainEntryAt, IsPlainFault, LeavesSome, span_or}
-use Rattle.declarations.specs.Expected.{Expects}
-use Rattle.declarations.specs.Explore.{ExpectsWhole}
+use Rattle.declarations.specs.EntryList.{IsEntryListFault}
 use Rattle.declarations.specs.Fault.{extent_at, first_extent}
 use Rattle.declarations.specs.Reader.{Finds, Sticks}
 use Rattle.declarations.specs.Signs.{trees_of}
 use Rattle.declarations.specs.declared.entry.Entry.{Entry}
 use Rattle.declarations.specs.declared.entry.EntryKind.{EntryKind}
 use Rattle.declarations.specs.declared.entry.EntryKind.TheVariants as kinds
-use Rattle.declarations.specs.declared.expected.Expected.{Expected}
 use Rattle.declarations.specs.declared.fault.Fault.{Fault}
 use Rattle.declarations.specs.rules.Entries as rule
 use Rattle.declarations.specs.rules.Pieces.{ByRule}
 use Rattle.declarations.specs.rules.Rules.{follows, rules}
 use Rattle.declarations.proofs.ParamLemmas.{fault_within}
 use Rattle.declarations.proofs.ReaderLemmas.{remains_span, remains_within}
-use Rattle.declarations.proofs.EntryLemmas.{starts_entry}
-use Rattle.declarations.proofs.RuleExpectsLemmas.{reads_expects}
 use Rattle.declarations.proofs.RuleFormLemmas.{found_reads, stuck_fault}
 use Rattle.declarations.proofs.RuleLemmas.{starts}
 
 abbrev Found : Type 0
 Found = Result (Entry × Bor (List TokenTree)) Fault
 
-starts_rest : IsStart rules follows (rule.entry_rest ∷ [])
+pub starts_rest : IsStart rules follows (rule.entry_rest ∷ [])
 starts_rest = starts rule.entry_rest refl refl
 
 -- ---- what comes after a path in a group
@@ -175,31 +171,6 @@ pub plain_only : (trees : List TokenTree) (result : Found)
 plain_only trees (Ok found) only = λ none. only
 plain_only trees (Err fault) only = tt
 
-pub held_none : (trees : List TokenTree) (first : Grouped × List TokenTree) (P : Type 0) → bare_first trees ≡ Some first
-    → bare_first trees ≡ None → P
-held_none trees first P some none = not_both first (sym some ∙ none)
-  where
-    not_both : (first : Grouped × List TokenTree) → Some first ≡ None → P
-    not_both first both = cc
-
-pub held_expected : (trees after : List TokenTree) (g : Grouped) (result : Found)
-    → bare_first trees ≡ Some (g, after)
-    → IfErr result
-    (λ fault. bare_first trees ≡ None → Expects (ByRule rule.entry) trees fault.at fault.expected)
-held_expected trees after g (Ok found) is = tt
-held_expected trees after g (Err fault) is = λ none. not_both (g, after) (sym is ∙ none)
-  where
-    not_both : (first : Grouped × List TokenTree) → Some first ≡ None
-        → Expects (ByRule rule.entry) trees fault.at fault.expected
-    not_both first both = cc
-
-pub plain_expected : (trees : List TokenTree) (result : Found)
-    → IfErr result (λ fault. Expects (ByRule rule.entry) trees fault.at fault.expected)
-    → IfErr result
-    (λ fault. bare_first trees ≡ None → Expects (ByRule rule.entry) trees fault.at fault.expected)
-plain_expected trees (Ok found) e = tt
-plain_expected trees (Err fault) e = λ none. e
-
 -- ---- what comes after an entry
 
 rest_span : (trees part rest : List TokenTree) (at : ℕ) (span : Option Extent) → trees ≡ part ++ rest
@@ -265,21 +236,6 @@ no_rest rest b is some none =
     let clash : true ≡ false = sym empty ∙ some in
     cc
 
-pub after_expected : (trees rest : List TokenTree) (entry : Entry) (at : ℕ) (set : Expected)
-    → IsEntryAt trees entry rest → (rest ≡ [] → ⊥) → at ≡ length trees - length rest
-    → (bare_first trees ≡ None → ExpectsWhole rule.entry trees set)
-    → bare_first trees ≡ None
-    → Expects (ByRule rule.entry) trees at set
-after_expected trees rest entry at set is some counted e none =
-    let plain : IsPlainEntryAt trees entry rest =
-    subst (λ o. MatchOption o (IsPlainEntryAt trees entry rest)
-    (λ found. IsHeldEntryAt IsNearEntryAt (inside_of found.0) found.1 entry rest)) none is in
-    reads_expects rule.entry starts_entry trees plain.part rest at set plain.reads (no_trees rest some) counted (e none)
-  where
-    no_trees : (rest : List TokenTree) → (rest ≡ [] → ⊥) → length rest ≡ 0 → ⊥
-    no_trees [] some none = some refl
-    no_trees (tree ∷ rest) some none = omega arith
-
 -- ---- where an error can be
 
 no_entry_within : (trees : List TokenTree) (fault : Fault) → IsNoEntry trees fault → fault.at ≤ length trees
@@ -299,9 +255,9 @@ no_entry_within trees fault at = go (bare_first trees) refl at
 
 pub entry_list_fault_within : (trees : List TokenTree) (fault : Fault) → IsEntryListFault trees fault
     → fault.at ≤ length trees
-entry_list_fault_within trees fault (inl none) = no_entry_within trees fault none
+entry_list_fault_within trees fault (inl lacks) = no_entry_within trees fault lacks.none
 entry_list_fault_within trees fault (inr lacks) =
-    let after = lacks.1 in
-    let sum = ap length after.whole ∙ length-append after.part lacks.0 in
+    let after = lacks.after in
+    let sum = ap length after.whole ∙ length-append after.part lacks.rest in
     let counted : fault.at ≡ length after.part = after.counted in
     omega arith

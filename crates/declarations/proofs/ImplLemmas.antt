@@ -275,18 +275,13 @@ pub attributes_stick : (trees left : List TokenTree) → Sticks attributes trees
     → Sticks rule.impl_item trees left
 attributes_stick trees left f = then_sticks attributes from_visibility trees left f
 
-pub visibility_sticks : (trees v left : List TokenTree) → Finds attributes trees v → Sticks visibility v left
-    → Sticks rule.impl_item trees left
-visibility_sticks trees v left a f =
-    turns_stick rule.impl_item visibility (Then (Mark Front) from_qualifiers) trees v left (to_visibility trees v a) f
-
 pub keyword_sticks : (trees v q i left : List TokenTree) → Finds attributes trees v → Finds visibility v q
     → Finds rule.impl_qualifiers q i → Sticks rule.impl_keyword i left
     → Sticks rule.impl_item trees left
 keyword_sticks trees v q i left a f g s =
     turns_sticks rule.impl_item rule.impl_keyword trees i left (to_keyword trees v q i a f g) s
 
-pub ruleset fronts = (front_turns, front_has, attributes_stick, visibility_sticks, keyword_sticks)
+pub ruleset fronts = (front_turns, front_has, attributes_stick, keyword_sticks)
 
 -- ---- generic parameters
 

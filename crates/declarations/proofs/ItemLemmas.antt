@@ -1,632 +1,554 @@
--- The parts of an item that is all of the trees, one after the other.
-use Rattle.std.proofs.Common.{◌≡◌, refl, sym, ◌∙◌, ap, subst, ℕ, Bool, true, false, List, [], ◌∷◌, ◌++◌, Some}
-use Rattle.std.proofs.Common.{append-nil, inl, inr}
+-- The parts of a struct, an enum or a union.
+use Rattle.std.proofs.Common.{◌≡◌, refl, sym, ◌∙◌, ap, subst, ℕ, ◌-◌, Bool, true, false, ◌&&◌, ◌||◌, List, [], ◌∷◌}
+use Rattle.std.proofs.Common.{◌++◌, Option, Some, None, append-nil, append_assoc, length, arith}
+use Rattle.std.proofs.lemmas.Bool.{both_ways}
+use Rattle.std.proofs.lemmas.List.{append_cancel_right}
+use Rattle.std.specs.Prelude.{MatchResult, Result, Ok, Err}
+use Rattle.std.specs.Borrow.{Bor}
+use Rattle.grammars.specs.Deterministic.{IsStart}
+use Rattle.grammars.specs.First.{heads, may_begin}
+use Rattle.grammars.specs.Grammar.{Mark, Sign, Then}
+use Rattle.pm_span.specs.Extent.{Extent}
 use Rattle.pm_token.specs.Leaf.{Name}
-use Rattle.pm_token.specs.declared.delimiters.Delimiter.{Delimiter}
 use Rattle.pm_token.specs.declared.delimiters.Delimiter.TheVariants as delimiters
-use Rattle.pm_stream.specs.Forest.{Forest}
 use Rattle.pm_stream.specs.declared.stream.Group.{Group as Grouped}
 use Rattle.pm_stream.specs.declared.stream.TokenTree.{TokenTree}
 use Rattle.pm_stream.specs.declared.stream.TokenTree.TheVariants.{Group, Ident}
-use Rattle.declarations.proofs.CutLemmas.{Goes, Cut, Begins, Takes, cut, firsts, begins_whole, begins_after, no_fault}
-use Rattle.declarations.proofs.PartLemmas.{at, Front, item, before, attribute_spot, among_attributes, attribute_place}
-use Rattle.declarations.proofs.PartLemmas.{start, attributes_beside, after_attributes, within_visibility}
-use Rattle.declarations.proofs.PartLemmas.{visibility_place, visibility_first, visibility_beside, after_visibility}
-use Rattle.declarations.proofs.RegionLemmas.{Declared, structure, tuple, enumeration, union, item_of, not_alone}
-use Rattle.declarations.proofs.RegionLemmas.{generic_place}
-use Rattle.declarations.proofs.RegionLemmas.{spotted, generics, generics_beside, after_generics, plain_spot}
-use Rattle.declarations.proofs.RegionLemmas.{clause_place, clause_beside, after_clause, predicate}
-use Rattle.declarations.proofs.SignLemmas.{trees_of-signs, no_signs}
-use Rattle.declarations.proofs.SortLemmas.{sort_of, is_identifier_sign, is_group_sign, names, groups, unseen}
-use Rattle.declarations.proofs.WalkLemmas.{after, walk-cons}
-use Rattle.declarations.specs.Forms.{IsFrom, IsItem, AreAttributes, IsVisibility, AreGenerics, IsWhere}
-use Rattle.item_tables.specs.Grammar.{step, ends}
-use Rattle.item_tables.specs.Header.{closing}
+use Rattle.declarations.specs.Expected.{Expects}
+use Rattle.declarations.specs.Explore.{ExpectsWhole}
+use Rattle.declarations.specs.Fault.{extent_at, first_extent}
+use Rattle.declarations.specs.Field.{ReadsFront}
+use Rattle.declarations.specs.Forms.{AreAttributes, AreGenerics, IsItem, IsVisibility, IsWhere}
+use Rattle.declarations.specs.Function.{IsNameAt}
+use Rattle.declarations.specs.Impl.{HasBraces}
 use Rattle.declarations.specs.Item as spec
-use Rattle.declarations.specs.Item.{AreBracesLeft, IsNameClass, IsLeft, IsTypeItem, HasEnding}
-use Rattle.declarations.specs.declared.item.TypeItem.{TypeItem}
-use Rattle.declarations.specs.Reading.{Reads, FaultAt, IsOnly}
-use Rattle.declarations.specs.Signs.{Sign, signs, classes_of, group_class, is_restriction, name_class}
-use Rattle.declarations.specs.Signs.{parentheses_class}
-use Rattle.declarations.specs.Walk.{walk}
-use Rattle.declarations.specs.Whole.{ReadsAll}
+use Rattle.declarations.specs.Item.{HasEnding, IsTypeItem, after_clause, with_tuple}
+use Rattle.declarations.specs.ItemParts.{HasBodyAt, HasClauseEnd, HasDeclared, HasEnd, HasNamed, IsKeywordAt}
+use Rattle.declarations.specs.ItemParts.{IsSemicolonAt, class_of, clause_end, declared_by, end_of, from_name}
+use Rattle.declarations.specs.ItemParts.{item_rest, plain_end, tuple_end}
+use Rattle.declarations.specs.Parameter.{LeadsTo}
+use Rattle.declarations.specs.Reader.{Finds, Sticks, classes_in}
+use Rattle.declarations.specs.Reading.{FaultAt, Reads}
+use Rattle.declarations.specs.Signs.{BeginsWith, classes_of, group_class, name_class, signs}
+use Rattle.declarations.specs.Whole.{IsWhole}
+use Rattle.item_tables.specs.Classes.{is, is_round}
 use Rattle.item_tables.specs.declared.class.SignClass.{SignClass}
-use Rattle.item_tables.specs.declared.class.SignClass.TheVariants as signs
+use Rattle.item_tables.specs.declared.class.SignClass.TheVariants as classes
 use Rattle.item_tables.specs.declared.class.Keyword.TheVariants as keywords
 use Rattle.item_tables.specs.declared.class.Word.TheVariants as words
-use Rattle.item_tables.specs.declared.walk_state.Item.TheVariants as items
-use Rattle.item_tables.specs.declared.walk_state.Part.TheVariants as parts
-use Rattle.item_tables.specs.declared.walk_state.WalkState.{WalkState}
-use Rattle.item_tables.specs.declared.walk_state.Spot.TheVariants as spots
+use Rattle.declarations.specs.declared.expected.Expected.{Expected}
+use Rattle.declarations.specs.declared.item.Body.{Body}
+use Rattle.declarations.specs.declared.item.Body.TheVariants as bodies
+use Rattle.declarations.specs.declared.item.Declared.{Declared}
+use Rattle.declarations.specs.declared.item.Declared.TheVariants as declare
+use Rattle.declarations.specs.declared.item.End.{End as Ended}
+use Rattle.declarations.specs.declared.item.Fields.{Fields}
+use Rattle.declarations.specs.declared.item.Fields.TheVariants as fields
+use Rattle.declarations.specs.declared.item.Named.{Named}
+use Rattle.declarations.specs.declared.item.TypeItem.{TypeItem}
+use Rattle.declarations.specs.rules.Bodies.{body_end, braces, name, semicolon, struct_rest}
+use Rattle.declarations.specs.rules.Items.{type_item, type_keyword}
+use Rattle.declarations.specs.rules.Names.{Body as BodyPart, Fields as FieldsPart, Front, G, Named as NamedPart, Rest}
+use Rattle.declarations.specs.rules.Names.{one, word}
+use Rattle.declarations.specs.rules.Parts.{attributes, generics, where_clause}
+use Rattle.declarations.specs.rules.Pieces.{ByRule}
+use Rattle.declarations.specs.rules.Rules.{follows, rules}
+use Rattle.declarations.proofs.FieldLemmas.{begins_as, front_fails, front_finds, front_sticks, mark_first}
+use Rattle.declarations.proofs.FormLemmas as forms
+use Rattle.declarations.proofs.FunctionPartLemmas.{are_parentheses, begins_group, begins_name, name_finds, no_braces}
+use Rattle.declarations.proofs.FunctionPartLemmas.{no_round, no_sign, parentheses_find}
+use Rattle.declarations.proofs.ParameterLemmas.{finds_heads, leads_finds, leads_sign, leads_sticks}
+use Rattle.declarations.proofs.PartReaderLemmas as parts_read
+use Rattle.declarations.proofs.ReaderLemmas.{first_finds, first_sticks, heads_sign, lacks, mark_finds, mark_sticks}
+use Rattle.declarations.proofs.ReaderLemmas.{other_finds, other_sticks, remains_sign, remains_span, sign_ends}
+use Rattle.declarations.proofs.ReaderLemmas.{sign_finds, sign_sticks, then_fails, then_finds, then_sticks}
+use Rattle.declarations.proofs.RuleFaultLemmas as faults
+use Rattle.declarations.proofs.RuleFormLemmas.{found_reads}
+use Rattle.declarations.proofs.RuleLemmas.{starts}
+use Rattle.declarations.proofs.SortLemmas.{is_identifier_sign, names, sort_of}
+use Rattle.declarations.proofs.TransferLemmas.{reads_to}
+use Rattle.declarations.proofs.TreeLemmas.{or_nothing}
 
--- ---- walks over all trees
+starts_where : IsStart rules follows (where_clause ∷ [])
+starts_where = starts where_clause refl refl
 
-pub goes_whole : (place : WalkState) (trees : List TokenTree) → ReadsAll (IsFrom place) trees → Goes place trees
-goes_whole place trees reads =
-    let all : reads.piece ≡ signs trees = sym (append-nil reads.piece) ∙ sym reads.read in
-    record {
-      last = reads.stands.0.last;
-      walks = ap (λ ss. walk step place (classes_of ss)) (sym all) ∙ reads.stands.0.walks;
-      ended = reads.stands.0.ended;
-    }
+starts_generics : IsStart rules follows (generics ∷ [])
+starts_generics = starts generics refl refl
 
-pub reads_whole : (place : WalkState) (trees : List TokenTree) → Goes place trees → ReadsAll (IsFrom place) trees
-reads_whole place trees goes = record {
-  piece = signs trees;
-  read = sym (append-nil (signs trees));
-  taken = sym (trees_of-signs trees);
-  whole = sym (append-nil trees);
-  stands = (record { last = goes.last; walks = goes.walks; ended = goes.ended; stops = tt }, refl);
+-- ---- `;`
+
+pub semicolon_finds : (trees rest : List TokenTree) (class : SignClass) → BeginsWith trees class rest
+    → is classes.Semicolon class ≡ true
+    → Finds semicolon trees rest
+semicolon_finds trees rest class b h =
+    mark_finds Rest (one classes.Semicolon) trees rest (sign_finds (is classes.Semicolon) trees rest class b h)
+
+pub semicolon_has : (trees part rest : List TokenTree) (class : SignClass) → BeginsWith trees class rest
+    → is classes.Semicolon class ≡ true → trees ≡ part ++ rest
+    → IsSemicolonAt trees part rest
+semicolon_has trees part rest class b h whole =
+    record { begins = begins_as trees rest classes.Semicolon class b h; whole = whole }
+
+pub semicolon_sticks : (trees rest : List TokenTree) (class : SignClass) → BeginsWith trees class rest
+    → is classes.Semicolon class ≡ false
+    → Sticks semicolon trees trees
+semicolon_sticks trees rest class b h =
+    mark_sticks Rest (one classes.Semicolon) trees trees (sign_sticks (is classes.Semicolon) trees rest class b h)
+
+pub semicolon_none : (trees : List TokenTree) → trees ≡ [] → Sticks semicolon trees trees
+semicolon_none trees e =
+    mark_sticks Rest (one classes.Semicolon) trees trees (sign_ends (is classes.Semicolon) trees e)
+
+pub ruleset semicolons = (semicolon_finds, semicolon_has, semicolon_sticks, semicolon_none, remains_sign)
+
+-- the `;` by itself is one sign
+semicolon_alone : (trees part rest : List TokenTree) → IsSemicolonAt trees part rest
+    → classes_of (signs part) ≡ classes.Semicolon ∷ []
+semicolon_alone trees part rest at =
+    let mark = mark_first trees rest classes.Semicolon at.begins refl in
+    let one : part ≡ mark.0 ∷ [] = append_cancel_right part (mark.0 ∷ []) rest (sym at.whole ∙ mark.1) in
+    ap (λ p. classes_of (signs p)) one ∙ ap (λ c. c ∷ []) mark.2
+
+-- ---- braces or `;`
+
+pub braces_find : (trees rest : List TokenTree) (g : Grouped) → trees ≡ Group g ∷ rest → g.delimiter ≡ delimiters.Brace
+    → Finds body_end trees rest
+braces_find trees rest g whole brace =
+    let class : group_class g.delimiter g.stream ≡ classes.Braces = ap (λ d. group_class d g.stream) brace in
+    let b : BeginsWith trees classes.Braces rest =
+    subst (λ c. BeginsWith trees c rest) class (begins_group trees rest g whole) in
+    first_finds braces semicolon trees rest (heads_sign braces trees rest classes.Braces b)
+    (mark_finds BodyPart (one classes.Braces) trees rest
+    (sign_finds (is classes.Braces) trees rest classes.Braces b refl))
+
+pub braces_have : (trees none rest : List TokenTree) (g : Bor Grouped) → trees ≡ Group g.now ∷ rest
+    → g.now.delimiter ≡ delimiters.Brace → none ≡ []
+    → HasBodyAt trees (fields.Named g) none rest
+braces_have trees none rest g whole brace e = (whole, brace, e)
+
+-- where no braces are
+module _ (trees : List TokenTree)
+    (none : (g : Grouped) (rest : List TokenTree) → trees ≡ Group g ∷ rest → g.delimiter ≡ delimiters.Brace → ⊥) where
+  pub unit_finds : (rest : List TokenTree) → Finds semicolon trees rest → Finds body_end trees rest
+  unit_finds rest f = other_finds braces semicolon trees rest (no_braces trees none) refl f
+
+  pub unit_sticks : (left : List TokenTree) → Sticks semicolon trees left → Sticks body_end trees left
+  unit_sticks left s = other_sticks braces semicolon trees left (no_braces trees none) refl s
+
+pub ruleset bodies_of = (braces_find, braces_have, unit_finds, unit_sticks)
+
+-- ---- a where clause, and `;` or a body
+
+pub clause_finds : (trees mid rest : List TokenTree) → Finds where_clause trees mid → Finds semicolon mid rest
+    → Finds clause_end trees rest
+clause_finds trees mid rest f g = then_finds where_clause semicolon trees mid rest f g
+
+pub clause_has : (trees mid clause part rest : List TokenTree) → Finds where_clause trees mid → trees ≡ clause ++ mid
+    → IsSemicolonAt mid part rest
+    → HasClauseEnd trees clause part rest
+clause_has trees mid clause part rest f whole at = record {
+  from_semicolon = mid;
+  clause_read = found_reads where_clause starts_where trees clause mid f whole;
+  end = at;
 }
 
--- the walk from a state over a first sign and the signs after it
-pub goes_first : (place next : WalkState) (trees more : List TokenTree) (sign : Sign) → signs trees ≡ sign ∷ signs more
-    → step place sign.class ≡ Some next → Goes next more → Goes place trees
-goes_first place next trees more sign read steps goes = record {
-  last = goes.last;
-  walks = ap (λ ss. walk step place (classes_of ss)) read
-      ∙ walk-cons step place sign.class (classes_of (signs more))
-      ∙ ap (λ o. after step o (classes_of (signs more))) steps ∙ goes.walks;
-  ended = goes.ended;
+pub clause_fails : (trees mid left : List TokenTree) → Finds where_clause trees mid → Sticks semicolon mid left
+    → Sticks clause_end trees left
+clause_fails trees mid left f s = then_fails where_clause semicolon trees mid left f s
+
+pub clause_sticks : (trees left : List TokenTree) → Sticks where_clause trees left → Sticks clause_end trees left
+clause_sticks trees left s = then_sticks where_clause semicolon trees left s
+
+pub ruleset clause_ends = (clause_finds, clause_has, clause_fails, clause_sticks)
+
+pub plain_finds : (trees mid rest : List TokenTree) → Finds where_clause trees mid → Finds body_end mid rest
+    → Finds plain_end trees rest
+plain_finds trees mid rest f g = then_finds where_clause body_end trees mid rest f g
+
+abbrev struct_class : SignClass
+struct_class = classes.Keyword keywords.Struct
+
+pub plain_has : (trees mid clause part rest : List TokenTree) (found : Fields) → Finds where_clause trees mid
+    → trees ≡ clause ++ mid → HasBodyAt mid found part rest
+    → HasEnd struct_class trees (bodies.Struct found) clause part rest
+plain_has trees mid clause part rest (fields.Named g) f whole has = record {
+  from_clause = trees;
+  from_body = mid;
+  fields = refl;
+  clause_read = found_reads where_clause starts_where trees clause mid f whole;
+  last = has.0 ∙ ap (λ p. Group g.now ∷ (p ++ rest)) (sym has.2);
+  shape = (has.1, has.2);
+}
+plain_has trees mid clause part rest (fields.Tuple g) f whole has = absurd has
+plain_has trees mid clause part rest fields.Unit f whole has = record {
+  from_clause = trees;
+  from_body = mid;
+  fields = refl;
+  clause_read = found_reads where_clause starts_where trees clause mid f whole;
+  last = has.whole;
+  shape = semicolon_alone mid part rest has;
 }
 
--- ---- attributes and a visibility
+pub plain_fails : (trees mid left : List TokenTree) → Finds where_clause trees mid → Sticks body_end mid left
+    → Sticks plain_end trees left
+plain_fails trees mid left f s = then_fails where_clause body_end trees mid left f s
 
-pub attributes_cut : (front : Front) (trees : List TokenTree) → Goes (at items.Alone (before front)) trees
-    → Cut (at items.Alone (spots.Before parts.Attributes)) (after_attributes front) trees
-attributes_cut front trees goes =
-    let beside = attributes_beside front in
-    cut (among_attributes front) attribute_place (after_attributes front) beside (signs trees)
-    (at items.Alone (before front)) (at items.Alone (spots.Before parts.Attributes)) trees goes.last refl
-    (firsts (among_attributes front) attribute_place (after_attributes front) beside start (signs trees))
-    goes.walks goes.ended
+pub plain_sticks : (trees left : List TokenTree) → Sticks where_clause trees left → Sticks plain_end trees left
+plain_sticks trees left s = then_sticks where_clause body_end trees left s
 
-attributed_step : (front : Front) (class : SignClass) (next : WalkState) → after_attributes front class ≡ Some next
-    → step (at items.Alone (attribute_spot front)) class ≡ Some next
-attributed_step front signs.Hash next steps = cc
-attributed_step front class next steps = steps
+pub ruleset plain_ends = (plain_finds, plain_has, plain_fails, plain_sticks)
 
-pub visibility_cut : (front : Front) (trees : List TokenTree) → Begins (after_attributes front) trees
-    → Cut (at items.Alone (spots.Before parts.Visibility)) (after_visibility front) trees
-visibility_cut front trees begins =
-    let place = at items.Alone (attribute_spot front) in
-    let goes = goes_first place begins.next trees begins.more begins.sign begins.begins
-    (attributed_step front begins.sign.class begins.next begins.steps) begins.left in
-    cut (within_visibility front) visibility_place (after_visibility front) (visibility_beside front)
-    (begins.sign ∷ signs begins.more) place (at items.Alone (spots.Before parts.Visibility)) trees goes.last
-    begins.begins
-    (visibility_first front begins.sign.class begins.next begins.steps)
-    (ap (λ ss. walk step place (classes_of ss)) (sym begins.begins) ∙ goes.walks) goes.ended
+-- ---- the end of a struct
 
--- ---- the keyword and the name of an item
+abbrev round_sign : G
+round_sign = Sign is_round
 
--- what a keyword declares
-abbrev pub Declares : SignClass → Declared → Type 0
-Declares (signs.Keyword keywords.Struct) structure = Unit {0}
-Declares (signs.Keyword keywords.Enum) enumeration = Unit {0}
-Declares (signs.Word words.Union) union = Unit {0}
-Declares class i = ⊥
+tuple_heads : (cs : List SignClass) → heads tuple_end cs ≡ heads round_sign cs
+tuple_heads [] = refl
+tuple_heads (c ∷ cs) = or_nothing (is_round c) (may_begin clause_end c)
 
-pub record Keyword (trees : List TokenTree) : Type 0 where
-  pub ident : Name
-  pub more : List TokenTree
-  pub kind : Declared
-  pub whole : trees ≡ Ident ident ∷ more
-  pub declares : Declares (name_class ident) kind
-  pub left : Goes (at (item_of kind) spots.Name) more
+module _ (trees mid : List TokenTree) (g : Grouped) (whole : trees ≡ Group g ∷ mid)
+    (round : g.delimiter ≡ delimiters.Parenthesis) where
+  round_found : Finds (Sign is_round) trees mid
+  round_found = parentheses_find trees mid g (are_parentheses trees mid g whole round)
 
-pub record Led (class : SignClass) (next : WalkState) : Type 0 where
-  pub kind : Declared
-  pub sort : sort_of class ≡ names
-  pub declares : Declares class kind
-  pub is : next ≡ at (item_of kind) spots.Name
+  round_heads : heads tuple_end (classes_in trees) ≡ true
+  round_heads = tuple_heads (classes_in trees) ∙ finds_heads round_sign trees mid refl round_found
 
-led_by : (class : SignClass) (next : WalkState) → after_visibility item class ≡ Some next → Led class next
-led_by (signs.Keyword keywords.Struct) next steps =
-    record { kind = structure; sort = refl; declares = tt; is = (cc) }
-led_by (signs.Keyword keywords.Enum) next steps =
-    record { kind = enumeration; sort = refl; declares = tt; is = (cc) }
-led_by (signs.Word words.Union) next steps = record { kind = union; sort = refl; declares = tt; is = (cc) }
-led_by class next steps = cc
+  pub tuple_finds : (rest : List TokenTree) → Finds clause_end mid rest → Finds struct_rest trees rest
+  tuple_finds rest f =
+      first_finds tuple_end plain_end trees rest round_heads
+      (mark_finds FieldsPart (Then (Sign is_round) clause_end) trees rest
+      (then_finds (Sign is_round) clause_end trees mid rest round_found f))
 
-pub keyword_of : (trees : List TokenTree) → Begins (after_visibility item) trees → Keyword trees
-keyword_of trees begins =
-    let led = led_by begins.sign.class begins.next begins.steps in
-    let found = is_identifier_sign trees begins.sign (signs begins.more) begins.begins led.sort in
-    let class : begins.sign.class ≡ name_class found.0 = ap (λ s. s.class) found.1.is in
-    let one : begins.sign.trees ≡ Ident found.0 ∷ [] = ap (λ s. s.trees) found.1.is in
+  pub tuple_fails : (left : List TokenTree) → Sticks clause_end mid left → Sticks struct_rest trees left
+  tuple_fails left s =
+      first_sticks tuple_end plain_end trees left round_heads
+      (mark_sticks FieldsPart (Then (Sign is_round) clause_end) trees left
+      (then_fails (Sign is_round) clause_end trees mid left round_found s))
+
+pub tuple_has : (trees mid clause part rest : List TokenTree) (g : Bor Grouped) → trees ≡ Group g.now ∷ mid
+    → g.now.delimiter ≡ delimiters.Parenthesis → HasClauseEnd mid clause part rest
+    → HasEnd struct_class trees (bodies.Struct (fields.Tuple g)) clause part rest
+tuple_has trees mid clause part rest g whole round has = record {
+  from_clause = mid;
+  from_body = has.from_semicolon;
+  fields = whole;
+  clause_read = has.clause_read;
+  last = has.end.whole;
+  shape = (round, semicolon_alone has.from_semicolon part rest has.end);
+}
+
+-- what is returned of the end of a struct
+abbrev ReadsEnd : G → List TokenTree → Result (Ended × Bor (List TokenTree)) (Bor (List TokenTree)) → Type 0
+ReadsEnd g trees result =
+    MatchResult result
+    (λ found. Finds g trees found.1.now
+    × HasEnd struct_class trees found.0.body found.0.where_clause.now found.0.semicolon.now found.1.now)
+    (λ left. Sticks g trees left.now)
+
+module _ (trees : List TokenTree) (none : (g : Grouped) (rest : List TokenTree) → trees ≡ Group g ∷ rest
+    → g.delimiter ≡ delimiters.Parenthesis → ⊥) where
+  no_tuple : heads tuple_end (classes_in trees) ≡ false
+  no_tuple = tuple_heads (classes_in trees) ∙ no_round trees none
+
+  other_end : (rest : List TokenTree) → Finds plain_end trees rest → Finds struct_rest trees rest
+  other_end rest f = other_finds tuple_end plain_end trees rest no_tuple refl f
+
+  other_fails : (left : List TokenTree) → Sticks plain_end trees left → Sticks struct_rest trees left
+  other_fails left s = other_sticks tuple_end plain_end trees left no_tuple refl s
+
+  pub other_reads : (result : Result (Ended × Bor (List TokenTree)) (Bor (List TokenTree)))
+      → ReadsEnd plain_end trees result
+      → ReadsEnd struct_rest trees result
+  other_reads (Ok found) r = (other_end found.1.now r.0, r.1)
+  other_reads (Err left) r = other_fails left.now r
+
+-- ---- the end of an enum or a union
+
+pub enum_has : (trees clause none rest : List TokenTree) (g : Bor Grouped) → HasBraces trees clause g.now rest
+    → none ≡ []
+    → HasEnd (classes.Keyword keywords.Enum) trees (bodies.Enum g) clause none rest
+enum_has trees clause none rest g has e = record {
+  from_clause = trees;
+  from_body = has.from_body;
+  fields = refl;
+  clause_read = has.clause_read;
+  last = has.whole ∙ ap (λ p. Group g.now ∷ (p ++ rest)) (sym e);
+  shape = (has.braces, e);
+}
+
+pub union_has : (trees clause none rest : List TokenTree) (g : Bor Grouped) → HasBraces trees clause g.now rest
+    → none ≡ []
+    → HasEnd (classes.Word words.Union) trees (bodies.Union g) clause none rest
+union_has trees clause none rest g has e = record {
+  from_clause = trees;
+  from_body = has.from_body;
+  fields = refl;
+  clause_read = has.clause_read;
+  last = has.whole ∙ ap (λ p. Group g.now ∷ (p ++ rest)) (sym e);
+  shape = (has.braces, e);
+}
+
+-- ---- from the name on
+
+abbrev from_generics : Declared → G
+from_generics declared = Then generics (end_of declared)
+
+module _ (declared : Declared) where
+  name_read : (trees mid : List TokenTree) (n : Name) → IsNameAt trees n mid → Finds name trees mid
+  name_read trees mid n at = mark_finds NamedPart word trees mid (name_finds trees mid n at)
+
+  pub named_finds : (trees mid next rest : List TokenTree) (n : Name) → IsNameAt trees n mid → Finds generics mid next
+      → Finds (end_of declared) next rest
+      → Finds (from_name declared) trees rest
+  named_finds trees mid next rest n at f g =
+      then_finds name (from_generics declared) trees mid rest (name_read trees mid n at)
+      (then_finds generics (end_of declared) mid next rest f g)
+
+  pub named_has : (trees mid next rest : List TokenTree) (named : Named) → IsNameAt trees named.name.now mid
+      → Finds generics mid next → mid ≡ named.generics.now ++ next
+      → HasEnd (class_of declared) next named.end.body named.end.where_clause.now named.end.semicolon.now rest
+      → HasNamed declared trees named rest
+  named_has trees mid next rest named at f whole end = record {
+    from_generics = mid;
+    from_end = next;
+    name_read = at;
+    generics_read = found_reads generics starts_generics mid named.generics.now next f whole;
+    end = end;
+  }
+
+  pub named_ends : (trees mid next left : List TokenTree) (n : Name) → IsNameAt trees n mid → Finds generics mid next
+      → Sticks (end_of declared) next left
+      → Sticks (from_name declared) trees left
+  named_ends trees mid next left n at f s =
+      then_fails name (from_generics declared) trees mid left (name_read trees mid n at)
+      (then_fails generics (end_of declared) mid next left f s)
+
+  pub named_fails : (trees mid left : List TokenTree) (n : Name) → IsNameAt trees n mid → Sticks generics mid left
+      → Sticks (from_name declared) trees left
+  named_fails trees mid left n at s =
+      then_fails name (from_generics declared) trees mid left (name_read trees mid n at)
+      (then_sticks generics (end_of declared) mid left s)
+
+  pub named_sticks : (trees left : List TokenTree) → Sticks word trees left → Sticks (from_name declared) trees left
+  named_sticks trees left s =
+      then_sticks name (from_generics declared) trees left (mark_sticks NamedPart word trees left s)
+
+pub ruleset named = (named_finds, named_has, named_ends, named_fails, named_sticks)
+
+-- ---- the keyword
+
+declares_class : (class : SignClass) (declared : Declared) → declared_by class ≡ Some declared
+    → class ≡ class_of declared
+declares_class (classes.Keyword keywords.Struct) declared e =
+    let same : declare.Struct ≡ declared = cc in ap class_of same
+declares_class (classes.Keyword keywords.Enum) declared e =
+    let same : declare.Enum ≡ declared = cc in ap class_of same
+declares_class (classes.Word words.Union) declared e =
+    let same : declare.Union ≡ declared = cc in ap class_of same
+declares_class class declared e = cc
+
+declares_none : (class : SignClass) → declared_by class ≡ None → may_begin type_keyword class ≡ false
+declares_none (classes.Keyword keywords.Struct) e = cc
+declares_none (classes.Keyword keywords.Enum) e = cc
+declares_none (classes.Word words.Union) e = cc
+declares_none class e = refl
+
+pub keyword_at : (trees rest : List TokenTree) (keyword : Name) (class : SignClass) (declared : Declared)
+    → trees ≡ Ident keyword ∷ rest → class ≡ name_class keyword → declared_by class ≡ Some declared
+    → IsKeywordAt trees keyword declared rest
+keyword_at trees rest keyword class declared whole is e =
+    record { whole = whole; class = sym is ∙ declares_class class declared e }
+
+pub other_keyword : (trees rest : List TokenTree) (keyword : Name) (class : SignClass)
+    → trees ≡ Ident keyword ∷ rest → class ≡ name_class keyword → declared_by class ≡ None
+    → Sticks type_keyword trees trees
+other_keyword trees rest keyword class whole is e =
+    lacks type_keyword trees
+    (heads_sign type_keyword trees rest (name_class keyword) (begins_name trees rest keyword whole)
+    ∙ (ap (may_begin type_keyword) (sym is) ∙ declares_none class e)) refl
+
+abbrev is_type : SignClass → Bool
+is_type = may_begin type_keyword
+
+abbrev type_sign : G
+type_sign = Sign is_type
+
+keyword_heads : (cs : List SignClass) → heads type_keyword cs ≡ heads type_sign cs
+keyword_heads [] = refl
+keyword_heads (c ∷ cs) = refl
+
+type_sort : (c : SignClass) → is_type c ≡ true → sort_of c ≡ names
+type_sort (classes.Keyword k) h = refl
+type_sort (classes.Word w) h = refl
+type_sort _ h = absurd (both_ways _ refl h)
+
+pub no_keyword : (trees : List TokenTree)
+    → ((n : Name) (rest : List TokenTree) → trees ≡ Ident n ∷ rest → ⊥)
+    → Sticks type_keyword trees trees
+no_keyword trees none =
+    lacks type_keyword trees
+    (keyword_heads (classes_in trees)
+    ∙ no_sign is_type trees
+    (λ sign after e h.
+    let at = is_identifier_sign trees sign after e (type_sort sign.class h) in none at.0 at.1.more at.1.whole)) refl
+
+pub ruleset keywords_of = (keyword_at, other_keyword, no_keyword)
+
+-- ---- from the keyword on
+
+keyword_leads : (trees mid : List TokenTree) (keyword : Name) (declared : Declared)
+    → IsKeywordAt trees keyword declared mid
+    → LeadsTo type_keyword trees (from_name declared) mid
+keyword_leads trees mid keyword declared at =
+    go declared (subst (λ c. BeginsWith trees c mid) at.class (begins_name trees mid keyword at.whole))
+  where
+    go : (declared : Declared) → BeginsWith trees (class_of declared) mid
+        → LeadsTo type_keyword trees (from_name declared) mid
+    go declare.Struct b = leads_sign type_keyword (from_name declare.Struct) trees mid (class_of declare.Struct) b refl
+    go declare.Enum b = leads_sign type_keyword (from_name declare.Enum) trees mid (class_of declare.Enum) b refl
+    go declare.Union b = leads_sign type_keyword (from_name declare.Union) trees mid (class_of declare.Union) b refl
+
+pub declared_finds : (trees mid rest : List TokenTree) (keyword : Name) (declared : Declared)
+    → IsKeywordAt trees keyword declared mid → Finds (from_name declared) mid rest
+    → Finds item_rest trees rest
+declared_finds trees mid rest keyword declared at f =
+    mark_finds Front type_keyword trees rest
+    (leads_finds type_keyword (from_name declared) trees mid rest (keyword_leads trees mid keyword declared at) f)
+
+pub declared_has : (trees mid rest : List TokenTree) (keyword : Name) (declared : Declared) (named : Named)
+    → IsKeywordAt trees keyword declared mid → HasNamed declared mid named rest
+    → HasDeclared trees keyword named rest
+declared_has trees mid rest keyword declared named at has =
+    record { declared = declared; after_keyword = mid; keyword_read = at; named_read = has }
+
+pub declared_fails : (trees mid left : List TokenTree) (keyword : Name) (declared : Declared)
+    → IsKeywordAt trees keyword declared mid → Sticks (from_name declared) mid left
+    → Sticks item_rest trees left
+declared_fails trees mid left keyword declared at s =
+    mark_sticks Front type_keyword trees left
+    (leads_sticks type_keyword (from_name declared) trees mid left (keyword_leads trees mid keyword declared at) s)
+
+pub declared_sticks : (trees left : List TokenTree) → Sticks type_keyword trees left → Sticks item_rest trees left
+declared_sticks trees left s = mark_sticks Front type_keyword trees left s
+
+pub ruleset declarations = (declared_finds, declared_has, declared_fails, declared_sticks)
+
+-- ---- the whole item
+
+pub starts_item : IsStart rules follows (type_item ∷ [])
+starts_item = starts type_item refl refl
+
+pub item_finds : (trees a v mid rest : List TokenTree) → ReadsFront trees a v mid → Finds item_rest mid rest
+    → Finds type_item trees rest
+item_finds = front_finds item_rest
+
+pub item_fails : (trees a v mid left : List TokenTree) → ReadsFront trees a v mid → Sticks item_rest mid left
+    → Sticks type_item trees left
+item_fails = front_fails item_rest
+
+pub item_sticks : (trees left : List TokenTree) → Sticks attributes trees left → Sticks type_item trees left
+item_sticks = front_sticks item_rest
+
+-- what comes after the generic parameters, if nothing follows it
+end_alone : (keyword : SignClass) (trees : List TokenTree) (body : Body) (clause part rest : List TokenTree)
+    → HasEnd keyword trees body clause part rest → rest ≡ []
+    → HasEnding keyword trees body clause part
+end_alone keyword trees body clause part rest end none =
+    let after = after_clause body part in
+    let last : end.from_body ≡ after = end.last ∙ (ap (λ r. after ++ r) none ∙ append-nil after) in
+    let whole : end.from_clause ≡ clause ++ after = end.clause_read.whole ∙ ap (λ r. clause ++ r) last in
+    let reads = reads_to (ByRule where_clause) IsWhere forms.where_clauses end.from_clause clause end.from_body
+    end.clause_read in
     record {
-      ident = found.0;
-      more = begins.more;
-      kind = led.kind;
-      whole = begins.follows ∙ ap (λ ts. ts ++ begins.more) one;
-      declares = subst (λ c. Declares c led.kind) class led.declares;
-      left = subst (λ p. Goes p begins.more) led.is begins.left;
+      whole = end.fields ∙ ap (with_tuple body) whole;
+      clause_reads = subst (λ ts. Reads IsWhere ts clause after) whole
+          (subst (Reads IsWhere end.from_clause clause) last reads);
+      shape = end.shape;
     }
-
-pub record Named (place : WalkState) (trees : List TokenTree) : Type 0 where
-  pub ident : Name
-  pub more : List TokenTree
-  pub whole : trees ≡ Ident ident ∷ more
-  pub is_name : IsNameClass (name_class ident)
-  pub left : Goes place more
-
-record LedName (place : WalkState) (class : SignClass) (next : WalkState) : Type 0 where
-  sort : sort_of class ≡ names
-  is_name : IsNameClass class
-  is : next ≡ place
-
-led_name : (kind : Declared) (class : SignClass) (next : WalkState)
-    → step (at (item_of kind) spots.Name) class ≡ Some next → LedName (at (item_of kind) spots.Generics) class next
-led_name kind (signs.Word word) next steps = record { sort = refl; is_name = tt; is = (cc) }
-led_name kind class next steps = cc
-
-pub name_of : (kind : Declared) (trees : List TokenTree) → Goes (at (item_of kind) spots.Name) trees
-    → Named (at (item_of kind) spots.Generics) trees
-name_of kind trees goes =
-    let begins = begins_whole (at (item_of kind) spots.Name) trees goes refl in
-    let led = led_name kind begins.sign.class begins.next begins.steps in
-    let found = is_identifier_sign trees begins.sign (signs begins.more) begins.begins led.sort in
-    let is : begins.sign.class ≡ name_class found.0 = ap (λ s. s.class) found.1.is in
-    let one : begins.sign.trees ≡ Ident found.0 ∷ [] = ap (λ s. s.trees) found.1.is in
-    record {
-      ident = found.0;
-      more = begins.more;
-      whole = begins.follows ∙ ap (λ ts. ts ++ begins.more) one;
-      is_name = subst IsNameClass is led.is_name;
-      left = subst (λ p. Goes p begins.more) led.is begins.left;
-    }
-
--- ---- generic parameters, and what follows them
-
-pub generics_cut : (kind : Declared) (trees : List TokenTree) → Goes (at (item_of kind) spots.Generics) trees
-    → Cut (at items.Alone spots.Generics) (after_generics (item_of kind)) trees
-generics_cut kind trees goes =
-    let i = item_of kind in
-    let beside = generics_beside kind in
-    cut (generic_place i) (generic_place items.Alone) (after_generics i) beside (signs trees) (at i spots.Generics)
-    (at items.Alone spots.Generics) trees goes.last refl
-    (firsts (generic_place i) (generic_place items.Alone) (after_generics i) beside (spotted generics) (signs trees))
-    goes.walks goes.ended
-
-pub goes_after_generics : (kind : Declared) (trees : List TokenTree) → Begins (after_generics (item_of kind)) trees
-    → Goes (at (item_of kind) spots.AfterGenerics) trees
-goes_after_generics kind trees begins =
-    let i = item_of kind in
-    goes_first (at i spots.AfterGenerics) begins.next trees begins.more begins.sign begins.begins
-    (plain_spot kind (closing i begins.sign.class) begins.sign.class ∙ begins.steps) begins.left
-
--- ---- a where clause and the body
-
--- the sign is the fields of a tuple struct, in parentheses
-abbrev pub IsTuple : Declared → SignClass → Type 0
-IsTuple structure signs.Parentheses = Unit {0}
-IsTuple structure signs.Restriction = Unit {0}
-IsTuple kind class = ⊥
-
-clause_first : (kind : Declared) (class : SignClass) → (IsTuple kind class → ⊥)
-    → Takes (clause_place (item_of kind)) (clause_place items.Alone) (after_clause (item_of kind) class)
-    (ends (at items.Alone spots.Where)) (step (at (item_of kind) spots.AfterGenerics) class)
-    (step (at items.Alone spots.Where) class)
-clause_first structure (signs.Keyword keywords.Where) other = (predicate, refl, refl)
-clause_first structure signs.Parentheses other = absurd (other tt)
-clause_first structure signs.Restriction other = absurd (other tt)
-clause_first structure class other = inr (refl, refl)
-clause_first tuple (signs.Keyword keywords.Where) other = (predicate, refl, refl)
-clause_first tuple class other = inr (refl, refl)
-clause_first enumeration (signs.Keyword keywords.Where) other = (predicate, refl, refl)
-clause_first enumeration class other = inr (refl, refl)
-clause_first union (signs.Keyword keywords.Where) other = (predicate, refl, refl)
-clause_first union class other = inr (refl, refl)
-
-after_generics_end : (kind : Declared) → ends (at (item_of kind) spots.AfterGenerics) ≡ false
-after_generics_end kind = not_alone kind
-
--- the signs do not begin with the fields of a tuple struct
-abbrev pub NoTuple : Declared → List Sign → Type 0
-NoTuple kind [] = Unit {0}
-NoTuple kind (sign ∷ all) = IsTuple kind sign.class → ⊥
-
-pub clause_cut : (kind : Declared) (trees : List TokenTree) → Goes (at (item_of kind) spots.AfterGenerics) trees
-    → NoTuple kind (signs trees) → Cut (at items.Alone spots.Where) (after_clause (item_of kind)) trees
-clause_cut kind trees goes other =
-    let i = item_of kind in
-    let begins = begins_whole (at i spots.AfterGenerics) trees goes (after_generics_end kind) in
-    let first : NoTuple kind (begins.sign ∷ signs begins.more) = subst (NoTuple kind) begins.begins other in
-    cut (clause_place i) (clause_place items.Alone) (after_clause i) (clause_beside kind)
-    (begins.sign ∷ signs begins.more) (at i spots.AfterGenerics) (at items.Alone spots.Where) trees goes.last
-    begins.begins (clause_first kind begins.sign.class first)
-    (ap (λ ss. walk step (at i spots.AfterGenerics) (classes_of ss)) (sym begins.begins) ∙ goes.walks) goes.ended
-
--- nothing comes after an item
-nothing_more : (kind : Declared) (trees : List TokenTree) (all : List Sign) → signs trees ≡ all
-    → Goes (at (item_of kind) spots.ItemEnd) trees → trees ≡ []
-nothing_more kind trees [] read goes = no_signs trees (ap classes_of read)
-nothing_more kind trees (sign ∷ all) read goes =
-    let end = at (item_of kind) spots.ItemEnd in
-    let walks : after step (step end sign.class) (classes_of all) ≡ Some goes.last =
-    sym (walk-cons step end sign.class (classes_of all))
-    ∙ ap (λ ss. walk step end (classes_of ss)) (sym read) ∙ goes.walks in
-    cc
-
--- the item is an enum or a union, so its body is in braces
-abbrev pub IsBraced : Declared → Type 0
-IsBraced enumeration = Unit {0}
-IsBraced union = Unit {0}
-IsBraced kind = ⊥
-
--- the last sign of an item is a body in braces or a `;`
-pub data LastOf (kind : Declared) (trees : List TokenTree) : Type 0 where
-  braces : (g : Grouped) → trees ≡ Group g ∷ [] → g.delimiter ≡ delimiters.Brace → (kind ≡ tuple → ⊥)
-      → LastOf kind trees
-  semicolon : classes_of (signs trees) ≡ signs.Semicolon ∷ [] → (IsBraced kind → ⊥) → LastOf kind trees
-
-abbrev EndBy : Declared → SignClass → Type 0
-EndBy structure signs.Braces = Unit {0}
-EndBy structure signs.Semicolon = Unit {0}
-EndBy tuple signs.Semicolon = Unit {0}
-EndBy enumeration signs.Braces = Unit {0}
-EndBy union signs.Braces = Unit {0}
-EndBy kind class = ⊥
-
-abbrev IsEnd : Declared → SignClass → WalkState → Type 0
-IsEnd kind class next = EndBy kind class × (next ≡ at (item_of kind) spots.ItemEnd)
-
-end_by : (kind : Declared) (class : SignClass) (next : WalkState) → after_clause (item_of kind) class ≡ Some next
-    → IsEnd kind class next
-end_by structure signs.Braces next steps = (tt, cc)
-end_by structure signs.Semicolon next steps = (tt, cc)
-end_by structure class next steps = cc
-end_by tuple signs.Semicolon next steps = (tt, cc)
-end_by tuple class next steps = cc
-end_by enumeration signs.Braces next steps = (tt, cc)
-end_by enumeration class next steps = cc
-end_by union signs.Braces next steps = (tt, cc)
-end_by union class next steps = cc
-
--- a group with the class of braces has braces
-pub brace_of : (d : Delimiter) (f : Forest) → group_class d f ≡ signs.Braces → d ≡ delimiters.Brace
-brace_of delimiters.Parenthesis f is =
-    elim (is_restriction f) as (λ b. parentheses_class b ≡ signs.Braces → delimiters.Parenthesis ≡ delimiters.Brace)
-    [ true ↦ λ h. cc | false ↦ λ h. cc ] is
-brace_of delimiters.Bracket f is = cc
-brace_of delimiters.Brace f is = refl
-brace_of delimiters.None f is =
-    unseen (λ class. class ≡ signs.Braces → delimiters.None ≡ delimiters.Brace) f (λ h. cc) (λ h. cc) (λ h. cc)
-    (λ h. cc) (λ h. cc) is
-
-parenthesis_of : (d : Delimiter) (f : Forest) → IsTuple structure (group_class d f) → d ≡ delimiters.Parenthesis
-parenthesis_of delimiters.Parenthesis f is = refl
-parenthesis_of delimiters.Bracket f is = absurd is
-parenthesis_of delimiters.Brace f is = absurd is
-parenthesis_of delimiters.None f is =
-    absurd (unseen (λ class. IsTuple structure class → ⊥) f (λ h. h) (λ h. h) (λ h. h) (λ h. h) (λ h. h) is)
-
-braces_end : (kind : Declared) (trees more : List TokenTree) (sign : Sign) → signs trees ≡ sign ∷ signs more
-    → trees ≡ sign.trees ++ more → more ≡ [] → sign.class ≡ signs.Braces → (kind ≡ tuple → ⊥) → LastOf kind trees
-braces_end kind trees more sign read whole none is other =
-    let found = is_group_sign trees sign (signs more) read (ap sort_of is) in
-    let class : sign.class ≡ group_class found.0.delimiter found.0.stream = ap (λ s. s.class) found.1.is in
-    let one : sign.trees ≡ Group found.0 ∷ [] = ap (λ s. s.trees) found.1.is in
-    braces found.0 (whole ∙ ap (λ ts. ts ++ more) one ∙ ap (λ m. Group found.0 ∷ m) none)
-    (brace_of found.0.delimiter found.0.stream (sym class ∙ is)) other
-
-ends_by : (kind : Declared) (trees more : List TokenTree) (sign : Sign) → signs trees ≡ sign ∷ signs more
-    → trees ≡ sign.trees ++ more → more ≡ [] → (class : SignClass) → sign.class ≡ class → EndBy kind class
-    → LastOf kind trees
-ends_by structure trees more sign read whole none signs.Braces is end =
-    braces_end structure trees more sign read whole none is (λ same. cc)
-ends_by structure trees more sign read whole none signs.Semicolon is end =
-    semicolon (ap classes_of read ∙ ap (λ m. sign.class ∷ classes_of (signs m)) none ∙ ap (λ c. c ∷ []) is) (λ no. no)
-ends_by structure trees more sign read whole none class is end = absurd end
-ends_by tuple trees more sign read whole none signs.Semicolon is end =
-    semicolon (ap classes_of read ∙ ap (λ m. sign.class ∷ classes_of (signs m)) none ∙ ap (λ c. c ∷ []) is) (λ no. no)
-ends_by tuple trees more sign read whole none class is end = absurd end
-ends_by enumeration trees more sign read whole none signs.Braces is end =
-    braces_end enumeration trees more sign read whole none is (λ same. cc)
-ends_by enumeration trees more sign read whole none class is end = absurd end
-ends_by union trees more sign read whole none signs.Braces is end =
-    braces_end union trees more sign read whole none is (λ same. cc)
-ends_by union trees more sign read whole none class is end = absurd end
-
-pub last_of : (kind : Declared) (trees : List TokenTree) → Begins (after_clause (item_of kind)) trees
-    → LastOf kind trees
-last_of kind trees begins =
-    let end = end_by kind begins.sign.class begins.next begins.steps in
-    let none = nothing_more kind begins.more (signs begins.more) refl
-    (subst (λ p. Goes p begins.more) end.1 begins.left) in
-    ends_by kind trees begins.more begins.sign begins.begins begins.follows none begins.sign.class refl end.0
-
--- ---- fields in parentheses
-
-pub signs_group : (g : Grouped) (rest : List TokenTree) → signs (Group g ∷ rest)
-    ≡ record { class = group_class g.delimiter g.stream; trees = Group g ∷ [] } ∷ signs rest
-signs_group g [] = refl
-signs_group g (tree ∷ rest) = refl
-
-tuple_step : (b : Bool) → step (at items.Struct spots.AfterGenerics) (parentheses_class b)
-    ≡ Some (at items.Tuple spots.AfterGenerics)
-tuple_step true = refl
-tuple_step false = refl
-
-pub tuple_left : (g : Grouped) (rest : List TokenTree) → g.delimiter ≡ delimiters.Parenthesis
-    → Goes (at items.Struct spots.AfterGenerics) (Group g ∷ rest) → Goes (at items.Tuple spots.AfterGenerics) rest
-tuple_left g rest is goes =
-    let start = at items.Struct spots.AfterGenerics in
-    let class : SignClass = group_class g.delimiter g.stream in
-    let steps : step start class ≡ Some (at items.Tuple spots.AfterGenerics) =
-    ap (λ d. step start (group_class d g.stream)) is ∙ tuple_step (is_restriction g.stream) in
-    let walks : walk step start (class ∷ classes_of (signs rest)) ≡ Some goes.last =
-    ap (λ ss. walk step start (classes_of ss)) (sym (signs_group g rest)) ∙ goes.walks in
-    record {
-      last = goes.last;
-      walks = ap (λ o. after step o (classes_of (signs rest))) (sym steps)
-          ∙ sym (walk-cons step start class (classes_of (signs rest))) ∙ walks;
-      ended = goes.ended;
-    }
-
-tuple_sort : (class : SignClass) → IsTuple structure class → sort_of class ≡ groups
-tuple_sort signs.Parentheses is = refl
-tuple_sort signs.Restriction is = refl
-tuple_sort class is = absurd is
-
--- trees that do not begin with a group in parentheses do not begin with the fields of a tuple struct
-first_is_none : (trees : List TokenTree) (all : List Sign) → signs trees ≡ all
-    → ((g : Grouped) (more : List TokenTree) → trees ≡ Group g ∷ more → g.delimiter ≡ delimiters.Parenthesis → ⊥)
-    → NoTuple structure all
-first_is_none trees [] read other = tt
-first_is_none trees (sign ∷ all) read other = λ is.
-    let found = is_group_sign trees sign all read (tuple_sort sign.class is) in
-    let class : sign.class ≡ group_class found.0.delimiter found.0.stream = ap (λ s. s.class) found.1.is in
-    other found.0 found.1.more found.1.whole
-    (parenthesis_of found.0.delimiter found.0.stream (subst (IsTuple structure) class is))
-
-pub no_tuple_first : (trees : List TokenTree)
-    → ((g : Grouped) (more : List TokenTree) → trees ≡ Group g ∷ more → g.delimiter ≡ delimiters.Parenthesis → ⊥)
-    → NoTuple structure (signs trees)
-no_tuple_first trees other = first_is_none trees (signs trees) refl other
-
-pub tuple_none : (all : List Sign) → NoTuple tuple all
-tuple_none [] = tt
-tuple_none (sign ∷ all) = λ is. is
-
-pub braced_none : (kind : Declared) (all : List Sign) → IsBraced kind → NoTuple kind all
-braced_none kind [] braced = tt
-braced_none enumeration (sign ∷ all) braced = λ is. is
-braced_none union (sign ∷ all) braced = λ is. is
-braced_none kind (sign ∷ all) braced = absurd braced
-
--- ---- the trees that are left after each part
-
-pub after_attributes-found : (trees part rest : List TokenTree) → ReadsAll IsItem trees
-    → IsOnly AreAttributes trees part rest → Begins (after_attributes item) rest
-after_attributes-found trees part rest all only =
-    let start = at items.Alone (before item) in
-    begins_after (at items.Alone (spots.Before parts.Attributes)) (after_attributes item) trees part rest
-    (attributes_cut item trees (goes_whole start trees all)) only
-
-pub attributes_stand : (trees : List TokenTree) (fault : ℕ) → ReadsAll IsItem trees
-    → FaultAt AreAttributes trees fault → ⊥
-attributes_stand trees fault all wrong =
-    let start = at items.Alone (before item) in
-    no_fault (at items.Alone (spots.Before parts.Attributes)) (after_attributes item) trees fault
-    (attributes_cut item trees (goes_whole start trees all)) wrong
-
-pub after_visibility-found : (trees part rest : List TokenTree) → Begins (after_attributes item) trees
-    → IsOnly IsVisibility trees part rest → Begins (after_visibility item) rest
-after_visibility-found trees part rest begins only =
-    begins_after (at items.Alone (spots.Before parts.Visibility)) (after_visibility item) trees part rest
-    (visibility_cut item trees begins) only
-
-pub visibility_stands : (trees : List TokenTree) (fault : ℕ) → Begins (after_attributes item) trees
-    → FaultAt IsVisibility trees fault → ⊥
-visibility_stands trees fault begins wrong =
-    no_fault (at items.Alone (spots.Before parts.Visibility)) (after_visibility item) trees fault
-    (visibility_cut item trees begins) wrong
-
-pub record AfterKeyword (ident : Name) (trees : List TokenTree) : Type 0 where
-  pub kind : Declared
-  pub declares : Declares (name_class ident) kind
-  pub left : Goes (at (item_of kind) spots.Name) trees
-
-pub after_keyword-found : (trees rest : List TokenTree) (ident : Name) → Begins (after_visibility item) trees
-    → trees ≡ Ident ident ∷ rest → AfterKeyword ident rest
-after_keyword-found trees rest ident begins whole =
-    let keyword = keyword_of trees begins in
-    let same : Ident keyword.ident ∷ keyword.more ≡ Ident ident ∷ rest = sym keyword.whole ∙ whole in
-    let idents : keyword.ident ≡ ident = cc in
-    let rests : keyword.more ≡ rest = cc in
-    record {
-      kind = keyword.kind;
-      declares = subst (λ i. Declares (name_class i) keyword.kind) idents keyword.declares;
-      left = subst (Goes (at (item_of keyword.kind) spots.Name)) rests keyword.left;
-    }
-
-pub keyword_stands : (trees : List TokenTree) → Begins (after_visibility item) trees
-    → ((ident : Name) (rest : List TokenTree) → trees ≡ Ident ident ∷ rest → ⊥) → ⊥
-keyword_stands trees begins none =
-    let keyword = keyword_of trees begins in
-    none keyword.ident keyword.more keyword.whole
-
-pub record AfterName (keyword name : Name) (trees : List TokenTree) : Type 0 where
-  pub kind : Declared
-  pub declares : Declares (name_class keyword) kind
-  pub is_name : IsNameClass (name_class name)
-  pub left : Goes (at (item_of kind) spots.Generics) trees
-
-pub after_name-found : (keyword name : Name) (trees rest : List TokenTree) → AfterKeyword keyword trees
-    → trees ≡ Ident name ∷ rest → AfterName keyword name rest
-after_name-found keyword name trees rest found whole =
-    let named = name_of found.kind trees found.left in
-    let same : Ident named.ident ∷ named.more ≡ Ident name ∷ rest =
-    sym named.whole ∙ whole in
-    let idents : named.ident ≡ name = cc in
-    let rests : named.more ≡ rest = cc in
-    record {
-      kind = found.kind;
-      declares = found.declares;
-      is_name = subst (λ i. IsNameClass (name_class i)) idents named.is_name;
-      left = subst (Goes (at (item_of found.kind) spots.Generics)) rests named.left;
-    }
-
-pub name_stands : (keyword : Name) (trees : List TokenTree) → AfterKeyword keyword trees
-    → ((ident : Name) (rest : List TokenTree) → trees ≡ Ident ident ∷ rest → ⊥) → ⊥
-name_stands keyword trees found none =
-    let named = name_of found.kind trees found.left in
-    none named.ident named.more named.whole
-
-pub generics_stand : (keyword name : Name) (trees : List TokenTree) (fault : ℕ) → AfterName keyword name trees
-    → FaultAt AreGenerics trees fault → ⊥
-generics_stand keyword name trees fault found wrong =
-    no_fault (at items.Alone spots.Generics) (after_generics (item_of found.kind)) trees fault
-    (generics_cut found.kind trees found.left) wrong
-
-left_by : (class : SignClass) (kind : Declared) (trees : List TokenTree) → Declares class kind
-    → Goes (at (item_of kind) spots.AfterGenerics) trees → IsLeft class trees
-left_by (signs.Keyword keywords.Struct) structure trees declares goes =
-    reads_whole (at items.Struct spots.AfterGenerics) trees goes
-left_by (signs.Keyword keywords.Enum) enumeration trees declares goes =
-    inl (reads_whole (at items.Enum spots.AfterGenerics) trees goes)
-left_by (signs.Word words.Union) union trees declares goes =
-    inr (reads_whole (at items.Union spots.AfterGenerics) trees goes)
-left_by class kind trees declares goes = absurd declares
-
-pub left_of : (keyword name : Name) (trees part rest : List TokenTree) → AfterName keyword name trees
-    → IsOnly AreGenerics trees part rest → IsLeft (name_class keyword) rest
-left_of keyword name trees part rest found only =
-    let begins = begins_after (at items.Alone spots.Generics) (after_generics (item_of found.kind)) trees part rest
-    (generics_cut found.kind trees found.left) only in
-    left_by (name_class keyword) found.kind rest found.declares (goes_after_generics found.kind rest begins)
 
 -- the parts that were found are the parts of the item
-pub item_parts : (trees : List TokenTree) (found : TypeItem) (r1 r2 r3 r4 r5 : List TokenTree) → ReadsAll IsItem trees
-    → Reads AreAttributes trees found.attributes.now r1 → Reads IsVisibility r1 found.visibility.now r2
-    → r2 ≡ Ident found.keyword.now ∷ r3 → r3 ≡ Ident found.name.now ∷ r4
-    → Reads AreGenerics r4 found.generics.now r5
-    → HasEnding (name_class found.keyword.now) r5 found.body found.where_clause.now found.semicolon.now
-    → AfterName found.keyword.now found.name.now r4 → IsTypeItem trees found
-item_parts trees found r1 r2 r3 r4 r5 all attributes visibility keyword name brackets end stood =
-    let e5 : r5 ≡ spec.after_generics found = end.whole in
-    let e4 : r4 ≡ spec.after_name found = brackets.whole ∙ ap (λ r. found.generics.now ++ r) e5 in
-    let e3 : r3 ≡ Ident found.name.now ∷ spec.after_name found = name ∙ ap (λ r. Ident found.name.now ∷ r) e4 in
-    let e2 : r2 ≡ spec.after_visibility found = keyword ∙ ap (λ r. Ident found.keyword.now ∷ r) e3 in
-    let e1 : r1 ≡ spec.after_attributes found = visibility.whole ∙ ap (λ r. found.visibility.now ++ r) e2 in
+pub item_parts : (trees mid rest : List TokenTree) (item : TypeItem) (named : Named)
+    → ReadsFront trees item.attributes.now item.visibility.now mid → Finds item_rest mid rest
+    → HasDeclared mid item.keyword.now named rest → item.name.now ≡ named.name.now
+    → item.generics.now ≡ named.generics.now → item.body ≡ named.end.body
+    → item.where_clause.now ≡ named.end.where_clause.now → item.semicolon.now ≡ named.end.semicolon.now → rest ≡ []
+    → IsTypeItem trees item
+item_parts trees mid rest item named f h has name_is generics_are body_is clause_is semicolon_is none =
+    let a = item.attributes.now in
+    let v = item.visibility.now in
+    let n = has.named_read in
+    let read : IsNameAt has.after_keyword item.name.now n.from_generics =
+    subst (λ i. IsNameAt has.after_keyword i n.from_generics) (sym name_is) n.name_read in
+    let brackets : Reads (ByRule generics) n.from_generics item.generics.now n.from_end =
+    subst (λ i. Reads (ByRule generics) n.from_generics i n.from_end) (sym generics_are) n.generics_read in
+    let end : HasEnd (name_class item.keyword.now) n.from_end item.body item.where_clause.now item.semicolon.now rest =
+    rw (has.keyword_read.class, body_is, clause_is, semicolon_is) n.end in
+    let ending = end_alone (name_class item.keyword.now) n.from_end item.body item.where_clause.now item.semicolon.now
+    rest end none in
+    let e5 : n.from_end ≡ spec.after_generics item = ending.whole in
+    let e4 : n.from_generics ≡ spec.after_name item = brackets.whole ∙ ap (λ r. item.generics.now ++ r) e5 in
+    let e3 : has.after_keyword ≡ Ident item.name.now ∷ spec.after_name item =
+    read.whole ∙ ap (λ r. Ident item.name.now ∷ r) e4 in
+    let e2 : mid ≡ spec.after_visibility item = has.keyword_read.whole ∙ ap (λ r. Ident item.keyword.now ∷ r) e3 in
+    let e1 : f.from_visibility ≡ spec.after_attributes item = f.visibility_whole ∙ ap (λ r. v ++ r) e2 in
+    let attributed = parts_read.attributes_read trees a f.from_visibility f.attributes_found f.attributes_whole in
+    let visible = parts_read.visibility_reads f.from_visibility v mid f.visibility_found f.visibility_whole in
+    let bracketed = reads_to (ByRule generics) AreGenerics forms.generic_parameters n.from_generics item.generics.now
+    n.from_end brackets in
     record {
-      all = all;
-      whole = attributes.whole ∙ ap (λ r. found.attributes.now ++ r) e1;
-      attributes = subst (Reads AreAttributes trees found.attributes.now) e1 attributes;
-      visibility = subst (λ r. Reads IsVisibility r found.visibility.now (spec.after_visibility found)) e1
-          (subst (Reads IsVisibility r1 found.visibility.now) e2 visibility);
-      name = stood.is_name;
-      generics = subst (λ r. Reads AreGenerics r found.generics.now (spec.after_generics found)) e4
-          (subst (Reads AreGenerics r4 found.generics.now) e5 brackets);
-      end = subst (λ r. HasEnding (name_class found.keyword.now) r found.body found.where_clause.now
-          found.semicolon.now) e5 end;
+      all = faults.form_all type_item IsItem forms.type_items starts_item trees rest (item_finds trees a v mid rest f h)
+          (ap length none);
+      whole = f.attributes_whole ∙ ap (λ r. a ++ r) e1;
+      attributes = subst (Reads AreAttributes trees a) e1 attributed;
+      visibility = subst (λ r. Reads IsVisibility r v (spec.after_visibility item)) e1
+          (subst (Reads IsVisibility f.from_visibility v) e2 visible);
+      name = read.is_name;
+      generics = subst (λ r. Reads AreGenerics r item.generics.now (spec.after_generics item)) e4
+          (subst (Reads AreGenerics n.from_generics item.generics.now) e5 bracketed);
+      end = subst (λ r. HasEnding (name_class item.keyword.now) r item.body item.where_clause.now item.semicolon.now) e5
+          ending;
     }
 
--- ---- the body
+pub ruleset items = (item_finds, item_fails, item_sticks, item_parts)
 
-clause_of : (kind : Declared) (trees : List TokenTree) → ReadsAll (IsFrom (at (item_of kind) spots.AfterGenerics)) trees
-    → NoTuple kind (signs trees) → Cut (at items.Alone spots.Where) (after_clause (item_of kind)) trees
-clause_of kind trees all none =
-    clause_cut kind trees (goes_whole (at (item_of kind) spots.AfterGenerics) trees all) none
+-- ---- what is promised
 
-pub clause_stands : (kind : Declared) (trees : List TokenTree) (fault : ℕ)
-    → ReadsAll (IsFrom (at (item_of kind) spots.AfterGenerics)) trees → NoTuple kind (signs trees)
-    → FaultAt IsWhere trees fault → ⊥
-clause_stands kind trees fault all none wrong =
-    no_fault (at items.Alone spots.Where) (after_clause (item_of kind)) trees fault
-    (clause_of kind trees all none) wrong
+pub item_all : (trees rest : List TokenTree) (item : TypeItem) → (rest ≡ [] → IsTypeItem trees item)
+    → length rest ≡ 0
+    → IsTypeItem trees item
+item_all trees [] item f none = f refl
+item_all trees (tree ∷ rest) item f none = absurd (omega arith)
 
-pub last_found : (kind : Declared) (trees part rest : List TokenTree)
-    → ReadsAll (IsFrom (at (item_of kind) spots.AfterGenerics)) trees → NoTuple kind (signs trees)
-    → IsOnly IsWhere trees part rest → LastOf kind rest
-last_found kind trees part rest all none only =
-    last_of kind rest (begins_after (at items.Alone spots.Where) (after_clause (item_of kind)) trees part rest
-    (clause_of kind trees all none) only)
+pub item_left : (trees rest : List TokenTree) (at : ℕ) → Finds type_item trees rest → (length rest ≡ 0 → ⊥)
+    → at ≡ length trees - length rest
+    → FaultAt (IsWhole IsItem) trees at
+item_left = faults.form_left type_item IsItem forms.type_items starts_item
 
-pub tuple_found : (g : Grouped) (trees rest : List TokenTree) → trees ≡ Group g ∷ rest
-    → g.delimiter ≡ delimiters.Parenthesis → ReadsAll (IsFrom (at items.Struct spots.AfterGenerics)) trees
-    → ReadsAll (IsFrom (at items.Tuple spots.AfterGenerics)) rest
-tuple_found g trees rest whole is all =
-    reads_whole (at items.Tuple spots.AfterGenerics) rest (tuple_left g rest is
-    (subst (Goes (at items.Struct spots.AfterGenerics)) whole
-    (goes_whole (at items.Struct spots.AfterGenerics) trees all)))
+pub item_stuck : (trees left : List TokenTree) (at : ℕ) → Sticks type_item trees left
+    → at ≡ length trees - length left
+    → FaultAt (IsWhole IsItem) trees at
+item_stuck = faults.form_stuck type_item IsItem forms.type_items starts_item
 
--- no group has the class of a `;`
-no_semicolon : (d : Delimiter) (f : Forest) → group_class d f ≡ signs.Semicolon → ⊥
-no_semicolon delimiters.Parenthesis f is =
-    elim (is_restriction f) as (λ b. parentheses_class b ≡ signs.Semicolon → ⊥) [ true ↦ λ h. cc | false ↦ λ h. cc ] is
-no_semicolon delimiters.Bracket f is = cc
-no_semicolon delimiters.Brace f is = cc
-no_semicolon delimiters.None f is =
-    unseen (λ class. class ≡ signs.Semicolon → ⊥) f (λ h. cc) (λ h. cc) (λ h. cc) (λ h. cc) (λ h. cc) is
+pub left_span : (trees rest : List TokenTree) (at : ℕ) (span : Option Extent) → Finds type_item trees rest
+    → at ≡ length trees - length rest → span ≡ first_extent rest
+    → span ≡ extent_at trees at
+left_span trees rest at span f counted first = remains_span trees rest at span f.remains counted first
 
-pub braces_found : (kind : Declared) (trees rest : List TokenTree) (g : Grouped) → LastOf kind trees
-    → trees ≡ Group g ∷ rest → (g.delimiter ≡ delimiters.Brace) × (rest ≡ [])
-braces_found kind trees rest g (braces group whole is other) found =
-    let same : Group group ∷ [] ≡ Group g ∷ rest = sym whole ∙ found in
-    let groups : group ≡ g = cc in
-    let rests : rest ≡ [] = cc in
-    (ap (λ x. x.delimiter) (sym groups) ∙ is, rests)
-braces_found kind trees rest g (semicolon class other) found =
-    let classes : group_class g.delimiter g.stream ∷ classes_of (signs rest) ≡ signs.Semicolon ∷ [] =
-    ap classes_of (sym (signs_group g rest) ∙ ap signs (sym found)) ∙ class in
-    let first : group_class g.delimiter g.stream ≡ signs.Semicolon = cc in
-    absurd (no_semicolon g.delimiter g.stream first)
+pub stuck_span : (trees left : List TokenTree) (at : ℕ) (span : Option Extent) → Sticks type_item trees left
+    → at ≡ length trees - length left → span ≡ first_extent left
+    → span ≡ extent_at trees at
+stuck_span trees left at span s counted first = remains_span trees left at span s.remains counted first
 
-pub semicolon_found : (kind : Declared) (trees : List TokenTree) → LastOf kind trees
-    → ((g : Grouped) (rest : List TokenTree) → trees ≡ Group g ∷ rest → ⊥)
-    → classes_of (signs trees) ≡ signs.Semicolon ∷ []
-semicolon_found kind trees (braces group whole is other) none = absurd (none group [] whole)
-semicolon_found kind trees (semicolon class other) none = class
+pub left_expects : (trees rest : List TokenTree) (at : ℕ) (set : Expected) → Finds type_item trees rest
+    → (length rest ≡ 0 → ⊥) → at ≡ length trees - length rest → ExpectsWhole type_item trees set
+    → Expects IsItem trees at set
+left_expects = faults.form_left_expects type_item IsItem forms.type_items starts_item
 
-pub tuple_semicolon : (trees : List TokenTree) → LastOf tuple trees → classes_of (signs trees) ≡ signs.Semicolon ∷ []
-tuple_semicolon trees (braces group whole is other) = absurd (other refl)
-tuple_semicolon trees (semicolon class other) = class
+pub stuck_expects : (trees left : List TokenTree) (at : ℕ) (set : Expected) → Sticks type_item trees left
+    → at ≡ length trees - length left → ExpectsWhole type_item trees set
+    → Expects IsItem trees at set
+stuck_expects = faults.form_expects type_item IsItem forms.type_items starts_item
 
--- ---- an enum or a union, after its generic parameters
-
-pub record Braced (trees : List TokenTree) : Type 0 where
-  pub kind : Declared
-  pub braced : IsBraced kind
-  pub left : ReadsAll (IsFrom (at (item_of kind) spots.AfterGenerics)) trees
-
-pub braced_by : (trees : List TokenTree) → AreBracesLeft trees → Braced trees
-braced_by trees (inl left) = record { kind = enumeration; braced = tt; left = left }
-braced_by trees (inr left) = record { kind = union; braced = tt; left = left }
-
-pub braced_clause : (trees : List TokenTree) (fault : ℕ) → AreBracesLeft trees → FaultAt IsWhere trees fault → ⊥
-braced_clause trees fault left wrong =
-    let by = braced_by trees left in
-    clause_stands by.kind trees fault by.left (braced_none by.kind (signs trees) by.braced) wrong
-
-pub record BracedLast (trees : List TokenTree) : Type 0 where
-  pub kind : Declared
-  pub braced : IsBraced kind
-  pub last : LastOf kind trees
-
-pub braced_last : (trees part rest : List TokenTree) → AreBracesLeft trees → IsOnly IsWhere trees part rest
-    → BracedLast rest
-braced_last trees part rest left only =
-    let by = braced_by trees left in
-    record {
-      kind = by.kind;
-      braced = by.braced;
-      last = last_found by.kind trees part rest by.left (braced_none by.kind (signs trees) by.braced) only;
-    }
-
-pub braced_group : (trees : List TokenTree) → BracedLast trees
-    → ((g : Grouped) (rest : List TokenTree) → trees ≡ Group g ∷ rest → ⊥) → ⊥
-braced_group trees by none =
-    elim by.last [
-      | braces group whole is other ↦ none group [] whole
-      | semicolon class other ↦ other by.braced
-    ]
-
--- a where clause can be read from itself and the trees after it
-pub clause_before : (trees clause rest other : List TokenTree) → Reads IsWhere trees clause rest → rest ≡ other
-    → Reads IsWhere (clause ++ other) clause other
-clause_before trees clause rest other reads same =
-    subst (λ ts. Reads IsWhere ts clause other) (reads.whole ∙ ap (λ r. clause ++ r) same)
-    (subst (Reads IsWhere trees clause) same reads)
+pub ruleset promises = (item_all, item_left, item_stuck, left_span, stuck_span, left_expects, stuck_expects)

@@ -4,12 +4,11 @@ pub mod WalkLemmas
 pub mod PlaceLemmas
 pub mod ReadingLemmas
 pub mod WholeLemmas
-pub mod CutLemmas
 pub mod PartLemmas
-pub mod RegionLemmas
 pub mod SortLemmas
 pub mod ItemLemmas
 pub mod FieldLemmas
+pub mod TupleFieldLemmas
 pub mod VariantLemmas
 pub mod FileLemmas
 pub mod ParamLemmas
@@ -41,6 +40,7 @@ pub mod RuleFormLemmas
 pub mod TableReaderLemmas
 pub mod EntryLemmas
 pub mod HeldLemmas
+pub mod EntryExpectsLemmas
 pub mod EntryCheckLemmas
 pub mod ParameterLemmas
 pub mod RuleWholeLemmas
@@ -48,8 +48,10 @@ pub mod FunctionPartLemmas
 pub mod FunctionLemmas
 pub mod RangeStepLemmas
 pub mod FrontLemmas
+pub mod PublicLemmas
 pub mod TransferLemmas
 pub mod PartReaderLemmas
+pub mod RuleFaultLemmas
 pub mod TreeLemmas
 pub mod GenericArgumentLemmas
 pub mod ListedLemmas

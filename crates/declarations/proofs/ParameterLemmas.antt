@@ -180,7 +180,7 @@ begins_as : (trees rest : List TokenTree) (x class : SignClass) → BeginsWith t
 begins_as trees rest x class b h = subst (λ c. BeginsWith trees c rest) (same_class x class h) b
 
 -- a rule that reads at least one sign can begin with the first sign
-finds_heads : (g : G) (trees rest : List TokenTree) → is_nullable g ≡ false → Finds g trees rest
+pub finds_heads : (g : G) (trees rest : List TokenTree) → is_nullable g ≡ false → Finds g trees rest
     → heads g (classes_in trees) ≡ true
 finds_heads g trees rest e f = go (heads g (classes_in trees)) refl
   where

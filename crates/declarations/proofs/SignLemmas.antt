@@ -12,7 +12,7 @@ use Rattle.pm_stream.specs.declared.stream.TokenTree.{TokenTree}
 use Rattle.pm_stream.specs.declared.stream.TokenTree.TheVariants.{Group, Ident, Punct, Literal}
 use Rattle.pm_stream.proofs.DocLemmas.{trees_of-forest}
 use Rattle.declarations.specs.Signs.{Sign, signs, signs_after, pair_class, tree_class, BeginsWith, is_restriction}
-use Rattle.declarations.specs.Signs.{classes_of, trees_of}
+use Rattle.declarations.specs.Signs.{classes_of, group_class, trees_of}
 use Rattle.declarations.specs.Bare.{innermost, innermost_trees}
 use Rattle.declarations.specs.Signs.{held_class, is_pub, is_visibility, may_restrict, restricts, restricts_in}
 use Rattle.declarations.specs.Signs.{unseen_class}
@@ -70,6 +70,11 @@ begins_last trees [] first whole none = record {
   read = rw whole refl;
 }
 begins_last trees (second ∷ rest) first whole none = absurd (omega arith)
+
+pub signs_group : (g : Grouped) (rest : List TokenTree) → signs (Group g ∷ rest)
+    ≡ record { class = group_class g.delimiter g.stream; trees = Group g ∷ [] } ∷ signs rest
+signs_group g [] = refl
+signs_group g (tree ∷ rest) = refl
 
 -- ---- restrictions
 

@@ -74,7 +74,7 @@ choice [] default = default
 choice (row ∷ rows) default = if row.0 then row.1 else choice rows default
 
 -- what holds of all values of a choice
-abbrev AllRows : {A : Type 0} → (A → Type 0) → List (Bool × A) → Type 0
+abbrev pub AllRows : {A : Type 0} → (A → Type 0) → List (Bool × A) → Type 0
 AllRows P [] = Unit {0}
 AllRows P (row ∷ rows) = P row.1 × AllRows P rows
 
@@ -82,7 +82,7 @@ either : {A : Type 0} (P : A → Type 0) (b : Bool) (x y : A) → P x → P y �
 either P true x y left right = left
 either P false x y left right = right
 
-choice_holds : {A : Type 0} (P : A → Type 0) (rows : List (Bool × A)) (default : A) → AllRows P rows → P default
+pub choice_holds : {A : Type 0} (P : A → Type 0) (rows : List (Bool × A)) (default : A) → AllRows P rows → P default
     → P (choice rows default)
 choice_holds P [] default all last = last
 choice_holds P (row ∷ rows) default all last =
@@ -124,7 +124,7 @@ or_else_sort : (o other : Option SignClass) → MayBe names o → MayBe names ot
 or_else_sort None other first second = second
 or_else_sort (Some class) other first second = first
 
-abbrev path_rows : Name → List (Bool × Option SignClass)
+abbrev pub path_rows : Name → List (Bool × Option SignClass)
 path_rows i =
     (is_written i (codes "self"), Some signs.SelfValue) ∷ (is_written i (codes "Self"), Some signs.SelfType) ∷
     (is_written i (codes "super"), Some signs.Super) ∷ (is_written i (codes "crate"), Some signs.Crate) ∷
@@ -136,7 +136,7 @@ path_sort i =
     (refl, (refl, (refl, (refl, (refl, tt)))))
     tt
 
-abbrev operand_rows : Name → List (Bool × Option SignClass)
+abbrev pub operand_rows : Name → List (Bool × Option SignClass)
 operand_rows i =
     (is_truth i, Some signs.Truth) ∷ (is_written i (codes "as"), Some signs.As) ∷
     (is_written i (codes "await"), Some signs.Await) ∷ (is_written i (codes "continue"), Some signs.Jump) ∷

@@ -56,6 +56,7 @@ table_left tables.Expression = refl
 table_left tables.Field = refl
 table_left tables.TupleField = refl
 table_left tables.Variant = refl
+table_left tables.TypeItem = refl
 table_left tables.AnyItem = refl
 
 -- the tables have a step exactly where the machine has one

@@ -1,9 +1,9 @@
 -- What is read by a rule is what is read by the form with the same pieces.
 use Rattle.std.specs.Prelude.{◌↔◌}
-use Rattle.std.proofs.Common.{ℕ, List, []}
+use Rattle.std.proofs.Common.{ℕ, List, [], ◌∷◌, ◌++◌}
 use Rattle.pm_stream.specs.declared.stream.TokenTree.{TokenTree}
 use Rattle.declarations.specs.Expected.{Expects}
-use Rattle.declarations.specs.Reading.{IsOnly, Reads}
+use Rattle.declarations.specs.Reading.{FaultAt, IsOnly, Reads, StopsBefore}
 use Rattle.declarations.specs.Signs.{classes_of, signs}
 use Rattle.declarations.specs.Walk.{IsFront}
 use Rattle.declarations.specs.Whole.{IsWhole}
@@ -66,3 +66,43 @@ module _ (A B : List SignClass → List SignClass → Type 0)
       λ f. e.end.1 ((by (classes_of e.front) []).0 f),
     );
   }
+
+  -- ---- errors
+
+  plain_to : (front : List SignClass) → IsFront A front → IsFront B front
+  plain_to front f = record {
+    more = f.more;
+    piece = f.piece;
+    rest = f.rest;
+    whole = f.whole;
+    stands = (by f.piece f.rest).1 f.stands;
+  }
+
+  plain_back : (front : List SignClass) → IsFront B front → IsFront A front
+  plain_back front f = record {
+    more = f.more;
+    piece = f.piece;
+    rest = f.rest;
+    whole = f.whole;
+    stands = (by f.piece f.rest).0 f.stands;
+  }
+
+  longest_to : (front left : List SignClass) → StopsBefore A front left → StopsBefore B front left
+  longest_to front [] stops = tt
+  longest_to front (c ∷ left) stops = λ f. stops (plain_back (front ++ c ∷ []) f)
+
+  pub fault_to : (trees : List TokenTree) (at : ℕ) → FaultAt A trees at → FaultAt B trees at
+  fault_to trees at f = record {
+    front = f.front;
+    left = f.left;
+    read = f.read;
+    whole = f.whole;
+    counted = f.counted;
+    goes_on = plain_to (classes_of f.front) f.goes_on;
+    longest = longest_to (classes_of f.front) (classes_of (signs f.left)) f.longest;
+    nothing = λ part rest r. f.nothing part rest (reads_back trees part rest r);
+  }
+
+  -- and so have the forms that nothing follows
+  pub whole_by : (piece rest : List SignClass) → IsWhole B piece rest ↔ IsWhole A piece rest
+  whole_by piece rest = (λ w. ((by piece rest).0 w.0, w.1), λ w. ((by piece rest).1 w.0, w.1))

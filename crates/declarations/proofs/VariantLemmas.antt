@@ -1,275 +1,292 @@
--- The parts of a variant that is all of the trees.
-use Rattle.std.proofs.Common.{◌≡◌, refl, sym, ◌∙◌, ap, subst, true, false, List, [], ◌∷◌, ◌++◌, Some}
-use Rattle.std.proofs.Common.{inl, inr, ◌⊎◌}
+-- The parts of a variant.
+use Rattle.std.proofs.Common.{◌≡◌, refl, sym, ◌∙◌, ap, subst, ℕ, ◌-◌, Bool, true, false, ◌&&◌, ◌||◌, List, [], ◌∷◌}
+use Rattle.std.proofs.Common.{◌++◌, ◌⊎◌, inl, inr, Option, length, arith}
+use Rattle.grammars.specs.Deterministic.{IsStart}
+use Rattle.grammars.specs.First.{heads, may_begin}
+use Rattle.grammars.specs.Grammar.{Either, Mark, Nothing, Sign, Then}
+use Rattle.pm_span.specs.Extent.{Extent}
 use Rattle.pm_token.specs.Leaf.{Name}
-use Rattle.pm_token.specs.declared.delimiters.Delimiter.{Delimiter}
 use Rattle.pm_token.specs.declared.delimiters.Delimiter.TheVariants as delimiters
-use Rattle.pm_stream.specs.Forest.{Forest}
 use Rattle.pm_stream.specs.declared.stream.Group.{Group as Grouped}
 use Rattle.pm_stream.specs.declared.stream.TokenTree.{TokenTree}
 use Rattle.pm_stream.specs.declared.stream.TokenTree.TheVariants.{Group, Ident}
-use Rattle.declarations.proofs.CutLemmas.{Goes, Begins, begun_by}
-use Rattle.declarations.proofs.FieldLemmas.{front_of, mark_tree}
-use Rattle.declarations.proofs.ItemLemmas.{reads_whole, signs_group}
-use Rattle.declarations.proofs.PartLemmas.{at, variant, after_visibility}
-use Rattle.declarations.proofs.SignLemmas.{no_signs}
-use Rattle.declarations.proofs.SortLemmas.{sort_of, first_tree, is_identifier_sign, is_group_sign, names, groups}
-use Rattle.declarations.proofs.SortLemmas.{unseen}
-use Rattle.declarations.proofs.WalkLemmas.{after}
-use Rattle.declarations.specs.Forms.{AreAttributes, IsVisibility, IsExpression}
-use Rattle.declarations.specs.Reading.{Reads}
-use Rattle.declarations.specs.Variant.{AreDelimited, HasValue, HasVariantParts, IsValue, SplitsFields, with_fields}
+use Rattle.declarations.specs.Expected.{Expects}
+use Rattle.declarations.specs.Explore.{ExpectsWhole}
+use Rattle.declarations.specs.Fault.{extent_at, first_extent}
+use Rattle.declarations.specs.Field.{ReadsFront}
+use Rattle.declarations.specs.Forms.{IsExpression, IsVariant, start}
+use Rattle.declarations.specs.Function.{IsNameAt}
+use Rattle.declarations.specs.Reader.{Finds, Sticks, classes_in}
+use Rattle.declarations.specs.Reading.{FaultAt, Reads}
+use Rattle.declarations.specs.Signs.{BeginsWith, group_class}
+use Rattle.declarations.specs.Variant.{AreDelimited, HasDiscriminant, HasVariantRest, IsValue}
+use Rattle.declarations.specs.Variant.{IsVariantAt, variant_rest, with_fields}
+use Rattle.declarations.specs.Whole.{ReadsAll}
+use Rattle.item_tables.specs.Classes.{is, is_round}
+use Rattle.item_tables.specs.declared.class.SignClass.{SignClass}
+use Rattle.item_tables.specs.declared.class.SignClass.TheVariants as signs
+use Rattle.item_tables.specs.declared.walk_state.Continuation.TheVariants as places
+use Rattle.item_tables.specs.declared.walk_state.Spot.TheVariants as spots
+use Rattle.item_tables.specs.declared.walk_state.State.TheVariants as states
+use Rattle.declarations.specs.declared.expected.Expected.{Expected}
 use Rattle.declarations.specs.declared.item.Fields.{Fields}
 use Rattle.declarations.specs.declared.item.Fields.TheVariants as fields
 use Rattle.declarations.specs.declared.variant.Variant.{Variant}
-use Rattle.item_tables.specs.Grammar.{step}
-use Rattle.declarations.specs.Item.{IsNameClass}
-use Rattle.declarations.specs.Signs.{Sign, signs, classes_of, name_class, group_class, is_restriction}
-use Rattle.declarations.specs.Signs.{parentheses_class, tree_class}
-use Rattle.declarations.specs.Whole.{ReadsAll}
-use Rattle.item_tables.specs.declared.class.SignClass.{SignClass}
-use Rattle.item_tables.specs.declared.class.SignClass.TheVariants as signs
-use Rattle.item_tables.specs.declared.walk_state.Item.TheVariants as items
-use Rattle.item_tables.specs.declared.walk_state.WalkState.{WalkState}
-use Rattle.item_tables.specs.declared.walk_state.Spot.TheVariants as spots
+use Rattle.declarations.specs.rules.Bodies.{braces}
+use Rattle.declarations.specs.rules.Expressions.{expression}
+use Rattle.declarations.specs.rules.Names.{Fields as FieldsPart, G, Named, Rest, Value, one, word}
+use Rattle.declarations.specs.rules.Parts.{attributes, discriminant, variant, variant_fields}
+use Rattle.declarations.specs.rules.Pieces.{ByRule}
+use Rattle.declarations.specs.rules.Rules.{follows, rules}
+use Rattle.declarations.proofs.FieldLemmas.{begins_as, front_fails, front_finds, front_of, front_sticks, front_whole}
+use Rattle.declarations.proofs.FieldLemmas.{mark_first, reads_alone}
+use Rattle.declarations.proofs.FormLemmas as forms
+use Rattle.declarations.proofs.FunctionPartLemmas.{begins_group, name_finds, no_braces, no_round, round_class}
+use Rattle.declarations.proofs.PartReaderLemmas as parts_read
+use Rattle.declarations.proofs.ReaderLemmas.{first_finds, first_sticks, heads_none, heads_sign, mark_finds, mark_sticks}
+use Rattle.declarations.proofs.ReaderLemmas.{other_finds, perhaps_stays, remains_span, sign_finds, then_fails}
+use Rattle.declarations.proofs.ReaderLemmas.{then_finds, then_sticks}
+use Rattle.declarations.proofs.RuleFaultLemmas as faults
+use Rattle.declarations.proofs.RuleFormLemmas.{found_reads}
+use Rattle.declarations.proofs.RuleLemmas.{starts}
+use Rattle.declarations.proofs.TransferLemmas.{reads_to}
+use Rattle.declarations.proofs.TreeLemmas.{or_nothing}
 
--- ---- the name of a variant
+-- ---- the fields
 
-pub record NamedVariant (trees : List TokenTree) : Type 0 where
-  pub ident : Name
-  pub more : List TokenTree
-  pub whole : trees ≡ Ident ident ∷ more
-  pub is_name : IsNameClass (name_class ident)
-  pub left : Goes (at items.Alone spots.VariantName) more
+-- parentheses or braces
+abbrev any_fields : G
+any_fields = Either (Sign is_round) (one signs.Braces)
 
-record LedVariant (class : SignClass) (next : WalkState) : Type 0 where
-  sort : sort_of class ≡ names
-  is_name : IsNameClass class
-  is : next ≡ at items.Alone spots.VariantName
+abbrev marked_fields : G
+marked_fields = Then (Mark FieldsPart) any_fields
 
-led_variant : (class : SignClass) (next : WalkState) → after_visibility variant class ≡ Some next
-    → LedVariant class next
-led_variant (signs.Word word) next steps = record { sort = refl; is_name = tt; is = (cc) }
-led_variant class next steps = cc
+abbrev round_sign : G
+round_sign = Sign is_round
 
-pub named_variant : (trees : List TokenTree) → Begins (after_visibility variant) trees → NamedVariant trees
-named_variant trees begins =
-    let led = led_variant begins.sign.class begins.next begins.steps in
-    let found = is_identifier_sign trees begins.sign (signs begins.more) begins.begins led.sort in
-    let is : begins.sign.class ≡ name_class found.0 = ap (λ s. s.class) found.1.is in
-    let name : begins.sign.trees ≡ Ident found.0 ∷ [] = ap (λ s. s.trees) found.1.is in
+fields_heads : (cs : List SignClass) → heads marked_fields cs ≡ (heads round_sign cs || heads braces cs)
+fields_heads [] = refl
+fields_heads (c ∷ cs) = refl
+
+pub tuple_finds : (trees rest : List TokenTree) (g : Grouped) → trees ≡ Group g ∷ rest
+    → g.delimiter ≡ delimiters.Parenthesis
+    → Finds variant_fields trees rest
+tuple_finds trees rest g whole round =
+    let b = begins_group trees rest g whole in
+    let h : is_round (group_class g.delimiter g.stream) ≡ true =
+    ap (λ d. is_round (group_class d g.stream)) round ∙ round_class g.stream in
+    first_finds marked_fields Nothing trees rest
+    (heads_sign marked_fields trees rest (group_class g.delimiter g.stream) b
+    ∙ ap (λ x. x || is signs.Braces (group_class g.delimiter g.stream)) h)
+    (mark_finds FieldsPart any_fields trees rest
+    (first_finds (Sign is_round) (one signs.Braces) trees rest
+    (heads_sign (Sign is_round) trees rest (group_class g.delimiter g.stream) b ∙ h)
+    (sign_finds is_round trees rest (group_class g.delimiter g.stream) b h)))
+
+pub named_finds : (trees rest : List TokenTree) (g : Grouped) → trees ≡ Group g ∷ rest
+    → g.delimiter ≡ delimiters.Brace
+    → Finds variant_fields trees rest
+named_finds trees rest g whole brace =
+    let class : group_class g.delimiter g.stream ≡ signs.Braces = ap (λ d. group_class d g.stream) brace in
+    let b : BeginsWith trees signs.Braces rest =
+    subst (λ c. BeginsWith trees c rest) class (begins_group trees rest g whole) in
+    first_finds marked_fields Nothing trees rest (heads_sign marked_fields trees rest signs.Braces b)
+    (mark_finds FieldsPart any_fields trees rest
+    (other_finds (Sign is_round) (one signs.Braces) trees rest
+    (heads_sign (Sign is_round) trees rest signs.Braces b) refl
+    (sign_finds (is signs.Braces) trees rest signs.Braces b refl)))
+
+pub no_fields : (trees : List TokenTree)
+    → ((g : Grouped) (rest : List TokenTree) → trees ≡ Group g ∷ rest → g.delimiter ≡ delimiters.Parenthesis → ⊥)
+    → ((g : Grouped) (rest : List TokenTree) → trees ≡ Group g ∷ rest → g.delimiter ≡ delimiters.Brace → ⊥)
+    → Finds variant_fields trees trees
+no_fields trees none other =
+    perhaps_stays marked_fields trees
+    (fields_heads (classes_in trees) ∙ rw (no_round trees none, no_braces trees other) refl)
+
+pub ruleset fields_read = (tuple_finds, named_finds, no_fields)
+
+-- ---- the discriminant
+
+starts_expression : IsStart rules follows (expression ∷ [])
+starts_expression = starts expression refl refl
+
+-- `=` and an expression
+abbrev equals : G
+equals = Then (Mark Rest) (Then (one signs.Equals) (Then (Mark Value) expression))
+
+equals_first : (c : SignClass) → may_begin equals c ≡ is signs.Equals c
+equals_first c = or_nothing (is signs.Equals c) (may_begin (Then (Mark Value) expression) c)
+
+module _ (trees from_value : List TokenTree) (class : SignClass) (b : BeginsWith trees class from_value)
+    (h : is signs.Equals class ≡ true) where
+  equals_heads : heads equals (classes_in trees) ≡ true
+  equals_heads = heads_sign equals trees from_value class b ∙ (equals_first class ∙ h)
+
+  pub value_finds : (rest : List TokenTree) → Finds expression from_value rest → Finds discriminant trees rest
+  value_finds rest f =
+      first_finds equals Nothing trees rest equals_heads
+      (mark_finds Rest _ trees rest
+      (then_finds (one signs.Equals) _ trees from_value rest (sign_finds (is signs.Equals) trees from_value class b h)
+      (mark_finds Value expression from_value rest f)))
+
+  pub value_fails : (left : List TokenTree) → Sticks expression from_value left → Sticks discriminant trees left
+  value_fails left s =
+      first_sticks equals Nothing trees left equals_heads
+      (mark_sticks Rest _ trees left
+      (then_fails (one signs.Equals) _ trees from_value left (sign_finds (is signs.Equals) trees from_value class b h)
+      (mark_sticks Value expression from_value left s)))
+
+  pub value_has : (value rest : List TokenTree) → Finds expression from_value rest → from_value ≡ value ++ rest
+      → HasDiscriminant trees value rest
+  value_has value rest f whole =
+      inl (record {
+        from_value = from_value;
+        equals = begins_as trees from_value signs.Equals class b h;
+        value_read = found_reads expression starts_expression from_value value rest f whole;
+      })
+
+pub no_equals : (trees rest : List TokenTree) (class : SignClass) → BeginsWith trees class rest
+    → is signs.Equals class ≡ false
+    → Finds discriminant trees trees
+no_equals trees rest class b h =
+    perhaps_stays equals trees (heads_sign equals trees rest class b ∙ (equals_first class ∙ h))
+
+pub no_equals_left : (trees : List TokenTree) → trees ≡ [] → Finds discriminant trees trees
+no_equals_left trees e = perhaps_stays equals trees (heads_none equals trees e)
+
+pub no_value : (trees value : List TokenTree) → value ≡ [] → HasDiscriminant trees value trees
+no_value trees value e = inr (e, refl)
+
+pub ruleset discriminants = (value_finds, value_fails, value_has, no_equals, no_equals_left, no_value)
+
+-- ---- from the name on
+
+abbrev from_fields : G
+from_fields = Then variant_fields discriminant
+
+pub rest_finds : (trees mid next rest : List TokenTree) (n : Name) → IsNameAt trees n mid
+    → Finds variant_fields mid next → Finds discriminant next rest
+    → Finds variant_rest trees rest
+rest_finds trees mid next rest n at f g =
+    mark_finds Named (Then word from_fields) trees rest
+    (then_finds word from_fields trees mid rest (name_finds trees mid n at)
+    (then_finds variant_fields discriminant mid next rest f g))
+
+pub rest_has : (trees mid next value rest : List TokenTree) (n : Name) (found : Fields) → IsNameAt trees n mid
+    → mid ≡ with_fields found next → AreDelimited found → HasDiscriminant next value rest
+    → HasVariantRest trees n found value rest
+rest_has trees mid next value rest n found at whole delimited has = record {
+  from_fields = mid;
+  from_value = next;
+  named = at;
+  fields = whole;
+  delimited = delimited;
+  value = has;
+}
+
+pub rest_fails : (trees mid next left : List TokenTree) (n : Name) → IsNameAt trees n mid
+    → Finds variant_fields mid next → Sticks discriminant next left
+    → Sticks variant_rest trees left
+rest_fails trees mid next left n at f s =
+    mark_sticks Named (Then word from_fields) trees left
+    (then_fails word from_fields trees mid left (name_finds trees mid n at)
+    (then_fails variant_fields discriminant mid next left f s))
+
+pub rest_sticks : (trees left : List TokenTree) → Sticks word trees left → Sticks variant_rest trees left
+rest_sticks trees left s =
+    mark_sticks Named (Then word from_fields) trees left (then_sticks word from_fields trees left s)
+
+pub ruleset named = (rest_finds, rest_has, rest_fails, rest_sticks)
+
+-- ---- the whole variant
+
+pub starts_variant : IsStart rules follows (variant ∷ [])
+starts_variant = starts variant refl refl
+
+-- the trees of the discriminant, with its `=`
+record ValueTrees (trees value rest : List TokenTree) : Type 0 where
+  all : List TokenTree
+  whole : trees ≡ all ++ rest
+  is_value : IsValue all value
+
+value_alone : (trees value rest : List TokenTree) → Reads (ByRule expression) trees value rest
+    → ReadsAll IsExpression value
+value_alone trees value rest reads =
+    reads_alone (start places.Alone (states.At spots.Expression)) trees value rest
+    (reads_to (ByRule expression) IsExpression forms.expressions trees value rest reads)
+
+value_trees : (trees value rest : List TokenTree) → HasDiscriminant trees value rest → ValueTrees trees value rest
+value_trees trees value rest (inl has) =
+    let mark = mark_first trees has.from_value signs.Equals has.equals refl in
     record {
-      ident = found.0;
-      more = begins.more;
-      whole = begins.follows ∙ ap (λ ts. ts ++ begins.more) name;
-      is_name = subst IsNameClass is led.is_name;
-      left = subst (λ p. Goes p begins.more) led.is begins.left;
+      all = mark.0 ∷ value;
+      whole = mark.1 ∙ ap (λ r. mark.0 ∷ r) has.value_read.whole;
+      is_value = (refl, mark.2, value_alone has.from_value value rest has.value_read);
+    }
+value_trees trees value rest (inr none) = record { all = []; whole = none.1; is_value = none.0 }
+
+fields_before : (found : Fields) (all rest : List TokenTree)
+    → with_fields found (all ++ rest) ≡ with_fields found all ++ rest
+fields_before (fields.Named g) all rest = refl
+fields_before (fields.Tuple g) all rest = refl
+fields_before fields.Unit all rest = refl
+
+pub variant_finds : (trees a v mid rest : List TokenTree) → ReadsFront trees a v mid → Finds variant_rest mid rest
+    → Finds variant trees rest
+variant_finds = front_finds variant_rest
+
+pub variant_fails : (trees a v mid left : List TokenTree) → ReadsFront trees a v mid → Sticks variant_rest mid left
+    → Sticks variant trees left
+variant_fails = front_fails variant_rest
+
+pub variant_sticks : (trees left : List TokenTree) → Sticks attributes trees left → Sticks variant trees left
+variant_sticks = front_sticks variant_rest
+
+pub variant_at : (trees mid rest : List TokenTree) (found : Variant)
+    → ReadsFront trees found.attributes.now found.visibility.now mid → Finds variant_rest mid rest
+    → HasVariantRest mid found.name.now found.fields found.discriminant.now rest
+    → IsVariantAt trees found rest
+variant_at trees mid rest found f h has =
+    let a = found.attributes.now in
+    let v = found.visibility.now in
+    let n = found.name.now in
+    let value = value_trees has.from_value found.discriminant.now rest has.value in
+    let other : List TokenTree = Ident n ∷ with_fields found.fields value.all in
+    let whole : mid ≡ other ++ rest =
+    has.named.whole
+    ∙ ap (λ r. Ident n ∷ r) (has.fields
+    ∙ (ap (with_fields found.fields) value.whole ∙ fields_before found.fields value.all rest)) in
+    record {
+      part = a ++ (v ++ other);
+      reads = parts_read.part_reads variant IsVariant forms.one_variant starts_variant trees (a ++ (v ++ other)) rest
+          (variant_finds trees a v mid rest f h) (front_whole trees a v mid rest f other whole);
+      parts = record {
+        value = value.all;
+        front = front_of trees a v mid rest f other h.remains whole;
+        is_name = has.named.is_name;
+        delimited = has.delimited;
+        is_value = value.is_value;
+      };
     }
 
--- ---- the discriminant of a variant
+pub ruleset variants_of = (variant_finds, variant_fails, variant_sticks, variant_at)
 
--- there are no trees, or they are `=` and an expression
-pub data Value (trees : List TokenTree) : Type 0 where
-  nothing : trees ≡ [] → Value trees
-  equals : (mark : TokenTree) (more : List TokenTree) → trees ≡ mark ∷ more → tree_class mark ≡ signs.Equals
-      → ReadsAll IsExpression more → Value trees
+-- ---- errors
 
-abbrev IsEqualsStep : WalkState → Type 0
-IsEqualsStep place =
-    (class : SignClass) (next : WalkState) → step place class ≡ Some next → (class ≡ signs.Equals)
-    × (next ≡ at items.Alone spots.Expression)
+pub variant_fault : (trees left : List TokenTree) (at : ℕ) → Sticks variant trees left
+    → at ≡ length trees - length left
+    → FaultAt IsVariant trees at
+variant_fault = faults.form_fault variant IsVariant forms.one_variant starts_variant
 
-end_step : IsEqualsStep (at items.Alone spots.VariantEnd)
-end_step signs.Equals next steps = (refl, cc)
-end_step class next steps = cc
+pub variant_span : (trees left : List TokenTree) (at : ℕ) (span : Option Extent) → Sticks variant trees left
+    → at ≡ length trees - length left → span ≡ first_extent left
+    → span ≡ extent_at trees at
+variant_span trees left at span s counted first = remains_span trees left at span s.remains counted first
 
-equals_value : (trees more : List TokenTree) (sign : Sign) (next : WalkState) → signs trees ≡ sign ∷ signs more
-    → trees ≡ sign.trees ++ more → sign.class ≡ signs.Equals → next ≡ at items.Alone spots.Expression
-    → Goes next more → Value trees
-equals_value trees more sign next read whole class is goes =
-    let mark = mark_tree trees sign (first_tree trees sign (signs more) read) (ap sort_of class) in
-    let one : sign.trees ≡ mark.tree ∷ [] = ap (λ s. s.trees) mark.is in
-    equals mark.tree more (whole ∙ ap (λ ts. ts ++ more) one) (sym (ap (λ s. s.class) mark.is) ∙ class)
-    (reads_whole (at items.Alone spots.Expression) more (subst (λ p. Goes p more) is goes))
+pub variant_expects : (trees left : List TokenTree) (at : ℕ) (set : Expected) → Sticks variant trees left
+    → at ≡ length trees - length left → ExpectsWhole variant trees set
+    → Expects IsVariant trees at set
+variant_expects = faults.form_expects variant IsVariant forms.one_variant starts_variant
 
--- there are no trees left, or they begin with a sign
-data Left (place : WalkState) (trees : List TokenTree) : Type 0 where
-  ended : trees ≡ [] → Left place trees
-  goes_on : Begins (step place) trees → Left place trees
-
-left_of : (place : WalkState) (trees : List TokenTree) (all : List Sign) → signs trees ≡ all → Goes place trees
-    → Left place trees
-left_of place trees [] read goes = ended (no_signs trees (ap classes_of read))
-left_of place trees (sign ∷ all) read goes =
-    goes_on (begun_by place trees sign all read goes.last goes.walks goes.ended)
-
-value_left : (trees : List TokenTree) → Left (at items.Alone spots.VariantEnd) trees → Value trees
-value_left trees (ended none) = nothing none
-value_left trees (goes_on begins) =
-    let is = end_step begins.sign.class begins.next begins.steps in
-    equals_value trees begins.more begins.sign begins.next begins.begins begins.follows is.0 is.1 begins.left
-
-pub value_of : (trees : List TokenTree) → Goes (at items.Alone spots.VariantEnd) trees → Value trees
-value_of trees goes = value_left trees (left_of (at items.Alone spots.VariantEnd) trees (signs trees) refl goes)
-
--- ---- the fields of a variant
-
--- the trees do not begin with a group, or they begin with the fields in their delimiters
-pub data FieldsLeft (trees : List TokenTree) : Type 0 where
-  unit : ((g : Grouped) (rest : List TokenTree) → trees ≡ Group g ∷ rest → ⊥) → Value trees → FieldsLeft trees
-  within : (g : Grouped) (rest : List TokenTree) → trees ≡ Group g ∷ rest
-      → (g.delimiter ≡ delimiters.Parenthesis) ⊎ (g.delimiter ≡ delimiters.Brace) → Value rest → FieldsLeft trees
-
--- the step after the name of a variant
-abbrev AfterName : SignClass → WalkState → Type 0
-AfterName signs.Parentheses next = next ≡ at items.Alone spots.VariantEnd
-AfterName signs.Restriction next = next ≡ at items.Alone spots.VariantEnd
-AfterName signs.Braces next = next ≡ at items.Alone spots.VariantEnd
-AfterName signs.Equals next = next ≡ at items.Alone spots.Expression
-AfterName class next = ⊥
-
-after_name : (class : SignClass) (next : WalkState) → step (at items.Alone spots.VariantName) class ≡ Some next
-    → AfterName class next
-after_name signs.Parentheses next steps = cc
-after_name signs.Restriction next steps = cc
-after_name signs.Braces next steps = cc
-after_name signs.Equals next steps = cc
-after_name class next steps = cc
-
-abbrev IsOfFields : Delimiter → Type 0
-IsOfFields d = (d ≡ delimiters.Parenthesis) ⊎ (d ≡ delimiters.Brace)
-
-abbrev MayHoldFields : SignClass → Type 0
-MayHoldFields class = (class ≡ signs.Parentheses) ⊎ ((class ≡ signs.Restriction) ⊎ (class ≡ signs.Braces))
-
-no_fields : (class : SignClass) → (class ≡ signs.Parentheses → ⊥) → (class ≡ signs.Restriction → ⊥)
-    → (class ≡ signs.Braces → ⊥) → MayHoldFields class → ⊥
-no_fields class first second third (inl is) = first is
-no_fields class first second third (inr (inl is)) = second is
-no_fields class first second third (inr (inr is)) = third is
-
-delimits : (d : Delimiter) (f : Forest) → MayHoldFields (group_class d f) → IsOfFields d
-delimits delimiters.Parenthesis f which = inl refl
-delimits delimiters.Brace f which = inr refl
-delimits delimiters.Bracket f which =
-    absurd (no_fields signs.Brackets (λ is. cc) (λ is. cc) (λ is. cc) which)
-delimits delimiters.None f which =
-    absurd (unseen (λ class. MayHoldFields class → ⊥) f
-    (no_fields signs.Visibility (λ is. cc) (λ is. cc) (λ is. cc))
-    (no_fields signs.Lifetime (λ is. cc) (λ is. cc) (λ is. cc))
-    (no_fields signs.Literal (λ is. cc) (λ is. cc) (λ is. cc))
-    (no_fields signs.Block (λ is. cc) (λ is. cc) (λ is. cc))
-    (no_fields signs.Invisible (λ is. cc) (λ is. cc) (λ is. cc)) which)
-
-group_left : (trees more : List TokenTree) (sign : Sign) (next : WalkState) → signs trees ≡ sign ∷ signs more
-    → trees ≡ sign.trees ++ more → sort_of sign.class ≡ groups
-    → (sign.class ≡ signs.Parentheses) ⊎ ((sign.class ≡ signs.Restriction) ⊎ (sign.class ≡ signs.Braces))
-    → next ≡ at items.Alone spots.VariantEnd → Goes next more → FieldsLeft trees
-group_left trees more sign next read whole sort which is goes =
-    let found = is_group_sign trees sign (signs more) read sort in
-    let class : group_class found.0.delimiter found.0.stream ≡ sign.class = sym (ap (λ s. s.class) found.1.is) in
-    let one : sign.trees ≡ Group found.0 ∷ [] = ap (λ s. s.trees) found.1.is in
-    within found.0 more (whole ∙ ap (λ ts. ts ++ more) one)
-    (delimits found.0.delimiter found.0.stream (subst MayHoldFields (sym class) which))
-    (value_of more (subst (λ p. Goes p more) is goes))
-
-no_equals : (d : Delimiter) (f : Forest) → group_class d f ≡ signs.Equals → ⊥
-no_equals delimiters.Parenthesis f is =
-    elim (is_restriction f) as (λ b. parentheses_class b ≡ signs.Equals → ⊥) [ true ↦ λ h. cc | false ↦ λ h. cc ] is
-no_equals delimiters.Bracket f is = cc
-no_equals delimiters.Brace f is = cc
-no_equals delimiters.None f is =
-    unseen (λ class. class ≡ signs.Equals → ⊥) f (λ h. cc) (λ h. cc) (λ h. cc) (λ h. cc) (λ h. cc) is
-
-no_group : (trees : List TokenTree) (sign : Sign) (all : List Sign) → signs trees ≡ sign ∷ all
-    → sign.class ≡ signs.Equals → (g : Grouped) (rest : List TokenTree) → trees ≡ Group g ∷ rest → ⊥
-no_group trees sign all read class g rest whole =
-    let first : record { class = group_class g.delimiter g.stream; trees = Group g ∷ [] } ∷ signs rest ≡ sign ∷ all =
-    sym (signs_group g rest) ∙ ap signs (sym whole) ∙ read in
-    let is : group_class g.delimiter g.stream ≡ signs.Equals = cc in
-    no_equals g.delimiter g.stream is
-
-fields_by : (trees more : List TokenTree) (sign : Sign) (next : WalkState) (class : SignClass)
-    → signs trees ≡ sign ∷ signs more → trees ≡ sign.trees ++ more → sign.class ≡ class → AfterName class next
-    → Goes next more → FieldsLeft trees
-fields_by trees more sign next signs.Parentheses read whole is leads goes =
-    group_left trees more sign next read whole (ap sort_of is) (inl is) leads goes
-fields_by trees more sign next signs.Restriction read whole is leads goes =
-    group_left trees more sign next read whole (ap sort_of is) (inr (inl is)) leads goes
-fields_by trees more sign next signs.Braces read whole is leads goes =
-    group_left trees more sign next read whole (ap sort_of is) (inr (inr is)) leads goes
-fields_by trees more sign next signs.Equals read whole is leads goes =
-    unit (no_group trees sign (signs more) read is) (equals_value trees more sign next read whole is leads goes)
-fields_by trees more sign next class read whole is leads goes = absurd leads
-
-fields_left : (trees : List TokenTree) → Left (at items.Alone spots.VariantName) trees → FieldsLeft trees
-fields_left trees (ended none) =
-    unit (λ g rest whole. let same : Group g ∷ rest ≡ [] = sym whole ∙ none in cc) (nothing none)
-fields_left trees (goes_on begins) =
-    fields_by trees begins.more begins.sign begins.next begins.sign.class begins.begins begins.follows refl
-    (after_name begins.sign.class begins.next begins.steps) begins.left
-
-pub fields_of : (trees : List TokenTree) → Goes (at items.Alone spots.VariantName) trees → FieldsLeft trees
-fields_of trees goes = fields_left trees (left_of (at items.Alone spots.VariantName) trees (signs trees) refl goes)
-
--- ---- the parts that were found
-
-value_is : (trees : List TokenTree) (discriminant : List TokenTree) → Value trees → HasValue trees discriminant
-    → IsValue trees discriminant
-value_is [] discriminant value has = has
-value_is (tree ∷ trees) discriminant (nothing none) has = cc
-value_is (tree ∷ trees) discriminant (equals mark more whole class reads) has =
-    let marks : mark ≡ tree = cc in
-    let rests : more ≡ discriminant = cc in
-    (has, ap tree_class (sym marks) ∙ class, subst (ReadsAll IsExpression) rests reads)
-
--- the fields that were found, and the trees after them
-record Fielded (trees : List TokenTree) (found : Fields) (rest : List TokenTree) : Type 0 where
-  whole : trees ≡ with_fields found rest
-  delimited : AreDelimited found
-  value : Value rest
-
-fields_split : (trees : List TokenTree) (found : Fields) (rest : List TokenTree) → FieldsLeft trees
-    → SplitsFields trees found rest → Fielded trees found rest
-fields_split trees (fields.Named g) rest (unit none value) splits = absurd (none g.now rest splits.0)
-fields_split trees (fields.Tuple g) rest (unit none value) splits = absurd (none g.now rest splits.0)
-fields_split trees fields.Unit rest (unit none value) splits =
-    record { whole = splits.0; delimited = tt; value = subst Value splits.0 value }
-fields_split trees fields.Unit rest (within group after whole delimiters value) splits =
-    absurd (splits.1 group after whole)
-fields_split trees (fields.Tuple g) rest (within group after whole is value) splits =
-    let same : Group group ∷ after ≡ Group g.now ∷ rest = sym whole ∙ splits.0 in
-    let rests : after ≡ rest = cc in
-    record { whole = splits.0; delimited = splits.1; value = subst Value rests value }
-fields_split trees (fields.Named g) rest (within group after whole (inl is) value) splits =
-    let same : Group group ∷ after ≡ Group g.now ∷ rest = sym whole ∙ splits.0 in
-    let groups : group ≡ g.now = cc in
-    absurd (splits.1 (ap (λ x. x.delimiter) (sym groups) ∙ is))
-fields_split trees (fields.Named g) rest (within group after whole (inr is) value) splits =
-    let same : Group group ∷ after ≡ Group g.now ∷ rest = sym whole ∙ splits.0 in
-    let groups : group ≡ g.now = cc in
-    let rests : after ≡ rest = cc in
-    record {
-      whole = splits.0;
-      delimited = ap (λ x. x.delimiter) (sym groups) ∙ is;
-      value = subst Value rests value;
-    }
-
-pub variant_parts : (trees r1 r2 r3 r4 : List TokenTree) (found : Variant)
-    → Reads AreAttributes trees found.attributes.now r1 → Reads IsVisibility r1 found.visibility.now r2
-    → NamedVariant r2 → r2 ≡ Ident found.name.now ∷ r3 → SplitsFields r3 found.fields r4
-    → HasValue r4 found.discriminant.now → HasVariantParts trees found
-variant_parts trees r1 r2 r3 r4 found attributes visibility name whole splits has =
-    let same : Ident name.ident ∷ name.more ≡ Ident found.name.now ∷ r3 = sym name.whole ∙ whole in
-    let idents : name.ident ≡ found.name.now = cc in
-    let rests : name.more ≡ r3 = cc in
-    let left = fields_split r3 found.fields r4 (subst FieldsLeft rests (fields_of name.more name.left)) splits in
-    record {
-      value = r4;
-      front = front_of trees found.attributes.now r1 found.visibility.now r2
-          (Ident found.name.now ∷ with_fields found.fields r4) attributes visibility
-          (whole ∙ ap (λ r. Ident found.name.now ∷ r) left.whole);
-      is_name = subst (λ i. IsNameClass (name_class i)) idents name.is_name;
-      delimited = left.delimited;
-      is_value = value_is r4 found.discriminant.now left.value has;
-    }
+pub ruleset variant_faults = (variant_fault, variant_span, variant_expects)

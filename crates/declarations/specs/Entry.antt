@@ -9,7 +9,6 @@ use Rattle.pm_stream.specs.declared.stream.TokenTree.{TokenTree}
 use Rattle.pm_stream.specs.declared.stream.TokenTree.TheVariants.{Group, Ident}
 use Rattle.declarations.specs.Bare.{bare_first, bare_trees, inside_of}
 use Rattle.declarations.specs.Fault.{extent_at, first_extent}
-use Rattle.declarations.specs.List.{IsPastComma}
 use Rattle.declarations.specs.Reader.{Finds, Sticks}
 use Rattle.declarations.specs.Reading.{FaultAt, Reads}
 use Rattle.declarations.specs.Signs.{BeginsWith}
@@ -225,15 +224,6 @@ IsNoEntry = BeginsWithNone IsNearEntryAt IsNearFault
 -- the trees are not exactly one entry. The error is in the entry, or at the first tree after it
 abbrev pub IsEntryFault : Fails
 IsEntryFault trees fault = IsNoEntry trees fault ⊎ LeavesSome IsEntryAt trees fault
-
--- ---- lists of entries
-
--- the list does not begin with an entry, or neither `,` nor the end comes after the entry
-abbrev pub IsEntryListFault : Fails
-IsEntryListFault trees fault =
-    IsNoEntry trees fault
-    ⊎ ((rest : List TokenTree) × IsAfterEntry IsEntryAt trees rest fault
-    × ((left : List TokenTree) → IsPastComma rest left → ⊥))
 
 -- the span of the first tree, or if that is a group without delimiters, that of the entry in it
 abbrev pub entry_spot : List TokenTree → Entry → Option Extent

@@ -10,7 +10,10 @@ use Rattle.pm_token.specs.Leaf.{Name}
 use Rattle.pm_token.specs.Spelling.{spelled, spelling}
 use Rattle.pm_stream.specs.declared.stream.TokenTree.{TokenTree}
 use Rattle.declarations.specs.Attribute.{is_named}
-use Rattle.declarations.specs.Entry.{IsEntryAt, IsEntryListFault, entry_spot, sole_name}
+use Rattle.declarations.specs.Entry.{IsEntryAt, entry_spot, sole_name}
+use Rattle.declarations.specs.EntryList.{IsEntryListFault}
+use Rattle.declarations.specs.Expected.{HasSigns}
+use Rattle.declarations.specs.Fault.{message_at}
 use Rattle.declarations.specs.List.{IsFirst}
 use Rattle.declarations.specs.declared.entry.Entry.{Entry}
 use Rattle.declarations.specs.declared.entry_check.EntryError.{EntryError}
@@ -38,18 +41,21 @@ pub data HasNames (known : Names) (list : List TokenTree) : List ℕ → List To
       → list_any (λ place. place == place_of known entry) places ≡ false
       → HasNames known list (place_of known entry ∷ places) next
 
--- the left trees begin with no entry, or with one that neither `,` nor the end follows, and the error is there
+-- the left trees begin with no entry, or with one that neither `,` nor the end follows. The error is there, and has the
+-- signs that could come there
 pub record IsNoEntry (list left : List TokenTree) (error : EntryError) : Type 0 where
   pub fault : Fault
   pub stands : IsEntryListFault left fault
   pub counted : error.at ≡ length list - length left + fault.at
   pub span : error.span ≡ fault.span
+  pub expected : error.expected ≡ fault.expected
   pub unnamed : error.name ≡ None
 
--- the error is just before the left trees, which begin with this entry
+-- the error is just before the left trees, which begin with this entry. It has no expected signs
 pub record StandsBefore (list left : List TokenTree) (entry : Entry) (error : EntryError) : Type 0 where
   pub counted : error.at ≡ length list - length left
   pub span : error.span ≡ entry_spot left entry
+  pub expected : HasSigns error.expected (λ class. false) false
 
 -- the error has the name of the entry, or none if the entry is a literal or has a longer path
 abbrev pub NamesEntry : EntryError → Entry → Type 0
@@ -114,11 +120,16 @@ abbrev pub known_part : Names → List ℕ
 known_part [] = codes "; no names are known"
 known_part (word ∷ words) = codes "; known are " ++ (in_backticks word.now ++ more_known words)
 
--- the message of an error
-abbrev pub error_text : EntryProblem → Option Name → Names → List ℕ
-error_text problems.NoEntry name known = codes "not expected here"
-error_text problems.Unknown name known = codes "unknown entry" ++ (name_part name ++ known_part known)
-error_text problems.Repeated name known = codes "a second entry" ++ name_part name
+-- the message of an error of this kind. Where there is no entry, the message is the given one
+abbrev pub problem_text : EntryProblem → List ℕ → Option Name → Names → List ℕ
+problem_text problems.NoEntry missing name known = missing
+problem_text problems.Unknown missing name known = codes "unknown entry" ++ (name_part name ++ known_part known)
+problem_text problems.Repeated missing name known = codes "a second entry" ++ name_part name
+
+-- the message of an error. Where there is no entry, it is that of a `Fault` with the same span and expected signs
+abbrev pub error_text : EntryError → List ℕ
+error_text error =
+    problem_text error.problem (message_at error.span error.expected) (option_copied error.name) error.known.now
 
 -- the number of an error's kind. No two kinds have the same number
 abbrev pub number_of : EntryProblem → ℕ

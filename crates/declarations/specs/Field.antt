@@ -1,16 +1,24 @@
 -- The parts of a field, in reading order.
-use Rattle.std.specs.Prelude.{◌≡◌, List, ◌∷◌, ◌++◌, Some, None}
+use Rattle.std.specs.Prelude.{◌≡◌, List, [], ◌∷◌, ◌++◌, Some, None}
 use Rattle.pm_stream.specs.declared.stream.TokenTree.{TokenTree}
 use Rattle.pm_stream.specs.declared.stream.TokenTree.TheVariants.{Ident}
 use Rattle.pm_token.specs.Leaf.{Name}
+use Rattle.grammars.specs.Grammar.{Mark}
 use Rattle.declarations.specs.Forms.{AreAttributes, IsVisibility, IsType}
+use Rattle.declarations.specs.Function.{IsNameAt}
 use Rattle.declarations.specs.Item.{IsNameClass}
+use Rattle.declarations.specs.Reader.{Finds}
 use Rattle.declarations.specs.Reading.{Reads}
-use Rattle.declarations.specs.Signs.{name_class, tree_class}
+use Rattle.declarations.specs.Signs.{BeginsWith, name_class, tree_class}
 use Rattle.declarations.specs.Whole.{ReadsAll}
 use Rattle.item_tables.specs.declared.class.SignClass.{SignClass}
 use Rattle.item_tables.specs.declared.class.SignClass.TheVariants as classes
 use Rattle.declarations.specs.declared.field.Field.{Field}
+use Rattle.declarations.specs.rules.Names.{G, Named, seq, word}
+use Rattle.declarations.specs.rules.Parameters.{with_type}
+use Rattle.declarations.specs.rules.Parts as rule
+use Rattle.declarations.specs.rules.Pieces.{ByRule}
+use Rattle.declarations.specs.rules.Types.{type}
 
 -- the trees are attributes, a visibility and the rest. Attributes and visibility are what their rules read
 pub record HasFront (trees attributes visibility rest : List TokenTree) : Type 0 where
@@ -44,3 +52,29 @@ pub record IsFieldAt (form : List SignClass → List SignClass → Type 0) (has_
   pub part : List TokenTree
   pub reads : Reads form trees part rest
   pub parts : has_parts part field
+
+-- ---- what the functions find
+
+-- a field after its attributes and its visibility: a name, `:` and a type
+abbrev pub field_rest : G
+field_rest = seq (Mark Named ∷ word ∷ with_type ∷ [])
+
+-- the trees begin with these attributes and this visibility
+pub record ReadsFront (trees attributes visibility rest : List TokenTree) : Type 0 where
+  pub from_visibility : List TokenTree
+  pub attributes_found : Finds rule.attributes trees from_visibility
+  pub visibility_found : Finds rule.visibility from_visibility rest
+  pub attributes_whole : trees ≡ attributes ++ from_visibility
+  pub visibility_whole : from_visibility ≡ visibility ++ rest
+
+-- the trees begin with `:` and this type
+pub record HasColonType (trees ty rest : List TokenTree) : Type 0 where
+  pub from_type : List TokenTree
+  pub colon : BeginsWith trees classes.Colon from_type
+  pub type_read : Reads (ByRule type) from_type ty rest
+
+-- the trees begin with this name, `:` and this type
+pub record HasNameType (trees : List TokenTree) (ident : Name) (ty rest : List TokenTree) : Type 0 where
+  pub from_colon : List TokenTree
+  pub named : IsNameAt trees ident from_colon
+  pub typed : HasColonType from_colon ty rest

@@ -1,11 +1,10 @@
 -- The parts of a struct, an enum or a union.
-use Rattle.std.specs.Prelude.{◌≡◌, ◌⊎◌, List, [], ◌∷◌, ◌++◌, Bool, true, false, not}
+use Rattle.std.specs.Prelude.{◌≡◌, List, [], ◌∷◌, ◌++◌, Bool, true, false, not}
 use Rattle.pm_token.specs.Leaf.{Name}
 use Rattle.pm_token.specs.declared.delimiters.Delimiter.TheVariants as delimiters
-use Rattle.pm_stream.specs.declared.stream.Group.{Group as Grouped}
 use Rattle.pm_stream.specs.declared.stream.TokenTree.{TokenTree}
 use Rattle.pm_stream.specs.declared.stream.TokenTree.TheVariants.{Group, Ident}
-use Rattle.declarations.specs.Forms.{IsFrom, IsItem, AreAttributes, IsVisibility, AreGenerics, IsWhere}
+use Rattle.declarations.specs.Forms.{IsItem, AreAttributes, IsVisibility, AreGenerics, IsWhere}
 use Rattle.declarations.specs.Reading.{Reads}
 use Rattle.declarations.specs.Signs.{signs, classes_of, name_class}
 use Rattle.declarations.specs.Whole.{ReadsAll}
@@ -13,12 +12,6 @@ use Rattle.item_tables.specs.declared.class.SignClass.{SignClass}
 use Rattle.item_tables.specs.declared.class.SignClass.TheVariants as classes
 use Rattle.item_tables.specs.declared.class.Keyword.TheVariants as keywords
 use Rattle.item_tables.specs.declared.class.Word.TheVariants as words
-use Rattle.item_tables.specs.declared.walk_state.Item.{Item}
-use Rattle.item_tables.specs.declared.walk_state.Item.TheVariants as items
-use Rattle.item_tables.specs.declared.walk_state.WalkState.{WalkState}
-use Rattle.item_tables.specs.declared.walk_state.Continuation.TheVariants as rules
-use Rattle.item_tables.specs.declared.walk_state.Spot.TheVariants as spots
-use Rattle.item_tables.specs.declared.walk_state.State.TheVariants as states
 use Rattle.declarations.specs.declared.item.Body.{Body}
 use Rattle.declarations.specs.declared.item.Body.TheVariants as bodies
 use Rattle.declarations.specs.declared.item.Fields.TheVariants as fields
@@ -98,13 +91,6 @@ pub record HasEnding (keyword : SignClass) (trees : List TokenTree) (body : Body
   pub clause_reads : Reads IsWhere (clause ++ after_clause body semicolon) clause (after_clause body semicolon)
   pub shape : HasBody keyword body semicolon
 
--- the trees are a where clause and a group in braces, with nothing after it
-pub record HasBraces (trees clause : List TokenTree) (group : Grouped) (after : List TokenTree) : Type 0 where
-  pub whole : trees ≡ clause ++ Group group ∷ after
-  pub clause_reads : Reads IsWhere (clause ++ Group group ∷ after) clause (Group group ∷ after)
-  pub braces : group.delimiter ≡ delimiters.Brace
-  pub none : after ≡ []
-
 -- the trees are an item with these parts. In order the parts are the trees, and each part is what its rule reads from
 -- there on
 pub record IsTypeItem (trees : List TokenTree) (item : TypeItem) : Type 0 where
@@ -116,21 +102,3 @@ pub record IsTypeItem (trees : List TokenTree) (item : TypeItem) : Type 0 where
   pub generics : Reads AreGenerics (after_name item) item.generics.now (after_generics item)
   pub end : HasEnding (name_class item.keyword.now) (after_generics item) item.body item.where_clause.now
       item.semicolon.now
-
--- ---- the trees that are left of an item
-
-abbrev pub after_generics_state : Item → WalkState
-after_generics_state item = record { item = item; rule = rules.Alone; state = states.At spots.AfterGenerics; depth = 0 }
-
--- the trees are what comes after the generic parameters of an enum or a union
-abbrev pub AreBracesLeft : List TokenTree → Type 0
-AreBracesLeft trees =
-    ReadsAll (IsFrom (after_generics_state items.Enum)) trees
-    ⊎ ReadsAll (IsFrom (after_generics_state items.Union)) trees
-
--- the trees are what comes after the generic parameters of an item with this keyword
-abbrev pub IsLeft : SignClass → List TokenTree → Type 0
-IsLeft (classes.Keyword keywords.Struct) trees = ReadsAll (IsFrom (after_generics_state items.Struct)) trees
-IsLeft (classes.Keyword keywords.Enum) trees = AreBracesLeft trees
-IsLeft (classes.Word words.Union) trees = AreBracesLeft trees
-IsLeft class trees = ⊥

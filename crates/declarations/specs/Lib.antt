@@ -13,6 +13,7 @@ pub mod Syntax
 pub mod Explore
 pub mod ExplorePath
 pub mod Item
+pub mod ItemParts
 pub mod Ending
 pub mod Field
 pub mod Fault
@@ -22,6 +23,7 @@ pub mod File
 pub mod Param
 pub mod Attribute
 pub mod Entry
+pub mod EntryExpects
 pub mod List
 pub mod EntryList
 pub mod EntryCheck

@@ -1,9 +1,11 @@
 -- The parts of generic parameters and of the predicates of where clauses, in reading order.
 use Rattle.std.specs.Prelude.{◌≡◌, ℕ, ◌==◌, Bool, true, false, List, [], ◌∷◌, ◌++◌, codes, MatchResult, Result}
+use Rattle.std.specs.Prelude.{length}
 use Rattle.std.specs.Borrow.{Bor}
 use Rattle.grammars.specs.Grammar.{Mark, Nothing, Then, perhaps}
 use Rattle.pm_stream.specs.declared.stream.TokenTree.{TokenTree}
 use Rattle.pm_stream.specs.declared.stream.TokenTree.TheVariants.{Ident, Punct}
+use Rattle.declarations.specs.Expected.{HasSigns}
 use Rattle.declarations.specs.Forms.{AreAttributes, AreBounds, IsType}
 use Rattle.declarations.specs.Parameter.{LeadsTo}
 use Rattle.declarations.specs.Reader.{Finds, Sticks}
@@ -13,10 +15,12 @@ use Rattle.item_tables.specs.declared.class.SignClass.{SignClass}
 use Rattle.item_tables.specs.declared.class.SignClass.TheVariants as classes
 use Rattle.item_tables.specs.declared.class.Keyword.TheVariants as keywords
 use Rattle.item_tables.specs.declared.class.Word.{Word}
+use Rattle.declarations.specs.declared.fault.Fault.{Fault}
 use Rattle.declarations.specs.declared.generics.Param.{Param}
 use Rattle.declarations.specs.declared.generics.ParamKind.{ParamKind}
 use Rattle.declarations.specs.declared.generics.ParamKind.TheVariants as kinds
 use Rattle.declarations.specs.declared.generics.Predicate.{Predicate}
+use Rattle.item_tables.specs.Classes.{is, opens}
 use Rattle.declarations.specs.rules.Names.{Bounds, G, Rest, one, seq}
 use Rattle.declarations.specs.rules.Parts as rule
 use Rattle.declarations.specs.rules.Pieces.{ByRule}
@@ -197,6 +201,26 @@ abbrev pub IsAfterWhere : List TokenTree → List TokenTree → Type 0
 IsAfterWhere [] inside = inside ≡ []
 IsAfterWhere (Ident i ∷ rest) inside = (is_written i (codes "where") ≡ true) × (inside ≡ rest)
 IsAfterWhere _ inside = ⊥
+
+-- the error is after `at` trees, where a sign that passes this test is missing
+pub record LacksSign (test : SignClass → Bool) (at : ℕ) (fault : Fault) : Type 0 where
+  pub counted : fault.at ≡ at
+  pub expected : HasSigns fault.expected test false
+
+-- whether the trees begin with `<` (60)
+abbrev pub is_opened : List TokenTree → Bool
+is_opened [] = false
+is_opened (first ∷ rest) = is_mark_of 60 first
+
+-- the error of trees that are not in angle brackets: at the first tree, where `<` is missing, or at the end if they
+-- begin with `<`, where `>` is missing
+pub record LacksBracket (trees : List TokenTree) (fault : Fault) : Type 0 where
+  pub opening : is_opened trees ≡ false → LacksSign opens 0 fault
+  pub closing : is_opened trees ≡ true → LacksSign (is classes.Greater) (length trees) fault
+
+-- the error of trees that do not begin with `where`: it is at the first tree, where `where` is missing
+abbrev pub LacksWhere : Fault → Type 0
+LacksWhere = LacksSign (is (classes.Keyword keywords.Where)) 0
 
 -- ---- steps of the parser
 

@@ -1,7 +1,10 @@
 -- Which trees can begin a part.
-use Rattle.std.specs.Prelude.{Bool, true, false, List, [], ◌∷◌}
+use Rattle.std.specs.Prelude.{Bool, true, false, List, [], ◌∷◌, codes}
 use Rattle.pm_stream.specs.declared.stream.TokenTree.{TokenTree}
-use Rattle.pm_stream.specs.declared.stream.TokenTree.TheVariants.{Ident, Punct}
+use Rattle.pm_stream.specs.declared.stream.TokenTree.TheVariants.{Group, Ident, Punct}
+use Rattle.declarations.specs.Signs.{group_class, is_written}
+use Rattle.item_tables.specs.Classes.{is}
+use Rattle.item_tables.specs.declared.class.SignClass.{SignClass}
 
 -- whether the tree is a punctuation mark
 abbrev pub is_mark : TokenTree → Bool
@@ -22,3 +25,13 @@ is_identifier tree = false
 abbrev pub begins_identifier : List TokenTree → Bool
 begins_identifier [] = false
 begins_identifier (tree ∷ rest) = is_identifier tree
+
+-- whether the tree is `pub`
+abbrev pub is_pub_tree : TokenTree → Bool
+is_pub_tree (Ident word) = is_written word (codes "pub")
+is_pub_tree tree = false
+
+-- whether the tree is a group of this class
+abbrev pub is_group_of : SignClass → TokenTree → Bool
+is_group_of class (Group group) = is class (group_class group.delimiter group.stream)
+is_group_of class tree = false

@@ -27,7 +27,7 @@ use Rattle.declarations.specs.rules.Entries as entries
 use Rattle.declarations.specs.rules.Expressions.{expression}
 use Rattle.declarations.specs.rules.Fronts.{is_safe}
 use Rattle.declarations.specs.rules.ImplItems.{impl_keyword}
-use Rattle.declarations.specs.rules.Items.{any_item}
+use Rattle.declarations.specs.rules.Items.{any_item, type_item}
 use Rattle.declarations.specs.rules.Names as names
 use Rattle.declarations.specs.rules.Names.{G, Label, Outside, Range, comma_list}
 use Rattle.declarations.specs.rules.Parameters as parameters
@@ -81,6 +81,7 @@ rule_of tables.Expression = expression
 rule_of tables.Field = parts.field
 rule_of tables.TupleField = parts.tuple_field
 rule_of tables.Variant = parts.variant
+rule_of tables.TypeItem = type_item
 rule_of tables.AnyItem = any_item
 
 -- the state in which the table begins
@@ -96,6 +97,7 @@ state_of tables.Expression = states.At spots.Expression
 state_of tables.Field = states.At (spots.Before parts_in.Field)
 state_of tables.TupleField = states.At (spots.Before parts_in.TupleField)
 state_of tables.Variant = states.At (spots.Before parts_in.Variant)
+state_of tables.TypeItem = states.At (spots.Before parts_in.TypeItem)
 state_of tables.AnyItem = states.At (spots.Before parts_in.AnyItem)
 
 -- the state of the walk from which the table reads

@@ -1,11 +1,8 @@
 //! An attribute as one entry.
-ghost use Rattle.std.specs.Prelude.{◌≡◌, [], IfErr, IfOk, None};
-ghost use Rattle.declarations.specs.Bare.{bare_first};
+ghost use Rattle.std.specs.Prelude.{[], IfErr, IfOk};
 ghost use Rattle.declarations.specs.Ending.{EndsAt, closing_of};
 ghost use Rattle.declarations.specs.Entry.{IsEntryAt, IsEntryFault};
-ghost use Rattle.declarations.specs.Expected.{Expects};
-ghost use Rattle.declarations.specs.rules.Entries.{entry};
-ghost use Rattle.declarations.specs.rules.Pieces.{ByRule};
+ghost use Rattle.declarations.specs.EntryExpects.{ExpectsEntry};
 ghost use Rattle.pm_stream.specs.DocGroup.{trees_of};
 
 use crate::attribute::Attribute;
@@ -27,8 +24,8 @@ impl<'a> Attribute<'a> {
         ensures ok { IfOk result (λ entry. IsEntryAt (trees_of self.now.group.now.stream) entry []) }
         ensures err { IfErr result (EndsAt (closing_of self.now.group.now)
             (IsEntryFault (trees_of self.now.group.now.stream))) }
-        ensures expected { IfErr result (λ fault. bare_first (trees_of self.now.group.now.stream) ≡ None
-            → Expects (ByRule entry) (trees_of self.now.group.now.stream) fault.at fault.expected) }
+        ensures expected { IfErr result (λ fault.
+            ExpectsEntry (trees_of self.now.group.now.stream) fault.at fault.expected) }
     {
         match whole_entry(self.group.stream_ref().trees()) {
             Ok(entry) => Ok(entry),

@@ -7,13 +7,14 @@ ghost use Rattle.pm_stream.specs.declared.stream.TokenTree.TheVariants as trees_
 ghost use Rattle.pm_token.specs.Spelling.{spelled};
 ghost use Rattle.declarations.specs.Attribute.{is_named};
 ghost use Rattle.declarations.specs.Bare.{bare_first, inside_of};
-ghost use Rattle.declarations.specs.Entry.{BeginsWithNone, GoesOn, HasArgs, IsArgsFault, IsEntryAt, IsEntryFault};
-ghost use Rattle.declarations.specs.Entry.{IsFaultAfter, IsFaultWithin, IsHeldEntryAt, IsListAt, IsNearEntryAt};
-ghost use Rattle.declarations.specs.Entry.{IsNearFault, IsNoEntry, IsOnlyPlainRest, IsOnlyRest, IsPlainEntryAt};
-ghost use Rattle.declarations.specs.Entry.{IsPlainEntryFault, IsPlainFault, ReadsEntry};
+ghost use Rattle.declarations.specs.Entry.{BeginsWithNone, Continues, GoesOn, HasArgs, IsArgsFault, IsEntryAt};
+ghost use Rattle.declarations.specs.Entry.{IsEntryFault, IsFaultAfter, IsFaultWithin, IsHeldEntryAt, IsListAt};
+ghost use Rattle.declarations.specs.Entry.{IsNearEntryAt, IsNearFault, IsNoEntry, IsOnlyPlainRest, IsOnlyRest};
+ghost use Rattle.declarations.specs.Entry.{IsPlainEntryAt, IsPlainEntryFault, IsPlainFault, ReadsEntry};
 ghost use Rattle.declarations.specs.Entry.{entry_extent, entry_spot, only_name, sole_name, span_or};
+ghost use Rattle.declarations.specs.EntryExpects.{CouldGoOn, ExpectsAfter, ExpectsCommaAfter, ExpectsEntry};
+ghost use Rattle.declarations.specs.EntryExpects.{ExpectsNear, ExpectsWithin, is_path};
 ghost use Rattle.declarations.specs.Expected.{Expects};
-ghost use Rattle.declarations.specs.Explore.{ExpectsComma, ExpectsWhole};
 ghost use Rattle.declarations.specs.Fault.{extent_at, first_extent};
 ghost use Rattle.declarations.specs.Reader.{Finds, ReadsRule, Sticks, classes_in};
 ghost use Rattle.declarations.specs.rules.Entries.{continues, entry, entry_list, entry_literal, entry_path};
@@ -22,16 +23,18 @@ ghost use Rattle.declarations.specs.rules.Entries.{literal_entry, more_segments,
 ghost use Rattle.declarations.specs.rules.Expressions.{expression};
 ghost use Rattle.declarations.specs.rules.Names.{one};
 ghost use Rattle.declarations.specs.rules.Pieces.{ByRule};
+ghost use Rattle.declarations.specs.declared.entry.Entry.{Entry as EntryValue};
 ghost use Rattle.item_tables.specs.declared.class.SignClass.TheVariants as signs;
 
 use crate::attribute::is_named;
 use crate::bare::{bare_trees, has_no_delimiters, inside_of};
-use crate::explore::{fault_at_comma, fault_by};
+use crate::expected::Expected;
+use crate::explore::{expected_by, fault_by};
 use crate::fault::Fault;
 use crate::item::split_group;
 use crate::reader::{begins, is, part, past};
 use crate::signs::first_sign;
-use crate::syntax::ENTRY;
+use crate::syntax::{ENTRY, ENTRY_REST, Syntax};
 use crate::walk::walk_past;
 use item_tables::class::SignClass;
 use item_tables::walk_state::{Continuation, Item, Spot, State, WalkState};
@@ -76,15 +79,14 @@ pub struct Entry<'a> {
 /// path alone, a list or `=` and a value can come after the group. In the group the path of the entry may be in a
 /// group of its own. Groups that hold nothing but such a group are looked through. An error inside of the group has an
 /// `at` of 0, since no tree comes before the group. Its span is that of the first wrong tree inside, or that of the
-/// group if trees are missing at its end. If the trees begin with such a group, the error does not say what was
-/// expected.
+/// group if trees are missing at its end. Its expected signs are those that could come there inside of the group, and
+/// the end if the group could end there.
 pub fn parse_entry(trees: &[TokenTree]) -> Result<(Entry<'_>, &[TokenTree]), Fault>
     ensures ok { IfOk result (λ found. IsEntryAt trees.now found.0 found.1.now) }
     ensures only { IfOk result (λ found. IsOnlyPlainRest trees.now found.1.now) }
     ensures fewer { IfOk result (λ found. length found.1.now < length trees.now) }
     ensures fault { IfErr result (λ fault. IsNoEntry trees.now fault) }
-    ensures expected { IfErr result (λ fault.
-        bare_first trees.now ≡ None → Expects (ByRule entry) trees.now fault.at fault.expected) }
+    ensures expected { IfErr result (λ fault. ExpectsEntry trees.now fault.at fault.expected) }
 {
     match split_bare(trees) {
         Some((group, after)) => held_entry(group, after),
@@ -116,6 +118,8 @@ fn held_entry<'a>(
     ensures within { IfOk result (λ found. length found.1.now ≤ length after.now) }
     ensures fault { IfErr result (λ fault.
         IsFaultWithin IsNearFault group.now fault ⊎ IsFaultAfter IsNearEntryAt group.now after.now fault) }
+    ensures expected { IfErr result (λ fault. ExpectsWithin IsNearFault ExpectsNear group.now fault.expected
+        ⊎ ExpectsAfter IsNearEntryAt group.now after.now fault.at fault.expected) }
 {
     match whole_near_entry(inside_of(group)) {
         Ok(held) => match held.kind {
@@ -131,6 +135,7 @@ fn near_entry(trees: &[TokenTree]) -> Result<(Entry<'_>, &[TokenTree]), Fault>
     ensures ok { IfOk result (λ found. IsNearEntryAt trees.now found.0 found.1.now) }
     ensures fewer { IfOk result (λ found. length found.1.now < length trees.now) }
     ensures fault { IfErr result (λ fault. BeginsWithNone IsPlainEntryAt IsPlainEntryFault trees.now fault) }
+    ensures expected { IfErr result (λ fault. ExpectsNear trees.now fault.at fault.expected) }
 {
     match split_bare(trees) {
         Some((group, after)) => near_held(group, after),
@@ -148,6 +153,8 @@ fn near_held<'a>(
     ensures within { IfOk result (λ found. length found.1.now ≤ length after.now) }
     ensures fault { IfErr result (λ fault.
         IsFaultWithin IsPlainEntryFault group.now fault ⊎ IsFaultAfter IsPlainEntryAt group.now after.now fault) }
+    ensures expected { IfErr result (λ fault. ExpectsWithin IsPlainEntryFault (Expects (ByRule entry)) group.now
+        fault.expected ⊎ ExpectsAfter IsPlainEntryAt group.now after.now fault.at fault.expected) }
 {
     match whole_plain_entry(inside_of(group)) {
         Ok(plain) => match plain.kind {
@@ -162,8 +169,10 @@ fn near_held<'a>(
 fn fault_within(group: &Group, inner: Fault) -> Fault
     ensures at { result.at ≡ 0 }
     ensures span { result.span ≡ Some (span_or inner.span group.now.span) }
+    ensures expected { result.expected ≡ inner.expected }
 {
-    Fault::at_span(0, Some(span_or(inner.span, group.span())))
+    let fault = Fault::at_span(0, Some(span_or(inner.span, group.span())));
+    fault.expecting(inner.expected())
 }
 
 /// The span, or else the other one.
@@ -184,10 +193,15 @@ fn go_on<'a>(
     ensures read { MatchResult result (λ found. GoesOn path.now after.now found.0 found.1.now)
         (λ fault. IsArgsFault after.now fault) }
     ensures within { IfOk result (λ found. length found.1.now ≤ length after.now) }
+    ensures expected { IfErr result (λ fault.
+        Expects (ByRule entry_rest) after.now (fault.at - 1) fault.expected) }
 {
     match args_of(after) {
         Ok((kind, rest)) => Ok((Entry { path, kind }, rest)),
-        Err(left) => Err(Fault::ahead_of(1 + (after.len() - left.len()), left)),
+        Err(left) => {
+            let fault = fault_by(&ENTRY_REST, after, left);
+            Err(fault.after(1 + (after.len() - left.len())))
+        }
     }
 }
 
@@ -265,61 +279,100 @@ fn first_span(trees: &[TokenTree]) -> Option<Span>
 pub(crate) fn whole_entry(trees: &[TokenTree]) -> Result<Entry<'_>, Fault>
     ensures ok { IfOk result (λ entry. IsEntryAt trees.now entry []) }
     ensures err { IfErr result (λ fault. IsEntryFault trees.now fault) }
-    ensures expected { IfErr result (λ fault.
-        bare_first trees.now ≡ None → Expects (ByRule entry) trees.now fault.at fault.expected) }
+    ensures expected { IfErr result (λ fault. ExpectsEntry trees.now fault.at fault.expected) }
 {
     match parse_entry(trees) {
         Ok((entry, rest)) => {
             if rest.is_empty() {
                 Ok(entry)
             } else {
-                Err(fault_after_entry(trees, rest))
+                Err(fault_after_entry(trees, &entry, rest))
             }
         }
         Err(fault) => Err(fault),
     }
 }
 
-/// The error of trees that are left after an entry. It does not say what was expected after a group without delimiters.
-#[cold]
-fn fault_after_entry(trees: &[TokenTree], rest: &[TokenTree]) -> Fault
-    requires { length rest.now ≤ length trees.now }
-    ensures at { result.at ≡ length trees.now - length rest.now }
-    ensures span { result.span ≡ first_extent rest.now }
-    ensures expected { bare_first trees.now ≡ None → ExpectsWhole entry trees.now result.expected }
+/// Whether the entry is a path alone.
+fn is_path(kind: EntryKind<'_>) -> bool
+    ensures { result ≡ is_path kind.entry }
 {
-    match split_bare(trees) {
-        Some(_) => Fault::ahead_of(trees.len() - rest.len(), rest),
-        None => fault_by(&ENTRY, trees, rest),
+    match kind {
+        EntryKind::Path => true,
+        EntryKind::List(_) | EntryKind::Value(_) | EntryKind::Literal(_) => false,
     }
 }
 
-/// The error after an entry in a list that neither `,` nor the end follows. It does not say what was expected after a
-/// group without delimiters.
+/// Whether a group without delimiters holds a path alone, with which the entry begins. The trees after the group are
+/// `after`, and those after the entry are `rest`.
 #[cold]
-pub(crate) fn fault_without_comma(trees: &[TokenTree], rest: &[TokenTree]) -> Fault
+fn holds_path(entry: &Entry<'_>, after: &[TokenTree], rest: &[TokenTree]) -> bool
+    ensures { (held : EntryValue) → Continues held.kind held after.now entry.now rest.now
+        → is_path held.kind ≡ result }
+{
+    if rest.len() < after.len() {
+        return true;
+    }
+    is_path(entry.kind)
+}
+
+/// The signs with which the entry at the start of the trees could go on. The trees after the entry are `rest`.
+#[cold]
+fn onward(trees: &[TokenTree], entry: &Entry<'_>, rest: &[TokenTree]) -> Expected
+    ensures { CouldGoOn trees.now entry.now rest.now result }
+{
+    match split_bare(trees) {
+        Some((_, after)) => {
+            if holds_path(entry, after, rest) {
+                expected_by(&ENTRY_REST, after)
+            } else {
+                expected_by(&Syntax::Nothing, after)
+            }
+        }
+        None => expected_by(&ENTRY, trees),
+    }
+}
+
+/// The error of trees that are left after an entry.
+#[cold]
+fn fault_after_entry(trees: &[TokenTree], entry: &Entry<'_>, rest: &[TokenTree]) -> Fault
     requires { length rest.now ≤ length trees.now }
     ensures at { result.at ≡ length trees.now - length rest.now }
     ensures span { result.span ≡ first_extent rest.now }
-    ensures expected { bare_first trees.now ≡ None → ExpectsComma entry trees.now result.expected }
+    ensures expected { CouldGoOn trees.now entry.now rest.now result.expected }
 {
-    match split_bare(trees) {
-        Some(_) => Fault::ahead_of(trees.len() - rest.len(), rest),
-        None => fault_at_comma(&ENTRY, trees, rest),
-    }
+    Fault::ahead_of(trees.len() - rest.len(), rest).expecting(onward(trees, entry, rest))
+}
+
+/// The error after an entry in a list that neither `,` nor the end follows.
+#[cold]
+pub(crate) fn fault_without_comma(
+    trees: &[TokenTree],
+    entry: &Entry<'_>,
+    rest: &[TokenTree],
+) -> Fault
+    requires { length rest.now ≤ length trees.now }
+    ensures at { result.at ≡ length trees.now - length rest.now }
+    ensures span { result.span ≡ first_extent rest.now }
+    ensures expected { ExpectsCommaAfter trees.now entry.now rest.now result.expected }
+{
+    let next = onward(trees, entry, rest);
+    let fault = Fault::ahead_of(trees.len() - rest.len(), rest);
+    fault.expecting(next.with(SignClass::Comma).with_end())
 }
 
 /// The entry that all of the trees are, perhaps in a group without delimiters that holds no such group.
 fn whole_near_entry(trees: &[TokenTree]) -> Result<Entry<'_>, Fault>
     ensures ok { IfOk result (λ entry. IsNearEntryAt trees.now entry []) }
     ensures err { IfErr result (λ fault. IsNearFault trees.now fault) }
+    ensures expected { IfErr result (λ fault. ExpectsNear trees.now fault.at fault.expected) }
 {
     match near_entry(trees) {
         Ok((entry, after)) => {
             if after.is_empty() {
                 Ok(entry)
             } else {
-                Err(Fault::ahead_of(trees.len() - after.len(), after))
+                Err(fault_after_entry(trees, &entry, after))
             }
         }
         Err(fault) => Err(fault),
@@ -330,13 +383,14 @@ fn whole_near_entry(trees: &[TokenTree]) -> Result<Entry<'_>, Fault>
 fn whole_plain_entry(trees: &[TokenTree]) -> Result<Entry<'_>, Fault>
     ensures ok { IfOk result (λ entry. IsPlainEntryAt trees.now entry []) }
     ensures err { IfErr result (λ fault. IsPlainEntryFault trees.now fault) }
+    ensures expected { IfErr result (λ fault. Expects (ByRule entry) trees.now fault.at fault.expected) }
 {
     match plain_entry(trees) {
         Ok((entry, left)) => {
             if left.is_empty() {
                 Ok(entry)
             } else {
-                Err(Fault::ahead_of(trees.len() - left.len(), left))
+                Err(fault_by(&ENTRY, trees, left))
             }
         }
         Err(fault) => Err(fault),
@@ -461,7 +515,7 @@ fn literal(trees: &[TokenTree]) -> Result<&[TokenTree], &[TokenTree]>
 
 /// Skips an expression.
 #[tactic(auto, using(crate::proofs::EntryLemmas::expression_reads))]
-fn past_expression(trees: &[TokenTree]) -> Result<&[TokenTree], &[TokenTree]>
+pub(crate) fn past_expression(trees: &[TokenTree]) -> Result<&[TokenTree], &[TokenTree]>
     ensures { ReadsRule expression trees.now result }
 {
     let start = WalkState {

@@ -1,13 +1,15 @@
 //! Checks that the entries of a list have known names, and no name twice.
-ghost use Rattle.std.specs.Prelude.{◌≡◌, ℕ, ◌≤◌, [], IfErr, List, OnOk, length, option_copied};
+ghost use Rattle.std.specs.Prelude.{◌≡◌, ℕ, ◌≤◌, [], IfErr, List, None, OnOk, false, length, option_copied};
 ghost use Rattle.std.specs.Fmt.{WritesOnOk};
 ghost use Rattle.declarations.specs.Ending.{closing_of, or_extent};
 ghost use Rattle.declarations.specs.EntryCheck.{HasNames, IsEntryError, known_part, more_known, name_part, next_known};
 ghost use Rattle.declarations.specs.EntryCheck.{number_of, place_of, in_backticks};
+ghost use Rattle.declarations.specs.Expected.{HasSigns};
 
 use crate::entry::{Entry, spot_of};
 use crate::entry_list::first_entry;
-use crate::fault::{are_same, or_span};
+use crate::expected::Expected;
+use crate::fault::{Fault, are_same, or_span, write_message};
 use pm_span::Span;
 use pm_stream::{Group, TokenTree};
 use pm_token::Ident;
@@ -28,6 +30,9 @@ pub enum EntryProblem {
 }
 
 /// An error in a list of entries: its kind, where it is, and the names that are known.
+///
+/// Where there is no entry, the text of the error is that of a [`Fault`](crate::Fault), which says what
+/// was expected. Otherwise it names the entry.
 #[derive(Clone, Copy, Debug)]
 pub struct EntryError<'a> {
     /// The kind of error.
@@ -43,6 +48,8 @@ pub struct EntryError<'a> {
     pub name: Option<&'a Ident>,
     /// The names that are known.
     pub known: &'a [&'a str],
+    /// The signs that can come next, if there is no entry.
+    expected: Expected,
 }
 
 impl<'a> EntryError<'a> {
@@ -53,6 +60,17 @@ impl<'a> EntryError<'a> {
         self.span
     }
 
+    /// Returns the signs that could come where there is no entry, in place of what is there.
+    ///
+    /// This is the set of the [`Fault`](crate::Fault) that
+    /// [`Entries`](crate::Entries) gives there. It is empty if an entry has an unknown or a
+    /// repeated name. For `skip rename` it has `,`, `=` and the end, among others.
+    pub fn expected(&self) -> Expected
+        ensures { result ≡ self.now.expected }
+    {
+        self.expected
+    }
+
     /// Returns the error of a list that is the trees in this group.
     ///
     /// If the error has no span, because the list ends too early, the result has the span of the group's closing
@@ -60,7 +78,8 @@ impl<'a> EntryError<'a> {
     pub fn within(self, group: &Group) -> EntryError<'a>
         ensures span { result.span ≡ or_extent self.entry.span (closing_of group.now) }
         ensures kept { (result.problem ≡ self.entry.problem) × (result.at ≡ self.entry.at)
-            × (result.name ≡ self.entry.name) × (result.known ≡ self.entry.known) }
+            × (result.name ≡ self.entry.name) × (result.known ≡ self.entry.known)
+            × (result.expected ≡ self.entry.expected) }
     {
         EntryError {
             problem: self.problem,
@@ -68,6 +87,7 @@ impl<'a> EntryError<'a> {
             span: or_span(self.span, Some(group.span_close())),
             name: self.name,
             known: self.known,
+            expected: self.expected,
         }
     }
 }
@@ -80,7 +100,7 @@ impl<'a> EntryError<'a> {
 /// nothing.
 ///
 /// If `skip` and `rename` are known, the list `skip, renam = "a"` has an error at `renam`, after 2 trees. Its text is
-/// "unknown entry `renam`; known are `skip`, `rename`".
+/// "unknown entry `renam`; known are `skip`, `rename`". For `rename = ,` it is "expected an expression".
 pub fn check_entries<'a>(list: &'a [TokenTree], known: &'a [&'a str]) -> Result<(), EntryError<'a>>
     requires { length known.now ≤ 128 }
     ensures ok { OnOk result ((places : List ℕ) × HasNames known.now list.now places []) }
@@ -106,13 +126,14 @@ pub fn check_entries<'a>(list: &'a [TokenTree], known: &'a [&'a str]) -> Result<
             }
             Err(fault) => {
                 let at = before + fault.at;
-                return Err(wrong(EntryProblem::NoEntry, at, fault.span, None, known));
+                return Err(no_entry(at, fault, known));
             }
         }
     }
     Ok(())
 }
 
+/// The error of an entry with an unknown or a repeated name.
 fn wrong<'a>(
     problem: EntryProblem,
     at: usize,
@@ -125,6 +146,7 @@ fn wrong<'a>(
     ensures span { result.span ≡ span }
     ensures name { result.name ≡ name.entry }
     ensures known { result.known.now ≡ known.now }
+    ensures expected { HasSigns result.expected (λ class. false) false }
 {
     EntryError {
         problem,
@@ -132,6 +154,26 @@ fn wrong<'a>(
         span,
         name,
         known,
+        expected: Expected::nothing(),
+    }
+}
+
+/// The error after `at` trees where no entry can be read.
+fn no_entry<'a>(at: usize, fault: Fault, known: &'a [&'a str]) -> EntryError<'a>
+    ensures problem { result.problem ≡ EntryProblem.NoEntry }
+    ensures at { result.at ≡ at }
+    ensures span { result.span ≡ fault.span }
+    ensures name { result.name ≡ None }
+    ensures known { result.known.now ≡ known.now }
+    ensures expected { result.expected ≡ fault.expected }
+{
+    EntryError {
+        problem: EntryProblem::NoEntry,
+        at,
+        span: fault.span,
+        name: None,
+        known,
+        expected: fault.expected(),
     }
 }
 
@@ -158,7 +200,7 @@ impl<'a> PartialEq for EntryError<'a> {
 
     ghost laws = { Prim.search (comparing, rules) };
 
-    /// Whether both errors have the same kind, position and span. The known names do not matter.
+    /// Whether both errors have the same kind, position and span. The known names and the expected signs do not matter.
     fn eq(&self, other: &EntryError<'a>) -> bool {
         number_of(self.problem) == number_of(other.problem)
             && (self.at == other.at && are_same(self.span, other.span))
@@ -239,14 +281,14 @@ fn write_quoted<W: fmt::Write>(word: &str, f: &mut fmt::Formatter<W>) -> fmt::Re
 }
 
 impl<'a> Display for EntryError<'a> {
-    ghost use Rattle.std.specs.Prelude.{Some, option_copied};
+    ghost use Rattle.std.specs.Prelude.{Some};
     ghost use Rattle.declarations.specs.EntryCheck.{error_text};
 
-    ghost output = { λ error. Some (error_text error.problem (option_copied error.name) error.known.now) };
+    ghost output = { λ error. Some (error_text error) };
 
     fn fmt<W: fmt::Write>(&self, f: &mut fmt::Formatter<W>) -> fmt::Result {
         match self.problem {
-            EntryProblem::NoEntry => f.write_str("not expected here"),
+            EntryProblem::NoEntry => write_message(self.span, self.expected, f),
             EntryProblem::Unknown => {
                 f.write_str("unknown entry")?;
                 write_name(self.name, f)?;

@@ -1,7 +1,7 @@
 //! The entries of an attribute's list, one at a time.
-ghost use Rattle.std.specs.Prelude.{◌≡◌, ◌<◌, IfErr, IfOk, MatchResult, length};
-ghost use Rattle.declarations.specs.Entry.{IsEntryAt, IsEntryListFault};
-ghost use Rattle.declarations.specs.EntryList.{IsPlainListFault};
+ghost use Rattle.std.specs.Prelude.{◌≡◌, ◌<◌, IfOk, MatchResult, length};
+ghost use Rattle.declarations.specs.Entry.{IsEntryAt};
+ghost use Rattle.declarations.specs.EntryList.{IsEntryListFault};
 ghost use Rattle.declarations.specs.List.{AreInside, IsFirst};
 
 use crate::entry::{Entry, fault_without_comma, parse_entry};
@@ -70,13 +70,12 @@ impl<'a> Iterator for Entries<'a> {
 pub(crate) fn first_entry(trees: &[TokenTree]) -> Result<(Entry<'_>, &[TokenTree]), Fault>
     ensures given { MatchResult result (λ found. IsFirst IsEntryAt trees.now found.0 found.1.now)
         (λ fault. IsEntryListFault trees.now fault) }
-    ensures expected { IfErr result (λ fault. IsPlainListFault trees.now fault) }
     ensures fewer { IfOk result (λ found. length found.1.now < length trees.now) }
 {
     match parse_entry(trees) {
         Ok((entry, rest)) => match past_comma(rest) {
             Some(left) => Ok((entry, left)),
-            None => Err(fault_without_comma(trees, rest)),
+            None => Err(fault_without_comma(trees, &entry, rest)),
         },
         Err(fault) => Err(fault),
     }

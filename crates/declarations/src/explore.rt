@@ -310,6 +310,16 @@ pub(crate) fn fault_by(syntax: &Syntax<'_>, trees: &[TokenTree], left: &[TokenTr
     Fault::ahead_of(trees.len() - left.len(), left).expecting(expected_by(syntax, trees))
 }
 
+/// The error after `at` trees, where a sign that passes the test is missing.
+#[cold]
+pub(crate) fn fault_at_sign(test: Test, at: usize, left: &[TokenTree]) -> Fault
+    ensures at { result.at ≡ at }
+    ensures span { result.span ≡ first_extent left.now }
+    ensures expected { HasSigns result.expected (test_of test) false }
+{
+    Fault::ahead_of(at, left).expecting(no_sign(test, left).next)
+}
+
 /// The error of trees that begin with a part by the rule, after which neither `,` nor the end comes.
 #[cold]
 pub(crate) fn fault_at_comma(syntax: &Syntax<'_>, trees: &[TokenTree], rest: &[TokenTree]) -> Fault

@@ -3,7 +3,7 @@ ghost use Rattle.std.specs.Prelude.{◌≡◌};
 ghost use Rattle.std.specs.Option.{option_eq};
 ghost use Rattle.std.specs.Fmt.{WritesOnOk};
 ghost use Rattle.declarations.specs.Ending.{closing_of, ending_at, or_extent};
-ghost use Rattle.declarations.specs.Fault.{early_text, first_extent, unexpected_text};
+ghost use Rattle.declarations.specs.Fault.{early_text, first_extent, message_at, unexpected_text};
 ghost use Rattle.pm_span.specs.Extent.{extent_eq};
 
 use crate::expected::Expected;
@@ -19,8 +19,7 @@ use std::fmt::Display;
 /// `::` and `'a`. A group is one tree, and its span is that of the whole group with its delimiters.
 ///
 /// The text of the error says which signs were expected, with four names at most: "expected `:`" for the field `x u8`,
-/// and "the declaration ends too early, expected a type" for `x:`, where the span is `None`. If the call does not say
-/// what it expected, the text is "not expected here" or "the declaration ends too early".
+/// and "the declaration ends too early, expected a type" for `x:`, where the span is `None`.
 ///
 /// In `struct S { } x` the error is after 3 trees, at `x`. In `struct S` it is after 2 trees, and has no span.
 ///
@@ -128,8 +127,9 @@ impl Fault {
     /// part that they could not read. If `,` is missing after a part of a list, the set has `,`, the end and the signs
     /// with which the part could go on. For the list `a: A b: B` it has `,`, `<` and `::`, among others.
     ///
-    /// The set is empty if the call does not say what it expected. This is so for `within_generics` and `after_where`,
-    /// and for entries in groups without delimiters.
+    /// The error of an entry can be in a group without delimiters. Then the set has the signs that could come in this
+    /// group, and the end in it is that of the group. `within_generics` and `after_where` do not read the trees in the
+    /// brackets and after `where`, so their sets have only `<`, `>` or `where`, which is missing.
     pub fn expected(&self) -> Expected
         ensures { result ≡ self.now.expected }
     {
@@ -188,14 +188,25 @@ impl fmt::Display for Fault {
     ghost output = { λ fault. Some (fault_text fault) };
 
     fn fmt<W: fmt::Write>(&self, f: &mut fmt::Formatter<W>) -> fmt::Result {
-        match self.span {
-            Some(_) => write_unexpected(self.expected, f),
-            None => write_early(self.expected, f),
-        }
+        write_message(self.span, self.expected, f)
     }
 }
 
 impl Error for Fault {}
+
+/// Writes the text of an error at a tree with this span, or at the end of the trees.
+pub(crate) fn write_message<W: fmt::Write>(
+    span: Option<Span>,
+    expected: Expected,
+    f: &mut fmt::Formatter<W>,
+) -> fmt::Result
+    ensures { WritesOnOk W.write_str_gives f.old result (message_at span expected) f.new }
+{
+    match span {
+        Some(_) => write_unexpected(expected, f),
+        None => write_early(expected, f),
+    }
+}
 
 /// Writes the text of an error at a tree.
 fn write_unexpected<W: fmt::Write>(expected: Expected, f: &mut fmt::Formatter<W>) -> fmt::Result

@@ -16,11 +16,12 @@ ghost use Rattle.item_tables.specs.Classes.{is_block, is_round, is_word};
 ghost use Rattle.declarations.specs.rules.Fronts.{is_safe};
 ghost use Rattle.declarations.specs.rules.Functions.{abi, function_item, qualifiers, return_type_rule};
 ghost use Rattle.declarations.specs.rules.Names.{one, word};
-ghost use Rattle.declarations.specs.rules.Parts.{generics, visibility, where_clause};
+ghost use Rattle.declarations.specs.rules.Parts.{generics, where_clause};
 ghost use Rattle.declarations.specs.rules.Pieces.{ByRule};
 
 use crate::explore::fault_by;
 use crate::fault::Fault;
+use crate::front::past_visibility;
 use crate::item::{split_group, split_name, split_parentheses};
 use crate::parameter::{past_attributes, past_type};
 use crate::reader::{begins_identifier, begins_mark, is, part, past};
@@ -95,7 +96,7 @@ fn function_of(trees: &[TokenTree]) -> Result<(Function<'_>, &[TokenTree]), &[To
         × HasFunctionParts trees.now found.0 found.1.now) (λ left. Sticks function_item trees.now left.now) }
 {
     let from_visibility = past_attributes(trees)?;
-    let from_qualifiers = past_visibility(from_visibility)?;
+    let from_qualifiers = past_visibility(from_visibility);
     let from_fn = past_qualifiers(from_qualifiers);
     let from_name = past(from_fn, SignClass::Keyword(Keyword::Fn))?;
     let (name, from_generics) = name_of(from_name)?;
@@ -117,25 +118,6 @@ fn function_of(trees: &[TokenTree]) -> Result<(Function<'_>, &[TokenTree]), &[To
 }
 
 // ---- parts that are read by the tables
-
-/// Skips a visibility, if one is next.
-#[tactic(auto, using(crate::proofs::FrontLemmas::visibilities))]
-pub(crate) fn past_visibility(trees: &[TokenTree]) -> Result<&[TokenTree], &[TokenTree]>
-    ensures { ReadsRule visibility trees.now result }
-{
-    match first_sign(trees) {
-        Some((class, rest)) => {
-            if is(SignClass::Keyword(Keyword::Pub), class) {
-                return Ok(may(rest, SignClass::Restriction));
-            }
-            if is(SignClass::Visibility, class) {
-                return Ok(rest);
-            }
-            Ok(trees)
-        }
-        None => Ok(trees),
-    }
-}
 
 /// Skips generic parameters, if they are next.
 #[tactic(auto, using(crate::proofs::FrontLemmas::no_generics))]
@@ -264,7 +246,7 @@ pub(crate) fn is_name(class: SignClass) -> bool
 
 /// The name at the start of the trees, and the trees after it.
 #[tactic(auto, using(crate::proofs::FunctionPartLemmas::names_of))]
-fn name_of(trees: &[TokenTree]) -> Result<(&Ident, &[TokenTree]), &[TokenTree]>
+pub(crate) fn name_of(trees: &[TokenTree]) -> Result<(&Ident, &[TokenTree]), &[TokenTree]>
     ensures { MatchResult result (λ found. IsNameAt trees.now found.0.now found.1.now)
         (λ left. Sticks word trees.now left.now) }
 {

@@ -4,15 +4,16 @@ ghost use Rattle.pm_stream.specs.declared.stream.TokenTree.{TokenTree as Tree};
 ghost use Rattle.declarations.specs.Fault.{extent_at};
 ghost use Rattle.declarations.specs.List.{IsListFault};
 ghost use Rattle.declarations.specs.Param.{IsAfterWhere, IsOnlyParam, IsOnlyPredicate, IsParamAt, IsPredicateAt};
-ghost use Rattle.declarations.specs.Param.{IsWithin, ParamTrees, PredicateTrees, ReadsElement, is_mark_of, param_trees};
-ghost use Rattle.declarations.specs.Param.{predicate_trees};
+ghost use Rattle.declarations.specs.Param.{IsWithin, LacksBracket, LacksWhere, ParamTrees, PredicateTrees};
+ghost use Rattle.declarations.specs.Param.{ReadsElement, is_mark_of, param_trees, predicate_trees};
 ghost use Rattle.declarations.specs.rules.Parts.{parameter, predicate};
 ghost use Rattle.declarations.specs.rules.Pieces.{ByRule};
 
-use crate::explore::{fault_at_comma, fault_by};
+use crate::explore::{fault_at_comma, fault_at_sign, fault_by};
 use crate::fault::Fault;
 use crate::param_parts::{param_of, past_end, predicate_of};
-use crate::syntax::{GENERIC, PREDICATE};
+use crate::syntax::{GENERIC, PREDICATE, Test};
+use item_tables::class::{Keyword, SignClass};
 use pm_stream::TokenTree;
 
 /// The kind of a generic parameter.
@@ -53,37 +54,46 @@ pub struct Predicate<'a> {
 /// Returns the trees between the angle brackets of an item's generic parameters.
 ///
 /// For `<'a, T>` it returns `'a, T`, and for no trees it returns none. All other trees give a `Fault`: at the first
-/// tree if it is not `<`, and otherwise at the end.
+/// tree if it is not `<`, and otherwise at the end. Its expected sign is the `<` or the `>` that is missing.
 pub fn within_generics(generics: &[TokenTree]) -> Result<&[TokenTree], Fault>
     ensures ok { IfOk result (λ inside. IsWithin generics.now inside.now) }
     ensures fault { IfErr result (λ fault. (inside : List Tree) → IsWithin generics.now inside → ⊥) }
+    ensures place { IfErr result (λ fault. LacksBracket generics.now fault) }
     ensures span { IfErr result (λ fault. fault.span ≡ extent_at generics.now fault.at) }
 {
     let Some((open, rest)) = generics.split_first() else {
         return Ok(generics);
     };
     if !is_mark_of('<', open) {
-        return Err(Fault::ahead_of(0, generics));
+        return Err(fault_at_sign(Test::Opens, 0, generics));
     }
     match rest.split_last() {
         Some((close, inside)) if is_mark_of('>', close) => Ok(inside),
-        _ => Err(Fault::ahead_of(generics.len(), generics.split_at(generics.len()).1)),
+        _ => {
+            let (_, end) = generics.split_at(generics.len());
+            Err(fault_at_sign(Test::Is(SignClass::Greater), generics.len(), end))
+        }
     }
 }
 
 /// Returns the trees after the `where` of an item's where clause.
 ///
 /// For `where T: A,` it returns `T: A,`, and for no trees it returns none. All other trees give a `Fault` at the first
-/// one.
+/// one, which expects `where`.
 pub fn after_where(where_clause: &[TokenTree]) -> Result<&[TokenTree], Fault>
     ensures ok { IfOk result (λ inside. IsAfterWhere where_clause.now inside.now) }
     ensures fault { IfErr result (λ fault. (inside : List Tree) → IsAfterWhere where_clause.now inside → ⊥) }
+    ensures place { IfErr result (λ fault. LacksWhere fault) }
     ensures span { IfErr result (λ fault. fault.span ≡ extent_at where_clause.now fault.at) }
 {
     match where_clause.split_first() {
         None => Ok(where_clause),
         Some((TokenTree::Ident(word), rest)) if word.eq_str("where") => Ok(rest),
-        Some(_) => Err(Fault::ahead_of(0, where_clause)),
+        Some(_) => Err(fault_at_sign(
+            Test::Is(SignClass::Keyword(Keyword::Where)),
+            0,
+            where_clause,
+        )),
     }
 }
 

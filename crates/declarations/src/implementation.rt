@@ -20,7 +20,8 @@ ghost use Rattle.declarations.specs.rules.Pieces.{ByRule};
 
 use crate::explore::fault_by;
 use crate::fault::Fault;
-use crate::function::{is_name, may, past_generics, past_visibility, past_where};
+use crate::front::past_visibility;
+use crate::function::{is_name, may, past_generics, past_where};
 use crate::item::split_braces;
 use crate::parameter::{past_attributes, past_type};
 use crate::reader::{is, part};
@@ -141,23 +142,21 @@ fn front_of(trees: &[TokenTree]) -> Result<(Front<'_>, &[TokenTree]), &[TokenTre
         (λ left. Sticks impl_item trees.now left.now) }
 {
     match past_attributes(trees) {
-        Ok(from_visibility) => match past_visibility(from_visibility) {
-            Ok(from_qualifiers) => {
-                let from_impl = past_impl_qualifiers(from_qualifiers);
-                match past_impl(from_impl) {
-                    Ok(rest) => {
-                        let front = Front {
-                            attributes: part(trees, from_visibility),
-                            visibility: part(from_visibility, from_qualifiers),
-                            qualifiers: part(from_qualifiers, from_impl),
-                        };
-                        Ok((front, rest))
-                    }
-                    Err(left) => Err(left),
+        Ok(from_visibility) => {
+            let from_qualifiers = past_visibility(from_visibility);
+            let from_impl = past_impl_qualifiers(from_qualifiers);
+            match past_impl(from_impl) {
+                Ok(rest) => {
+                    let front = Front {
+                        attributes: part(trees, from_visibility),
+                        visibility: part(from_visibility, from_qualifiers),
+                        qualifiers: part(from_qualifiers, from_impl),
+                    };
+                    Ok((front, rest))
                 }
+                Err(left) => Err(left),
             }
-            Err(left) => Err(left),
-        },
+        }
         Err(left) => Err(left),
     }
 }
@@ -448,14 +447,16 @@ fn may_for(trees: &[TokenTree]) -> Option<&[TokenTree]>
 
 /// The parts of an `impl` after the type.
 #[derive(Clone, Copy)]
-struct End<'a> {
-    where_clause: &'a [TokenTree],
-    body: &'a Group,
+pub(crate) struct End<'a> {
+    /// The where clause, or no trees.
+    pub where_clause: &'a [TokenTree],
+    /// The body in braces.
+    pub body: &'a Group,
 }
 
 /// Reads a where clause and a body in braces. Returns them and the trees after them.
 #[tactic(auto, using(crate::proofs::ImplLemmas::ends))]
-fn end_of(trees: &[TokenTree]) -> Result<(End<'_>, &[TokenTree]), &[TokenTree]>
+pub(crate) fn end_of(trees: &[TokenTree]) -> Result<(End<'_>, &[TokenTree]), &[TokenTree]>
     ensures { MatchResult result (λ found. Finds where_and_body trees.now found.1.now
         × HasBraces trees.now found.0.where_clause.now found.0.body.now found.1.now)
         (λ left. Sticks where_and_body trees.now left.now) }

@@ -1,26 +1,34 @@
 //! Structs, enums and unions, as a derive macro gets them.
-ghost use Rattle.std.specs.Prelude.{◌≡◌, ◌∷◌, IfErr, IfNone, IfOk, IfSome, List, MatchResult};
+ghost use Rattle.std.specs.Prelude.{◌≡◌, ◌∷◌, [], IfErr, IfNone, IfOk, IfSome, List, MatchResult};
 ghost use Rattle.pm_stream.specs.declared.stream.Group.{Group as Grouped};
 ghost use Rattle.pm_stream.specs.declared.stream.TokenTree.{TokenTree as Tree};
 ghost use Rattle.pm_stream.specs.declared.stream.TokenTree.TheVariants as trees_are;
 ghost use Rattle.pm_token.specs.Leaf.{Name};
 ghost use Rattle.declarations.specs.Expected.{Expects};
 ghost use Rattle.declarations.specs.Fault.{extent_at};
-ghost use Rattle.declarations.specs.Forms.{IsFrom, IsItem};
-ghost use Rattle.declarations.specs.Item.{AreBracesLeft, HasBraces, HasEnding, IsLeft, IsTypeItem};
-ghost use Rattle.declarations.specs.Item.{after_generics_state};
+ghost use Rattle.declarations.specs.Forms.{IsItem};
+ghost use Rattle.declarations.specs.Item.{IsTypeItem};
+ghost use Rattle.declarations.specs.ItemParts.{HasBodyAt, HasClauseEnd, HasDeclared, HasEnd, HasNamed, IsKeywordAt};
+ghost use Rattle.declarations.specs.ItemParts.{IsSemicolonAt, class_of, clause_end, declared_by, end_of, from_name};
+ghost use Rattle.declarations.specs.ItemParts.{item_rest, plain_end};
+ghost use Rattle.declarations.specs.Reader.{Finds, Sticks};
 ghost use Rattle.declarations.specs.Reading.{FaultAt};
-ghost use Rattle.declarations.specs.Whole.{IsWhole, ReadsAll};
+ghost use Rattle.declarations.specs.Whole.{IsWhole};
+ghost use Rattle.declarations.specs.rules.Bodies.{body_end, semicolon, struct_rest, where_and_body};
+ghost use Rattle.declarations.specs.rules.Items.{type_item, type_keyword};
 ghost use Rattle.item_tables.specs.declared.class.SignClass.TheVariants as classes;
 ghost use Rattle.item_tables.specs.declared.class.Keyword.TheVariants as keywords;
-ghost use Rattle.item_tables.specs.declared.walk_state.Item.TheVariants as items;
+ghost use Rattle.item_tables.specs.declared.class.Word.TheVariants as words;
 
+use crate::explore::fault_by;
 use crate::fault::Fault;
-use crate::part_splitting::{split_attributes, split_generics, split_visibility, split_where};
-use crate::signs::name_class;
-use crate::walk::read_whole;
-use item_tables::class::{Keyword, SignClass};
-use item_tables::walk_state::{Continuation, Item, Part, Spot, State, WalkState};
+use crate::front::front_of;
+use crate::function::{name_of, past_generics, past_where};
+use crate::implementation::end_of as braces_of;
+use crate::reader::{is, part};
+use crate::signs::{first_sign, name_class};
+use crate::syntax::TYPE_ITEM;
+use item_tables::class::{Keyword, SignClass, Word};
 use pm_stream::{Group, TokenTree};
 use pm_token::{Delimiter, Ident};
 
@@ -80,133 +88,306 @@ pub enum Fields<'a> {
 ///
 /// For `pub struct S<T>(T) where T: A;` the visibility is `pub`, the name is `S`, the generic parameters are `<T>`, the
 /// fields are `(T)`, and the where clause is `where T: A`.
+#[tactic(auto, using(crate::proofs::ItemLemmas::promises))]
 pub fn parse_type_item(trees: &[TokenTree]) -> Result<TypeItem<'_>, Fault>
     ensures ok { IfOk result (λ item. IsTypeItem trees.now item) }
     ensures fault { IfErr result (λ fault. FaultAt (IsWhole IsItem) trees.now fault.at) }
     ensures span { IfErr result (λ fault. fault.span ≡ extent_at trees.now fault.at) }
     ensures expected { IfErr result (λ fault. Expects IsItem trees.now fault.at fault.expected) }
 {
-    let start = WalkState {
-        item: Item::Alone,
-        rule: Continuation::Alone,
-        state: State::At(Spot::Before(Part::TypeItem)),
-        depth: 0,
-    };
-    match read_whole(trees, start) {
-        Ok(()) => item_of(trees),
-        Err(fault) => Err(fault),
+    match item_of(trees) {
+        Ok((item, rest)) => {
+            if rest.is_empty() {
+                Ok(item)
+            } else {
+                Err(fault_by(&TYPE_ITEM, trees, rest))
+            }
+        }
+        Err(left) => Err(fault_by(&TYPE_ITEM, trees, left)),
     }
 }
 
-/// The parts of an item that is all of the trees.
-fn item_of(trees: &[TokenTree]) -> Result<TypeItem<'_>, Fault>
-    requires { ReadsAll IsItem trees.now }
-    ensures { MatchResult result (λ item. IsTypeItem trees.now item) (λ fault. ⊥) }
+/// Reads an item. Returns it and the trees after it, or the trees from the error on.
+#[tactic(auto, using(crate::proofs::ItemLemmas::items))]
+pub(crate) fn item_of(trees: &[TokenTree]) -> Result<(TypeItem<'_>, &[TokenTree]), &[TokenTree]>
+    ensures { MatchResult result (λ found. Finds type_item trees.now found.1.now
+        × (found.1.now ≡ [] → IsTypeItem trees.now found.0)) (λ left. Sticks type_item trees.now left.now) }
 {
-    let (attributes, rest) = split_attributes(trees)?;
-    let (visibility, rest) = split_visibility(rest)?;
-    let (keyword, rest) = split_name(rest)?;
-    let (name, rest) = split_name(rest)?;
-    let (generics, rest) = split_generics(rest)?;
-    let ending = ending_of(name_class(keyword), rest)?;
-    Ok(TypeItem {
-        attributes,
-        visibility,
-        keyword,
-        name,
-        generics,
-        where_clause: ending.where_clause,
-        body: ending.body,
-        semicolon: ending.semicolon,
-    })
+    match front_of(trees) {
+        Ok((front, from_keyword)) => match declared_of(from_keyword) {
+            Ok((keyword, named, rest)) => {
+                let item = TypeItem {
+                    attributes: front.attributes,
+                    visibility: front.visibility,
+                    keyword,
+                    name: named.name,
+                    generics: named.generics,
+                    where_clause: named.end.where_clause,
+                    body: named.end.body,
+                    semicolon: named.end.semicolon,
+                };
+                Ok((item, rest))
+            }
+            Err(left) => Err(left),
+        },
+        Err(left) => Err(left),
+    }
 }
 
-/// What comes after the generic parameters of an item.
+// ---- the keyword, the name and the generic parameters
+
+/// What the keyword of an item declares.
 #[derive(Clone, Copy)]
-struct Ending<'a> {
+enum Declared {
+    /// `struct`
+    Struct,
+    /// `enum`
+    Enum,
+    /// `union`
+    Union,
+}
+
+/// The parts of an item after its keyword.
+#[derive(Clone, Copy)]
+struct Named<'a> {
+    name: &'a Ident,
+    generics: &'a [TokenTree],
+    end: End<'a>,
+}
+
+/// The parts of an item after its generic parameters.
+#[derive(Clone, Copy)]
+struct End<'a> {
     where_clause: &'a [TokenTree],
     body: Body<'a>,
     semicolon: &'a [TokenTree],
 }
 
-fn ending_of<'a>(keyword: SignClass, trees: &'a [TokenTree]) -> Result<Ending<'a>, Fault>
-    requires { IsLeft keyword trees.now }
-    ensures { MatchResult result (λ ending. HasEnding keyword trees.now ending.body ending.where_clause.now
-        ending.semicolon.now) (λ fault. ⊥) }
+/// Reads an item from its keyword on. Returns the keyword, the parts after it, and the trees after the item.
+#[tactic(auto, using(crate::proofs::ItemLemmas::declarations))]
+fn declared_of(trees: &[TokenTree]) -> Result<(&Ident, Named<'_>, &[TokenTree]), &[TokenTree]>
+    ensures { MatchResult result (λ found. Finds item_rest trees.now found.2.now
+        × HasDeclared trees.now found.0.now found.1 found.2.now) (λ left. Sticks item_rest trees.now left.now) }
 {
-    match keyword {
-        SignClass::Keyword(Keyword::Struct) => struct_ending(trees),
-        SignClass::Keyword(Keyword::Enum) => {
-            let (where_clause, variants, semicolon) = braces_of(trees)?;
-            Ok(Ending {
-                where_clause,
-                body: Body::Enum(variants),
-                semicolon,
-            })
-        }
-        _ => {
-            let (where_clause, fields, semicolon) = braces_of(trees)?;
-            Ok(Ending {
-                where_clause,
-                body: Body::Union(fields),
-                semicolon,
-            })
-        }
+    match keyword_of(trees) {
+        Ok((keyword, declared, from_name)) => match named_of(declared, from_name) {
+            Ok((named, rest)) => Ok((keyword, named, rest)),
+            Err(left) => Err(left),
+        },
+        Err(left) => Err(left),
     }
 }
 
-fn struct_ending(trees: &[TokenTree]) -> Result<Ending<'_>, Fault>
-    requires { ReadsAll (IsFrom (after_generics_state items.Struct)) trees.now }
-    ensures { MatchResult result (λ ending. HasEnding (classes.Keyword keywords.Struct) trees.now ending.body
-        ending.where_clause.now ending.semicolon.now) (λ fault. ⊥) }
+/// What a sign of this class declares.
+fn declared_by(class: SignClass) -> Option<Declared>
+    ensures { result ≡ declared_by class }
+{
+    match class {
+        SignClass::Keyword(Keyword::Struct) => Some(Declared::Struct),
+        SignClass::Keyword(Keyword::Enum) => Some(Declared::Enum),
+        SignClass::Word(Word::Union) => Some(Declared::Union),
+        _ => None,
+    }
+}
+
+/// Reads the keyword of an item. Returns it, what it declares, and the trees after it.
+#[tactic(auto, using(crate::proofs::ItemLemmas::keywords_of))]
+fn keyword_of(trees: &[TokenTree]) -> Result<(&Ident, Declared, &[TokenTree]), &[TokenTree]>
+    ensures { MatchResult result (λ found. IsKeywordAt trees.now found.0.now found.1 found.2.now)
+        (λ left. Sticks type_keyword trees.now left.now) }
+{
+    match split_name(trees) {
+        Ok((keyword, rest)) => match declared_by(name_class(keyword)) {
+            Some(declared) => Ok((keyword, declared, rest)),
+            None => Err(trees),
+        },
+        Err(_) => Err(trees),
+    }
+}
+
+/// Reads an item from its name on. Returns the parts and the trees after them.
+#[tactic(auto, using(crate::proofs::ItemLemmas::named))]
+fn named_of(
+    declared: Declared,
+    trees: &[TokenTree],
+) -> Result<(Named<'_>, &[TokenTree]), &[TokenTree]>
+    ensures { MatchResult result (λ found. Finds (from_name declared) trees.now found.1.now
+        × HasNamed declared trees.now found.0 found.1.now)
+        (λ left. Sticks (from_name declared) trees.now left.now) }
+{
+    match name_of(trees) {
+        Ok((name, from_generics)) => match past_generics(from_generics) {
+            Ok(from_end) => match end_of(declared, from_end) {
+                Ok((end, rest)) => {
+                    let generics = part(from_generics, from_end);
+                    Ok((
+                        Named {
+                            name,
+                            generics,
+                            end,
+                        },
+                        rest,
+                    ))
+                }
+                Err(left) => Err(left),
+            },
+            Err(left) => Err(left),
+        },
+        Err(left) => Err(left),
+    }
+}
+
+// ---- after the generic parameters
+
+/// Reads what comes after the generic parameters. Returns the parts and the trees after them.
+fn end_of(declared: Declared, trees: &[TokenTree]) -> Result<(End<'_>, &[TokenTree]), &[TokenTree]>
+    ensures { MatchResult result (λ found. Finds (end_of declared) trees.now found.1.now
+        × HasEnd (class_of declared) trees.now found.0.body found.0.where_clause.now found.0.semicolon.now found.1.now)
+        (λ left. Sticks (end_of declared) trees.now left.now) }
+{
+    match declared {
+        Declared::Struct => struct_end(trees),
+        Declared::Enum => enum_end(trees),
+        Declared::Union => union_end(trees),
+    }
+}
+
+/// Reads what comes after the generic parameters of an enum. Returns the parts and the trees after them.
+#[tactic(auto, using(crate::proofs::ItemLemmas::enum_has))]
+fn enum_end(trees: &[TokenTree]) -> Result<(End<'_>, &[TokenTree]), &[TokenTree]>
+    ensures { MatchResult result (λ found. Finds where_and_body trees.now found.1.now
+        × HasEnd (classes.Keyword keywords.Enum) trees.now found.0.body found.0.where_clause.now
+        found.0.semicolon.now found.1.now) (λ left. Sticks where_and_body trees.now left.now) }
+{
+    match braces_of(trees) {
+        Ok((braces, rest)) => {
+            let end = End {
+                where_clause: braces.where_clause,
+                body: Body::Enum(braces.body),
+                semicolon: &[],
+            };
+            Ok((end, rest))
+        }
+        Err(left) => Err(left),
+    }
+}
+
+/// Reads what comes after the generic parameters of a union. Returns the parts and the trees after them.
+#[tactic(auto, using(crate::proofs::ItemLemmas::union_has))]
+fn union_end(trees: &[TokenTree]) -> Result<(End<'_>, &[TokenTree]), &[TokenTree]>
+    ensures { MatchResult result (λ found. Finds where_and_body trees.now found.1.now
+        × HasEnd (classes.Word words.Union) trees.now found.0.body found.0.where_clause.now
+        found.0.semicolon.now found.1.now) (λ left. Sticks where_and_body trees.now left.now) }
+{
+    match braces_of(trees) {
+        Ok((braces, rest)) => {
+            let end = End {
+                where_clause: braces.where_clause,
+                body: Body::Union(braces.body),
+                semicolon: &[],
+            };
+            Ok((end, rest))
+        }
+        Err(left) => Err(left),
+    }
+}
+
+/// Reads what comes after the generic parameters of a struct. Returns the parts and the trees after them.
+fn struct_end(trees: &[TokenTree]) -> Result<(End<'_>, &[TokenTree]), &[TokenTree]>
+    ensures { MatchResult result (λ found. Finds struct_rest trees.now found.1.now
+        × HasEnd (classes.Keyword keywords.Struct) trees.now found.0.body found.0.where_clause.now
+        found.0.semicolon.now found.1.now) (λ left. Sticks struct_rest trees.now left.now) }
 {
     match split_parentheses(trees) {
-        Some((fields, rest)) => {
-            let (where_clause, semicolon) = split_where(rest)?;
-            Ok(Ending {
-                where_clause,
-                body: Body::Struct(Fields::Tuple(fields)),
-                semicolon,
-            })
+        Some((fields, from_clause)) => match clause_end_of(from_clause) {
+            Ok((where_clause, semicolon, rest)) => {
+                let end = End {
+                    where_clause,
+                    body: Body::Struct(Fields::Tuple(fields)),
+                    semicolon,
+                };
+                Ok((end, rest))
+            }
+            Err(left) => Err(left),
+        },
+        None => plain_end(trees),
+    }
+}
+
+/// Reads a where clause and `;`. Returns both and the trees after them.
+#[tactic(auto, using(crate::proofs::ItemLemmas::clause_ends))]
+fn clause_end_of(
+    trees: &[TokenTree],
+) -> Result<(&[TokenTree], &[TokenTree], &[TokenTree]), &[TokenTree]>
+    ensures { MatchResult result (λ found. Finds clause_end trees.now found.2.now
+        × HasClauseEnd trees.now found.0.now found.1.now found.2.now) (λ left. Sticks clause_end trees.now left.now) }
+{
+    match past_where(trees) {
+        Ok(from_semicolon) => match semicolon_of(from_semicolon) {
+            Ok((semicolon, rest)) => Ok((part(trees, from_semicolon), semicolon, rest)),
+            Err(left) => Err(left),
+        },
+        Err(left) => Err(left),
+    }
+}
+
+/// Reads the end of a struct that has no fields in parentheses. Returns the parts and the trees after them.
+#[tactic(auto, using(crate::proofs::ItemLemmas::plain_ends))]
+fn plain_end(trees: &[TokenTree]) -> Result<(End<'_>, &[TokenTree]), &[TokenTree]>
+    ensures { MatchResult result (λ found. Finds plain_end trees.now found.1.now
+        × HasEnd (classes.Keyword keywords.Struct) trees.now found.0.body found.0.where_clause.now
+        found.0.semicolon.now found.1.now) (λ left. Sticks plain_end trees.now left.now) }
+{
+    match past_where(trees) {
+        Ok(from_body) => match body_of(from_body) {
+            Ok((fields, semicolon, rest)) => {
+                let end = End {
+                    where_clause: part(trees, from_body),
+                    body: Body::Struct(fields),
+                    semicolon,
+                };
+                Ok((end, rest))
+            }
+            Err(left) => Err(left),
+        },
+        Err(left) => Err(left),
+    }
+}
+
+/// Reads braces or `;`. Returns the fields in the braces, the `;`, and the trees after them.
+#[tactic(auto, using(crate::proofs::ItemLemmas::bodies_of))]
+fn body_of(trees: &[TokenTree]) -> Result<(Fields<'_>, &[TokenTree], &[TokenTree]), &[TokenTree]>
+    ensures { MatchResult result (λ found. Finds body_end trees.now found.2.now
+        × HasBodyAt trees.now found.0 found.1.now found.2.now) (λ left. Sticks body_end trees.now left.now) }
+{
+    match split_braces(trees) {
+        Some((group, rest)) => Ok((Fields::Named(group), &[], rest)),
+        None => match semicolon_of(trees) {
+            Ok((semicolon, rest)) => Ok((Fields::Unit, semicolon, rest)),
+            Err(left) => Err(left),
+        },
+    }
+}
+
+/// Reads `;`. Returns it and the trees after it.
+#[tactic(auto, using(crate::proofs::ItemLemmas::semicolons))]
+fn semicolon_of(trees: &[TokenTree]) -> Result<(&[TokenTree], &[TokenTree]), &[TokenTree]>
+    ensures { MatchResult result (λ found. Finds semicolon trees.now found.1.now
+        × IsSemicolonAt trees.now found.0.now found.1.now) (λ left. Sticks semicolon trees.now left.now) }
+{
+    match first_sign(trees) {
+        Some((class, rest)) => {
+            if is(SignClass::Semicolon, class) {
+                Ok((part(trees, rest), rest))
+            } else {
+                Err(trees)
+            }
         }
-        None => plain_ending(trees),
+        None => Err(trees),
     }
 }
 
-/// The end of a struct that has no fields in parentheses.
-fn plain_ending(trees: &[TokenTree]) -> Result<Ending<'_>, Fault>
-    requires left { ReadsAll (IsFrom (after_generics_state items.Struct)) trees.now }
-    requires plain { (group : Grouped) → (rest : List Tree) → trees.now ≡ trees_are.Group group ∷ rest
-        → group.delimiter ≡ Delimiter.Parenthesis → ⊥ }
-    ensures { MatchResult result (λ ending. HasEnding (classes.Keyword keywords.Struct) trees.now ending.body
-        ending.where_clause.now ending.semicolon.now) (λ fault. ⊥) }
-{
-    let (where_clause, rest) = split_where(trees)?;
-    match split_group(rest) {
-        Some((group, after)) => Ok(Ending {
-            where_clause,
-            body: Body::Struct(Fields::Named(group)),
-            semicolon: after,
-        }),
-        None => Ok(Ending {
-            where_clause,
-            body: Body::Struct(Fields::Unit),
-            semicolon: rest,
-        }),
-    }
-}
-
-/// A where clause, the braces after it, and the trees after the braces.
-fn braces_of(trees: &[TokenTree]) -> Result<(&[TokenTree], &Group, &[TokenTree]), Fault>
-    requires { AreBracesLeft trees.now }
-    ensures { MatchResult result (λ found. HasBraces trees.now found.0.now found.1.now found.2.now) (λ fault. ⊥) }
-{
-    let (where_clause, rest) = split_where(trees)?;
-    match split_group(rest) {
-        Some((group, after)) => Ok((where_clause, group, after)),
-        None => Err(Fault::ahead_of(0, rest)),
-    }
-}
+// ---- single trees
 
 /// The identifier that the trees begin with, and the trees after it.
 pub(crate) fn split_name(trees: &[TokenTree]) -> Result<(&Ident, &[TokenTree]), Fault>

@@ -24,6 +24,7 @@ mod explore_path;
 mod fault;
 mod field;
 mod file;
+mod front;
 mod function;
 mod generic_argument;
 mod generics;

@@ -7,10 +7,16 @@ ghost use Rattle.declarations.specs.Forms.{IsItem, IsTupleField, IsType, IsVisib
 ghost use Rattle.declarations.specs.Forms.{AreInnerAttributes, AreVariants, IsExpression, IsFrom, IsVariant, start};
 ghost use Rattle.declarations.specs.Reading.{FaultAt, IsOnly, Reads};
 
+use crate::explore::fault_by;
 use crate::fault::Fault;
-use crate::function::{past_generics, past_visibility, past_where};
+use crate::field::{parse_field, parse_tuple_field};
+use crate::front::past_visibility;
+use crate::function::{past_generics, past_where};
+use crate::item::item_of;
 use crate::parameter::past_attributes;
 use crate::reader::part;
+use crate::syntax::TYPE_ITEM;
+use crate::variant::parse_variant;
 use crate::walk::split_from;
 use item_tables::types::TypeState;
 use item_tables::walk_state::{Continuation, Item, Part, Spot, State, WalkState};
@@ -112,19 +118,14 @@ pub fn split_visibility(trees: &[TokenTree]) -> Result<(&[TokenTree], &[TokenTre
     ensures span { IfErr result (λ fault. fault.span ≡ extent_at trees.now fault.at) }
     ensures expected { IfErr result (λ fault. Expects IsVisibility trees.now fault.at fault.expected) }
 {
-    match past_visibility(trees) {
-        Ok(rest) => Ok((part(trees, rest), rest)),
-        Err(_) => split_alone(
-            trees,
-            Continuation::Alone,
-            State::At(Spot::Before(Part::Visibility)),
-        ),
-    }
+    let rest = past_visibility(trees);
+    Ok((part(trees, rest), rest))
 }
 
 /// Returns the named field at the start of the trees, with attributes and visibility, and the trees after it.
 ///
 /// For `#[a] pub x: Vec<A, B>, y: C` the field is `#[a] pub x: Vec<A, B>`.
+#[tactic(auto, using(crate::proofs::PartReaderLemmas::fields_read))]
 pub fn split_field(trees: &[TokenTree]) -> Result<(&[TokenTree], &[TokenTree]), Fault>
     ensures ok { IfOk result (λ found. Reads IsField trees.now found.0.now found.1.now) }
     ensures only { IfOk result (λ found. IsOnly IsField trees.now found.0.now found.1.now) }
@@ -132,16 +133,16 @@ pub fn split_field(trees: &[TokenTree]) -> Result<(&[TokenTree], &[TokenTree]), 
     ensures span { IfErr result (λ fault. fault.span ≡ extent_at trees.now fault.at) }
     ensures expected { IfErr result (λ fault. Expects IsField trees.now fault.at fault.expected) }
 {
-    split_alone(
-        trees,
-        Continuation::Alone,
-        State::At(Spot::Before(Part::Field)),
-    )
+    match parse_field(trees) {
+        Ok((_, rest)) => Ok((part(trees, rest), rest)),
+        Err(fault) => Err(fault),
+    }
 }
 
 /// Returns the field without a name at the start of the trees, with attributes and visibility, and the trees after it.
 ///
 /// For `pub (A, B), C` the field is `pub (A, B)`, whose type is `(A, B)`.
+#[tactic(auto, using(crate::proofs::PartReaderLemmas::tuple_fields_read))]
 pub fn split_tuple_field(trees: &[TokenTree]) -> Result<(&[TokenTree], &[TokenTree]), Fault>
     ensures ok { IfOk result (λ found. Reads IsTupleField trees.now found.0.now found.1.now) }
     ensures only { IfOk result (λ found. IsOnly IsTupleField trees.now found.0.now found.1.now) }
@@ -149,11 +150,10 @@ pub fn split_tuple_field(trees: &[TokenTree]) -> Result<(&[TokenTree], &[TokenTr
     ensures span { IfErr result (λ fault. fault.span ≡ extent_at trees.now fault.at) }
     ensures expected { IfErr result (λ fault. Expects IsTupleField trees.now fault.at fault.expected) }
 {
-    split_alone(
-        trees,
-        Continuation::Alone,
-        State::At(Spot::Before(Part::TupleField)),
-    )
+    match parse_tuple_field(trees) {
+        Ok((_, rest)) => Ok((part(trees, rest), rest)),
+        Err(fault) => Err(fault),
+    }
 }
 
 /// Returns the named fields at the start of the trees, perhaps none, and the trees after them.
@@ -195,6 +195,7 @@ pub fn split_tuple_fields(trees: &[TokenTree]) -> Result<(&[TokenTree], &[TokenT
 ///
 /// It includes the attributes, the visibility and the discriminant. The trees inside its braces or parentheses are not
 /// read. For `#[a] B { c: D } = f::<X, Y>(), C` it is everything before the last `,`.
+#[tactic(auto, using(crate::proofs::PartReaderLemmas::variants_read))]
 pub fn split_variant(trees: &[TokenTree]) -> Result<(&[TokenTree], &[TokenTree]), Fault>
     ensures ok { IfOk result (λ found. Reads IsVariant trees.now found.0.now found.1.now) }
     ensures only { IfOk result (λ found. IsOnly IsVariant trees.now found.0.now found.1.now) }
@@ -202,11 +203,10 @@ pub fn split_variant(trees: &[TokenTree]) -> Result<(&[TokenTree], &[TokenTree])
     ensures span { IfErr result (λ fault. fault.span ≡ extent_at trees.now fault.at) }
     ensures expected { IfErr result (λ fault. Expects IsVariant trees.now fault.at fault.expected) }
 {
-    split_alone(
-        trees,
-        Continuation::Alone,
-        State::At(Spot::Before(Part::Variant)),
-    )
+    match parse_variant(trees) {
+        Ok((_, rest)) => Ok((part(trees, rest), rest)),
+        Err(fault) => Err(fault),
+    }
 }
 
 /// Returns the variants at the start of the trees, perhaps none, and the trees after them.
@@ -283,6 +283,7 @@ pub fn split_where(trees: &[TokenTree]) -> Result<(&[TokenTree], &[TokenTree]), 
 ///
 /// It includes the attributes and the visibility. The trees inside the braces or parentheses of its body are not read:
 /// [`split_fields`], [`split_tuple_fields`] and [`split_variants`] read them.
+#[tactic(auto, using(crate::proofs::PartReaderLemmas::items_read))]
 pub fn split_item(trees: &[TokenTree]) -> Result<(&[TokenTree], &[TokenTree]), Fault>
     ensures ok { IfOk result (λ found. Reads IsItem trees.now found.0.now found.1.now) }
     ensures only { IfOk result (λ found. IsOnly IsItem trees.now found.0.now found.1.now) }
@@ -290,11 +291,10 @@ pub fn split_item(trees: &[TokenTree]) -> Result<(&[TokenTree], &[TokenTree]), F
     ensures span { IfErr result (λ fault. fault.span ≡ extent_at trees.now fault.at) }
     ensures expected { IfErr result (λ fault. Expects IsItem trees.now fault.at fault.expected) }
 {
-    split_alone(
-        trees,
-        Continuation::Alone,
-        State::At(Spot::Before(Part::TypeItem)),
-    )
+    match item_of(trees) {
+        Ok((_, rest)) => Ok((part(trees, rest), rest)),
+        Err(left) => Err(fault_by(&TYPE_ITEM, trees, left)),
+    }
 }
 
 /// Returns the inner attributes at the start of the trees, perhaps none, and the trees after them.

@@ -102,6 +102,8 @@ pub enum Table {
     TupleField,
     /// A variant.
     Variant,
+    /// A struct, an enum or a union.
+    TypeItem,
     /// An item of any kind.
     AnyItem,
 }
@@ -198,6 +200,7 @@ pub(crate) fn start_of(table: Table) -> WalkState
             Table::Field => State::At(Spot::Before(Part::Field)),
             Table::TupleField => State::At(Spot::Before(Part::TupleField)),
             Table::Variant => State::At(Spot::Before(Part::Variant)),
+            Table::TypeItem => State::At(Spot::Before(Part::TypeItem)),
             Table::AnyItem => State::At(Spot::Before(Part::AnyItem)),
         },
         depth: 0,
@@ -228,7 +231,7 @@ pub(crate) fn admits(guard: Guard, class: SignClass) -> bool
     }
 }
 
-// ---- the rules of tables, for lists
+// ---- the rules that one table reads
 
 /// A named field.
 pub(crate) const FIELD: Syntax<'static> = Syntax::Table(Table::Field);
@@ -238,6 +241,9 @@ pub(crate) const TUPLE_FIELD: Syntax<'static> = Syntax::Table(Table::TupleField)
 
 /// A variant.
 pub(crate) const VARIANT: Syntax<'static> = Syntax::Table(Table::Variant);
+
+/// A struct, an enum or a union.
+pub(crate) const TYPE_ITEM: Syntax<'static> = Syntax::Table(Table::TypeItem);
 
 // ---- the rules of functions
 

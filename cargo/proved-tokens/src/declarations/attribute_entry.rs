@@ -23,9 +23,8 @@ impl<'a> Attribute<'a> {
     ///   \[\])</code>
     /// - `ensures err`: <code>[IfErr] result ([EndsAt] ([closing_of] self.now.group.now) ([IsEntryFault]
     ///   ([trees_of] self.now.group.now.stream)))</code>
-    /// - `ensures expected`: <code>[IfErr] result (λ fault. [bare_first] ([trees_of] self.now.group.now.stream) ≡
-    ///   [None] → [Expects] ([ByRule] [entry]) ([trees_of] self.now.group.now.stream) fault.at
-    ///   fault.expected)</code>
+    /// - `ensures expected`: <code>[IfErr] result (λ fault. [ExpectsEntry] ([trees_of] self.now.group.now.stream)
+    ///   fault.at fault.expected)</code>
     ///
     /// [IfOk]: crate::contracts#std.IfOk
     /// [IsEntryAt]: crate::contracts#declarations.Entry.IsEntryAt
@@ -34,11 +33,7 @@ impl<'a> Attribute<'a> {
     /// [EndsAt]: crate::contracts#declarations.Ending.EndsAt
     /// [closing_of]: crate::contracts#declarations.Ending.closing_of
     /// [IsEntryFault]: crate::contracts#declarations.Entry.IsEntryFault
-    /// [bare_first]: crate::contracts#declarations.Bare.bare_first
-    /// [None]: crate::contracts#std.None
-    /// [Expects]: crate::contracts#declarations.Expected.Expects
-    /// [ByRule]: crate::contracts#declarations.rules.Pieces.ByRule
-    /// [entry]: crate::contracts#declarations.rules.Entries.entry
+    /// [ExpectsEntry]: crate::contracts#declarations.EntryExpects.ExpectsEntry
     pub fn entry(&self) -> Result<Entry<'a>, Fault>
     {
         match whole_entry(self.group.stream_ref().trees()) {

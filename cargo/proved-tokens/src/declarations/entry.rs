@@ -3,12 +3,13 @@
 
 use crate::declarations::attribute::is_named;
 use crate::declarations::bare::{bare_trees, has_no_delimiters, inside_of};
-use crate::declarations::explore::{fault_at_comma, fault_by};
+use crate::declarations::expected::Expected;
+use crate::declarations::explore::{expected_by, fault_by};
 use crate::declarations::fault::Fault;
 use crate::declarations::item::split_group;
 use crate::declarations::reader::{begins, is, part, past};
 use crate::declarations::signs::first_sign;
-use crate::declarations::syntax::ENTRY;
+use crate::declarations::syntax::{ENTRY, ENTRY_REST, Syntax};
 use crate::declarations::walk::walk_past;
 use crate::item_tables::class::SignClass;
 use crate::item_tables::walk_state::{Continuation, Item, Spot, State, WalkState};
@@ -53,8 +54,8 @@ pub struct Entry<'a> {
 /// path alone, a list or `=` and a value can come after the group. In the group the path of the entry may be in a
 /// group of its own. Groups that hold nothing but such a group are looked through. An error inside of the group has an
 /// `at` of 0, since no tree comes before the group. Its span is that of the first wrong tree inside, or that of the
-/// group if trees are missing at its end. If the trees begin with such a group, the error does not say what was
-/// expected.
+/// group if trees are missing at its end. Its expected signs are those that could come there inside of the group, and
+/// the end if the group could end there.
 ///
 /// # Contract
 ///
@@ -62,8 +63,8 @@ pub struct Entry<'a> {
 /// - `ensures only`: <code>[IfOk] result (λ found. [IsOnlyPlainRest] trees.now found.1.now)</code>
 /// - `ensures fewer`: <code>[IfOk] result (λ found. [length] found.1.now &lt; [length] trees.now)</code>
 /// - `ensures fault`: <code>[IfErr] result (λ fault. [IsNoEntry] trees.now fault)</code>
-/// - `ensures expected`: <code>[IfErr] result (λ fault. [bare_first] trees.now ≡ [None] → [Expects] ([ByRule]
-///   [entry]) trees.now fault.at fault.expected)</code>
+/// - `ensures expected`: <code>[IfErr] result (λ fault. [ExpectsEntry] trees.now fault.at
+///   fault.expected)</code>
 ///
 /// [IfOk]: crate::contracts#std.IfOk
 /// [IsEntryAt]: crate::contracts#declarations.Entry.IsEntryAt
@@ -71,11 +72,7 @@ pub struct Entry<'a> {
 /// [length]: crate::contracts#std.length
 /// [IfErr]: crate::contracts#std.IfErr
 /// [IsNoEntry]: crate::contracts#declarations.Entry.IsNoEntry
-/// [bare_first]: crate::contracts#declarations.Bare.bare_first
-/// [None]: crate::contracts#std.None
-/// [Expects]: crate::contracts#declarations.Expected.Expects
-/// [ByRule]: crate::contracts#declarations.rules.Pieces.ByRule
-/// [entry]: crate::contracts#declarations.rules.Entries.entry
+/// [ExpectsEntry]: crate::contracts#declarations.EntryExpects.ExpectsEntry
 pub fn parse_entry(trees: &[TokenTree]) -> Result<(Entry<'_>, &[TokenTree]), Fault>
 {
     match split_bare(trees) {
@@ -135,7 +132,8 @@ fn near_held<'a>(
 /// The error in the trees before which the group is, for this error in the trees inside of the group.
 fn fault_within(group: &Group, inner: Fault) -> Fault
 {
-    Fault::at_span(0, Some(span_or(inner.span, group.span())))
+    let fault = Fault::at_span(0, Some(span_or(inner.span, group.span())));
+    fault.expecting(inner.expected())
 }
 
 /// The span, or else the other one.
@@ -155,7 +153,10 @@ fn go_on<'a>(
 {
     match args_of(after) {
         Ok((kind, rest)) => Ok((Entry { path, kind }, rest)),
-        Err(left) => Err(Fault::ahead_of(1 + (after.len() - left.len()), left)),
+        Err(left) => {
+            let fault = fault_by(&ENTRY_REST, after, left);
+            Err(fault.after(1 + (after.len() - left.len())))
+        }
     }
 }
 
@@ -249,32 +250,67 @@ pub(crate) fn whole_entry(trees: &[TokenTree]) -> Result<Entry<'_>, Fault>
             if rest.is_empty() {
                 Ok(entry)
             } else {
-                Err(fault_after_entry(trees, rest))
+                Err(fault_after_entry(trees, &entry, rest))
             }
         }
         Err(fault) => Err(fault),
     }
 }
 
-/// The error of trees that are left after an entry. It does not say what was expected after a group without delimiters.
-#[cold]
-fn fault_after_entry(trees: &[TokenTree], rest: &[TokenTree]) -> Fault
+/// Whether the entry is a path alone.
+fn is_path(kind: EntryKind<'_>) -> bool
 {
-    match split_bare(trees) {
-        Some(_) => Fault::ahead_of(trees.len() - rest.len(), rest),
-        None => fault_by(&ENTRY, trees, rest),
+    match kind {
+        EntryKind::Path => true,
+        EntryKind::List(_) | EntryKind::Value(_) | EntryKind::Literal(_) => false,
     }
 }
 
-/// The error after an entry in a list that neither `,` nor the end follows. It does not say what was expected after a
-/// group without delimiters.
+/// Whether a group without delimiters holds a path alone, with which the entry begins. The trees after the group are
+/// `after`, and those after the entry are `rest`.
 #[cold]
-pub(crate) fn fault_without_comma(trees: &[TokenTree], rest: &[TokenTree]) -> Fault
+fn holds_path(entry: &Entry<'_>, after: &[TokenTree], rest: &[TokenTree]) -> bool
+{
+    if rest.len() < after.len() {
+        return true;
+    }
+    is_path(entry.kind)
+}
+
+/// The signs with which the entry at the start of the trees could go on. The trees after the entry are `rest`.
+#[cold]
+fn onward(trees: &[TokenTree], entry: &Entry<'_>, rest: &[TokenTree]) -> Expected
 {
     match split_bare(trees) {
-        Some(_) => Fault::ahead_of(trees.len() - rest.len(), rest),
-        None => fault_at_comma(&ENTRY, trees, rest),
+        Some((_, after)) => {
+            if holds_path(entry, after, rest) {
+                expected_by(&ENTRY_REST, after)
+            } else {
+                expected_by(&Syntax::Nothing, after)
+            }
+        }
+        None => expected_by(&ENTRY, trees),
     }
+}
+
+/// The error of trees that are left after an entry.
+#[cold]
+fn fault_after_entry(trees: &[TokenTree], entry: &Entry<'_>, rest: &[TokenTree]) -> Fault
+{
+    Fault::ahead_of(trees.len() - rest.len(), rest).expecting(onward(trees, entry, rest))
+}
+
+/// The error after an entry in a list that neither `,` nor the end follows.
+#[cold]
+pub(crate) fn fault_without_comma(
+    trees: &[TokenTree],
+    entry: &Entry<'_>,
+    rest: &[TokenTree],
+) -> Fault
+{
+    let next = onward(trees, entry, rest);
+    let fault = Fault::ahead_of(trees.len() - rest.len(), rest);
+    fault.expecting(next.with(SignClass::Comma).with_end())
 }
 
 /// The entry that all of the trees are, perhaps in a group without delimiters that holds no such group.
@@ -285,7 +321,7 @@ fn whole_near_entry(trees: &[TokenTree]) -> Result<Entry<'_>, Fault>
             if after.is_empty() {
                 Ok(entry)
             } else {
-                Err(Fault::ahead_of(trees.len() - after.len(), after))
+                Err(fault_after_entry(trees, &entry, after))
             }
         }
         Err(fault) => Err(fault),
@@ -300,7 +336,7 @@ fn whole_plain_entry(trees: &[TokenTree]) -> Result<Entry<'_>, Fault>
             if left.is_empty() {
                 Ok(entry)
             } else {
-                Err(Fault::ahead_of(trees.len() - left.len(), left))
+                Err(fault_by(&ENTRY, trees, left))
             }
         }
         Err(fault) => Err(fault),
@@ -407,7 +443,7 @@ fn literal(trees: &[TokenTree]) -> Result<&[TokenTree], &[TokenTree]>
 }
 
 /// Skips an expression.
-fn past_expression(trees: &[TokenTree]) -> Result<&[TokenTree], &[TokenTree]>
+pub(crate) fn past_expression(trees: &[TokenTree]) -> Result<&[TokenTree], &[TokenTree]>
 {
     let start = WalkState {
         item: Item::Alone,

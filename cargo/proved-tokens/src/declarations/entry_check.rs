@@ -3,7 +3,8 @@
 
 use crate::declarations::entry::{Entry, spot_of};
 use crate::declarations::entry_list::first_entry;
-use crate::declarations::fault::{are_same, or_span};
+use crate::declarations::expected::Expected;
+use crate::declarations::fault::{Fault, are_same, or_span, write_message};
 use crate::pm_span::Span;
 use crate::pm_stream::{Group, TokenTree};
 use crate::pm_token::Ident;
@@ -23,6 +24,9 @@ pub enum EntryProblem {
 }
 
 /// An error in a list of entries: its kind, where it is, and the names that are known.
+///
+/// Where there is no entry, the text of the error is that of a [`Fault`](crate::declarations::Fault), which says what
+/// was expected. Otherwise it names the entry.
 #[derive(Clone, Copy, Debug)]
 pub struct EntryError<'a> {
     /// The kind of error.
@@ -38,6 +42,8 @@ pub struct EntryError<'a> {
     pub name: Option<&'a Ident>,
     /// The names that are known.
     pub known: &'a [&'a str],
+    /// The signs that can come next, if there is no entry.
+    expected: Expected,
 }
 
 impl<'a> EntryError<'a> {
@@ -51,6 +57,20 @@ impl<'a> EntryError<'a> {
         self.span
     }
 
+    /// Returns the signs that could come where there is no entry, in place of what is there.
+    ///
+    /// This is the set of the [`Fault`](crate::declarations::Fault) that
+    /// [`Entries`](crate::declarations::Entries) gives there. It is empty if an entry has an unknown or a
+    /// repeated name. For `skip rename` it has `,`, `=` and the end, among others.
+    ///
+    /// # Contract
+    ///
+    /// - `ensures`: <code>result ≡ self.now.expected</code>
+    pub fn expected(&self) -> Expected
+    {
+        self.expected
+    }
+
     /// Returns the error of a list that is the trees in this group.
     ///
     /// If the error has no span, because the list ends too early, the result has the span of the group's closing
@@ -60,7 +80,7 @@ impl<'a> EntryError<'a> {
     ///
     /// - `ensures span`: <code>result.span ≡ [or_extent] self.entry.span ([closing_of] group.now)</code>
     /// - `ensures kept`: <code>(result.problem ≡ self.entry.problem) × (result.at ≡ self.entry.at) × (result.name ≡
-    ///   self.entry.name) × (result.known ≡ self.entry.known)</code>
+    ///   self.entry.name) × (result.known ≡ self.entry.known) × (result.expected ≡ self.entry.expected)</code>
     ///
     /// [or_extent]: crate::contracts#declarations.Ending.or_extent
     /// [closing_of]: crate::contracts#declarations.Ending.closing_of
@@ -72,6 +92,7 @@ impl<'a> EntryError<'a> {
             span: or_span(self.span, Some(group.span_close())),
             name: self.name,
             known: self.known,
+            expected: self.expected,
         }
     }
 }
@@ -84,7 +105,7 @@ impl<'a> EntryError<'a> {
 /// nothing.
 ///
 /// If `skip` and `rename` are known, the list `skip, renam = "a"` has an error at `renam`, after 2 trees. Its text is
-/// "unknown entry `renam`; known are `skip`, `rename`".
+/// "unknown entry `renam`; known are `skip`, `rename`". For `rename = ,` it is "expected an expression".
 ///
 /// # Contract
 ///
@@ -120,13 +141,14 @@ pub fn check_entries<'a>(list: &'a [TokenTree], known: &'a [&'a str]) -> Result<
             }
             Err(fault) => {
                 let at = before + fault.at;
-                return Err(wrong(EntryProblem::NoEntry, at, fault.span, None, known));
+                return Err(no_entry(at, fault, known));
             }
         }
     }
     Ok(())
 }
 
+/// The error of an entry with an unknown or a repeated name.
 fn wrong<'a>(
     problem: EntryProblem,
     at: usize,
@@ -141,6 +163,20 @@ fn wrong<'a>(
         span,
         name,
         known,
+        expected: Expected::nothing(),
+    }
+}
+
+/// The error after `at` trees where no entry can be read.
+fn no_entry<'a>(at: usize, fault: Fault, known: &'a [&'a str]) -> EntryError<'a>
+{
+    EntryError {
+        problem: EntryProblem::NoEntry,
+        at,
+        span: fault.span,
+        name: None,
+        known,
+        expected: fault.expected(),
     }
 }
 
@@ -158,7 +194,7 @@ fn place_of(entry: &Entry<'_>, known: &[&str]) -> usize
 }
 
 impl<'a> PartialEq for EntryError<'a> {
-    /// Whether both errors have the same kind, position and span. The known names do not matter.
+    /// Whether both errors have the same kind, position and span. The known names and the expected signs do not matter.
     fn eq(&self, other: &EntryError<'a>) -> bool {
         number_of(self.problem) == number_of(other.problem)
             && (self.at == other.at && are_same(self.span, other.span))
@@ -231,7 +267,7 @@ fn write_quoted<W: fmt::Write>(word: &str, f: &mut fmt::Formatter<W>) -> fmt::Re
 impl<'a> Display for EntryError<'a> {
     fn fmt<W: fmt::Write>(&self, f: &mut fmt::Formatter<W>) -> fmt::Result {
         match self.problem {
-            EntryProblem::NoEntry => f.write_str("not expected here"),
+            EntryProblem::NoEntry => write_message(self.span, self.expected, f),
             EntryProblem::Unknown => {
                 f.write_str("unknown entry")?;
                 write_name(self.name, f)?;

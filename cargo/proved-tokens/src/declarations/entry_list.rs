@@ -68,7 +68,7 @@ pub(crate) fn first_entry(trees: &[TokenTree]) -> Result<(Entry<'_>, &[TokenTree
     match parse_entry(trees) {
         Ok((entry, rest)) => match past_comma(rest) {
             Some(left) => Ok((entry, left)),
-            None => Err(fault_without_comma(trees, rest)),
+            None => Err(fault_without_comma(trees, &entry, rest)),
         },
         Err(fault) => Err(fault),
     }

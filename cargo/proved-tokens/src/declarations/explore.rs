@@ -270,6 +270,13 @@ pub(crate) fn fault_by(syntax: &Syntax<'_>, trees: &[TokenTree], left: &[TokenTr
     Fault::ahead_of(trees.len() - left.len(), left).expecting(expected_by(syntax, trees))
 }
 
+/// The error after `at` trees, where a sign that passes the test is missing.
+#[cold]
+pub(crate) fn fault_at_sign(test: Test, at: usize, left: &[TokenTree]) -> Fault
+{
+    Fault::ahead_of(at, left).expecting(no_sign(test, left).next)
+}
+
 /// The error of trees that begin with a part by the rule, after which neither `,` nor the end comes.
 #[cold]
 pub(crate) fn fault_at_comma(syntax: &Syntax<'_>, trees: &[TokenTree], rest: &[TokenTree]) -> Fault

@@ -13,8 +13,7 @@ use crate::shim::fmt::Display;
 /// `::` and `'a`. A group is one tree, and its span is that of the whole group with its delimiters.
 ///
 /// The text of the error says which signs were expected, with four names at most: "expected `:`" for the field `x u8`,
-/// and "the declaration ends too early, expected a type" for `x:`, where the span is `None`. If the call does not say
-/// what it expected, the text is "not expected here" or "the declaration ends too early".
+/// and "the declaration ends too early, expected a type" for `x:`, where the span is `None`.
 ///
 /// In `struct S { } x` the error is after 3 trees, at `x`. In `struct S` it is after 2 trees, and has no span.
 ///
@@ -120,8 +119,9 @@ impl Fault {
     /// part that they could not read. If `,` is missing after a part of a list, the set has `,`, the end and the signs
     /// with which the part could go on. For the list `a: A b: B` it has `,`, `<` and `::`, among others.
     ///
-    /// The set is empty if the call does not say what it expected. This is so for `within_generics` and `after_where`,
-    /// and for entries in groups without delimiters.
+    /// The error of an entry can be in a group without delimiters. Then the set has the signs that could come in this
+    /// group, and the end in it is that of the group. `within_generics` and `after_where` do not read the trees in the
+    /// brackets and after `where`, so their sets have only `<`, `>` or `where`, which is missing.
     ///
     /// # Contract
     ///
@@ -164,14 +164,24 @@ pub(crate) fn are_same(span: Option<Span>, other: Option<Span>) -> bool
 
 impl fmt::Display for Fault {
     fn fmt<W: fmt::Write>(&self, f: &mut fmt::Formatter<W>) -> fmt::Result {
-        match self.span {
-            Some(_) => write_unexpected(self.expected, f),
-            None => write_early(self.expected, f),
-        }
+        write_message(self.span, self.expected, f)
     }
 }
 
 crate::shim::display!(Fault);
+
+/// Writes the text of an error at a tree with this span, or at the end of the trees.
+pub(crate) fn write_message<W: fmt::Write>(
+    span: Option<Span>,
+    expected: Expected,
+    f: &mut fmt::Formatter<W>,
+) -> fmt::Result
+{
+    match span {
+        Some(_) => write_unexpected(expected, f),
+        None => write_early(expected, f),
+    }
+}
 
 /// Writes the text of an error at a tree.
 fn write_unexpected<W: fmt::Write>(expected: Expected, f: &mut fmt::Formatter<W>) -> fmt::Result

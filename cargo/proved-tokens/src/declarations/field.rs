@@ -1,9 +1,15 @@
 // Made from crates/declarations/src/field.rt by dev/erase: change that file, not this one.
 //! The fields of a struct, a variant or a union.
 
+use crate::declarations::explore::fault_by;
 use crate::declarations::fault::Fault;
-use crate::declarations::item::split_name;
-use crate::declarations::part_splitting::{split_attributes, split_field, split_tuple_field, split_visibility};
+use crate::declarations::front::front_of;
+use crate::declarations::function::name_of;
+use crate::declarations::parameter::past_type;
+use crate::declarations::reader::{is, part};
+use crate::declarations::signs::first_sign;
+use crate::declarations::syntax::{FIELD, TUPLE_FIELD};
+use crate::item_tables::class::SignClass;
 use crate::pm_stream::TokenTree;
 use crate::pm_token::Ident;
 
@@ -22,8 +28,8 @@ pub struct Field<'a> {
 
 /// Returns the parts of the named field at the start of the trees, and the trees after it.
 ///
-/// It reads the same trees as [`split_field`], and returns the same errors. For `#[a] pub x: Vec<A, B>, y: C` the name
-/// is `x`, the type is `Vec<A, B>`, and the rest is `, y: C`.
+/// It reads the same trees as [`split_field`](crate::declarations::split_field), and returns the same errors. For
+/// `#[a] pub x: Vec<A, B>, y: C` the name is `x`, the type is `Vec<A, B>`, and the rest is `, y: C`.
 ///
 /// # Contract
 ///
@@ -44,17 +50,16 @@ pub struct Field<'a> {
 /// [Expects]: crate::contracts#declarations.Expected.Expects
 pub fn parse_field(trees: &[TokenTree]) -> Result<(Field<'_>, &[TokenTree]), Fault>
 {
-    let (part, rest) = split_field(trees)?;
-    match named_field(part) {
-        Ok(field) => Ok((field, rest)),
-        Err(fault) => Err(fault),
+    match field_of(trees) {
+        Ok((field, rest)) => Ok((field, rest)),
+        Err(left) => Err(fault_by(&FIELD, trees, left)),
     }
 }
 
 /// Returns the parts of the field without a name at the start of the trees, and the trees after it.
 ///
-/// It reads the same trees as [`split_tuple_field`], and returns the same errors. For `pub (A, B), C` the type is
-/// `(A, B)`, and the rest is `, C`.
+/// It reads the same trees as [`split_tuple_field`](crate::declarations::split_tuple_field), and returns the same
+/// errors. For `pub (A, B), C` the type is `(A, B)`, and the rest is `, C`.
 ///
 /// # Contract
 ///
@@ -75,39 +80,80 @@ pub fn parse_field(trees: &[TokenTree]) -> Result<(Field<'_>, &[TokenTree]), Fau
 /// [Expects]: crate::contracts#declarations.Expected.Expects
 pub fn parse_tuple_field(trees: &[TokenTree]) -> Result<(Field<'_>, &[TokenTree]), Fault>
 {
-    let (part, rest) = split_tuple_field(trees)?;
-    match tuple_field(part) {
-        Ok(field) => Ok((field, rest)),
-        Err(fault) => Err(fault),
+    match tuple_field_of(trees) {
+        Ok((field, rest)) => Ok((field, rest)),
+        Err(left) => Err(fault_by(&TUPLE_FIELD, trees, left)),
     }
 }
 
-/// The parts of a named field that is all of the trees.
-fn named_field(trees: &[TokenTree]) -> Result<Field<'_>, Fault>
+/// Reads a named field. Returns it and the trees after it, or the trees from the error on.
+fn field_of(trees: &[TokenTree]) -> Result<(Field<'_>, &[TokenTree]), &[TokenTree]>
 {
-    let (attributes, rest) = split_attributes(trees)?;
-    let (visibility, rest) = split_visibility(rest)?;
-    let (name, rest) = split_name(rest)?;
-    match rest.split_first() {
-        Some((_, field_type)) => Ok(Field {
-            attributes,
-            visibility,
-            name: Some(name),
-            field_type,
-        }),
-        None => Err(Fault::ahead_of(0, rest)),
+    match front_of(trees) {
+        Ok((front, from_name)) => match named_type_of(from_name) {
+            Ok((name, field_type, rest)) => {
+                let field = Field {
+                    attributes: front.attributes,
+                    visibility: front.visibility,
+                    name: Some(name),
+                    field_type,
+                };
+                Ok((field, rest))
+            }
+            Err(left) => Err(left),
+        },
+        Err(left) => Err(left),
     }
 }
 
-/// The parts of a field without a name that is all of the trees.
-fn tuple_field(trees: &[TokenTree]) -> Result<Field<'_>, Fault>
+/// Reads a name, `:` and a type. Returns the name, the type and the trees after it.
+fn named_type_of(trees: &[TokenTree]) -> Result<(&Ident, &[TokenTree], &[TokenTree]), &[TokenTree]>
 {
-    let (attributes, rest) = split_attributes(trees)?;
-    let (visibility, field_type) = split_visibility(rest)?;
-    Ok(Field {
-        attributes,
-        visibility,
-        name: None,
-        field_type,
-    })
+    match name_of(trees) {
+        Ok((name, from_colon)) => match colon_type_of(from_colon) {
+            Ok((field_type, rest)) => Ok((name, field_type, rest)),
+            Err(left) => Err(left),
+        },
+        Err(left) => Err(left),
+    }
+}
+
+/// Reads `:` and a type. Returns the type and the trees after it.
+fn colon_type_of(trees: &[TokenTree]) -> Result<(&[TokenTree], &[TokenTree]), &[TokenTree]>
+{
+    match first_sign(trees) {
+        Some((class, from_type)) => {
+            if is(SignClass::Colon, class) {
+                match past_type(from_type) {
+                    Ok(rest) => Ok((part(from_type, rest), rest)),
+                    Err(left) => Err(left),
+                }
+            } else {
+                Err(trees)
+            }
+        }
+        None => Err(trees),
+    }
+}
+
+/// Reads a field without a name. Returns it and the trees after it, or the trees from the error on.
+///
+/// Parentheses after `pub` that can be a restriction are one, as the rule `tuple-field` says.
+fn tuple_field_of(trees: &[TokenTree]) -> Result<(Field<'_>, &[TokenTree]), &[TokenTree]>
+{
+    match front_of(trees) {
+        Ok((front, from_type)) => match past_type(from_type) {
+            Ok(rest) => {
+                let field = Field {
+                    attributes: front.attributes,
+                    visibility: front.visibility,
+                    name: None,
+                    field_type: part(from_type, rest),
+                };
+                Ok((field, rest))
+            }
+            Err(left) => Err(left),
+        },
+        Err(left) => Err(left),
+    }
 }

@@ -3,6 +3,7 @@
 
 use crate::declarations::explore::fault_by;
 use crate::declarations::fault::Fault;
+use crate::declarations::front::past_visibility;
 use crate::declarations::item::{split_group, split_name, split_parentheses};
 use crate::declarations::parameter::{past_attributes, past_type};
 use crate::declarations::reader::{begins_identifier, begins_mark, is, part, past};
@@ -89,7 +90,7 @@ pub fn parse_function(trees: &[TokenTree]) -> Result<Function<'_>, Fault>
 fn function_of(trees: &[TokenTree]) -> Result<(Function<'_>, &[TokenTree]), &[TokenTree]>
 {
     let from_visibility = past_attributes(trees)?;
-    let from_qualifiers = past_visibility(from_visibility)?;
+    let from_qualifiers = past_visibility(from_visibility);
     let from_fn = past_qualifiers(from_qualifiers);
     let from_name = past(from_fn, SignClass::Keyword(Keyword::Fn))?;
     let (name, from_generics) = name_of(from_name)?;
@@ -111,23 +112,6 @@ fn function_of(trees: &[TokenTree]) -> Result<(Function<'_>, &[TokenTree]), &[To
 }
 
 // ---- parts that are read by the tables
-
-/// Skips a visibility, if one is next.
-pub(crate) fn past_visibility(trees: &[TokenTree]) -> Result<&[TokenTree], &[TokenTree]>
-{
-    match first_sign(trees) {
-        Some((class, rest)) => {
-            if is(SignClass::Keyword(Keyword::Pub), class) {
-                return Ok(may(rest, SignClass::Restriction));
-            }
-            if is(SignClass::Visibility, class) {
-                return Ok(rest);
-            }
-            Ok(trees)
-        }
-        None => Ok(trees),
-    }
-}
 
 /// Skips generic parameters, if they are next.
 pub(crate) fn past_generics(trees: &[TokenTree]) -> Result<&[TokenTree], &[TokenTree]>
@@ -237,7 +221,7 @@ pub(crate) fn is_name(class: SignClass) -> bool
 }
 
 /// The name at the start of the trees, and the trees after it.
-fn name_of(trees: &[TokenTree]) -> Result<(&Ident, &[TokenTree]), &[TokenTree]>
+pub(crate) fn name_of(trees: &[TokenTree]) -> Result<(&Ident, &[TokenTree]), &[TokenTree]>
 {
     match split_name(trees) {
         Ok((name, rest)) => {

@@ -1,10 +1,11 @@
 // Made from crates/declarations/src/generics.rt by dev/erase: change that file, not this one.
 //! Generic parameters and the predicates of where clauses, one at a time.
 
-use crate::declarations::explore::{fault_at_comma, fault_by};
+use crate::declarations::explore::{fault_at_comma, fault_at_sign, fault_by};
 use crate::declarations::fault::Fault;
 use crate::declarations::param_parts::{param_of, past_end, predicate_of};
-use crate::declarations::syntax::{GENERIC, PREDICATE};
+use crate::declarations::syntax::{GENERIC, PREDICATE, Test};
+use crate::item_tables::class::{Keyword, SignClass};
 use crate::pm_stream::TokenTree;
 
 /// The kind of a generic parameter.
@@ -45,19 +46,21 @@ pub struct Predicate<'a> {
 /// Returns the trees between the angle brackets of an item's generic parameters.
 ///
 /// For `<'a, T>` it returns `'a, T`, and for no trees it returns none. All other trees give a `Fault`: at the first
-/// tree if it is not `<`, and otherwise at the end.
+/// tree if it is not `<`, and otherwise at the end. Its expected sign is the `<` or the `>` that is missing.
 ///
 /// # Contract
 ///
 /// - `ensures ok`: <code>[IfOk] result (λ inside. [IsWithin] generics.now inside.now)</code>
 /// - `ensures fault`: <code>[IfErr] result (λ fault. (inside : [List] Tree) → [IsWithin] generics.now inside →
 ///   ⊥)</code>
+/// - `ensures place`: <code>[IfErr] result (λ fault. [LacksBracket] generics.now fault)</code>
 /// - `ensures span`: <code>[IfErr] result (λ fault. fault.span ≡ [extent_at] generics.now fault.at)</code>
 ///
 /// [IfOk]: crate::contracts#std.IfOk
 /// [IsWithin]: crate::contracts#declarations.Param.IsWithin
 /// [IfErr]: crate::contracts#std.IfErr
 /// [List]: crate::contracts#std.List
+/// [LacksBracket]: crate::contracts#declarations.Param.LacksBracket
 /// [extent_at]: crate::contracts#declarations.Fault.extent_at
 pub fn within_generics(generics: &[TokenTree]) -> Result<&[TokenTree], Fault>
 {
@@ -65,37 +68,46 @@ pub fn within_generics(generics: &[TokenTree]) -> Result<&[TokenTree], Fault>
         return Ok(generics);
     };
     if !is_mark_of('<', open) {
-        return Err(Fault::ahead_of(0, generics));
+        return Err(fault_at_sign(Test::Opens, 0, generics));
     }
     match rest.split_last() {
         Some((close, inside)) if is_mark_of('>', close) => Ok(inside),
-        _ => Err(Fault::ahead_of(generics.len(), generics.split_at(generics.len()).1)),
+        _ => {
+            let (_, end) = generics.split_at(generics.len());
+            Err(fault_at_sign(Test::Is(SignClass::Greater), generics.len(), end))
+        }
     }
 }
 
 /// Returns the trees after the `where` of an item's where clause.
 ///
 /// For `where T: A,` it returns `T: A,`, and for no trees it returns none. All other trees give a `Fault` at the first
-/// one.
+/// one, which expects `where`.
 ///
 /// # Contract
 ///
 /// - `ensures ok`: <code>[IfOk] result (λ inside. [IsAfterWhere] where_clause.now inside.now)</code>
 /// - `ensures fault`: <code>[IfErr] result (λ fault. (inside : [List] Tree) → [IsAfterWhere] where_clause.now
 ///   inside → ⊥)</code>
+/// - `ensures place`: <code>[IfErr] result (λ fault. [LacksWhere] fault)</code>
 /// - `ensures span`: <code>[IfErr] result (λ fault. fault.span ≡ [extent_at] where_clause.now fault.at)</code>
 ///
 /// [IfOk]: crate::contracts#std.IfOk
 /// [IsAfterWhere]: crate::contracts#declarations.Param.IsAfterWhere
 /// [IfErr]: crate::contracts#std.IfErr
 /// [List]: crate::contracts#std.List
+/// [LacksWhere]: crate::contracts#declarations.Param.LacksWhere
 /// [extent_at]: crate::contracts#declarations.Fault.extent_at
 pub fn after_where(where_clause: &[TokenTree]) -> Result<&[TokenTree], Fault>
 {
     match where_clause.split_first() {
         None => Ok(where_clause),
         Some((TokenTree::Ident(word), rest)) if word.eq_str("where") => Ok(rest),
-        Some(_) => Err(Fault::ahead_of(0, where_clause)),
+        Some(_) => Err(fault_at_sign(
+            Test::Is(SignClass::Keyword(Keyword::Where)),
+            0,
+            where_clause,
+        )),
     }
 }
 

@@ -3,7 +3,8 @@
 
 use crate::declarations::explore::fault_by;
 use crate::declarations::fault::Fault;
-use crate::declarations::function::{is_name, may, past_generics, past_visibility, past_where};
+use crate::declarations::front::past_visibility;
+use crate::declarations::function::{is_name, may, past_generics, past_where};
 use crate::declarations::item::split_braces;
 use crate::declarations::parameter::{past_attributes, past_type};
 use crate::declarations::reader::{is, part};
@@ -131,23 +132,21 @@ struct Front<'a> {
 fn front_of(trees: &[TokenTree]) -> Result<(Front<'_>, &[TokenTree]), &[TokenTree]>
 {
     match past_attributes(trees) {
-        Ok(from_visibility) => match past_visibility(from_visibility) {
-            Ok(from_qualifiers) => {
-                let from_impl = past_impl_qualifiers(from_qualifiers);
-                match past_impl(from_impl) {
-                    Ok(rest) => {
-                        let front = Front {
-                            attributes: part(trees, from_visibility),
-                            visibility: part(from_visibility, from_qualifiers),
-                            qualifiers: part(from_qualifiers, from_impl),
-                        };
-                        Ok((front, rest))
-                    }
-                    Err(left) => Err(left),
+        Ok(from_visibility) => {
+            let from_qualifiers = past_visibility(from_visibility);
+            let from_impl = past_impl_qualifiers(from_qualifiers);
+            match past_impl(from_impl) {
+                Ok(rest) => {
+                    let front = Front {
+                        attributes: part(trees, from_visibility),
+                        visibility: part(from_visibility, from_qualifiers),
+                        qualifiers: part(from_qualifiers, from_impl),
+                    };
+                    Ok((front, rest))
                 }
+                Err(left) => Err(left),
             }
-            Err(left) => Err(left),
-        },
+        }
         Err(left) => Err(left),
     }
 }
@@ -398,13 +397,15 @@ fn may_for(trees: &[TokenTree]) -> Option<&[TokenTree]>
 
 /// The parts of an `impl` after the type.
 #[derive(Clone, Copy)]
-struct End<'a> {
-    where_clause: &'a [TokenTree],
-    body: &'a Group,
+pub(crate) struct End<'a> {
+    /// The where clause, or no trees.
+    pub where_clause: &'a [TokenTree],
+    /// The body in braces.
+    pub body: &'a Group,
 }
 
 /// Reads a where clause and a body in braces. Returns them and the trees after them.
-fn end_of(trees: &[TokenTree]) -> Result<(End<'_>, &[TokenTree]), &[TokenTree]>
+pub(crate) fn end_of(trees: &[TokenTree]) -> Result<(End<'_>, &[TokenTree]), &[TokenTree]>
 {
     match past_where(trees) {
         Ok(from_body) => match split_braces(from_body) {

@@ -1,12 +1,15 @@
 // Made from crates/declarations/src/item.rt by dev/erase: change that file, not this one.
 //! Structs, enums and unions, as a derive macro gets them.
 
+use crate::declarations::explore::fault_by;
 use crate::declarations::fault::Fault;
-use crate::declarations::part_splitting::{split_attributes, split_generics, split_visibility, split_where};
-use crate::declarations::signs::name_class;
-use crate::declarations::walk::read_whole;
-use crate::item_tables::class::{Keyword, SignClass};
-use crate::item_tables::walk_state::{Continuation, Item, Part, Spot, State, WalkState};
+use crate::declarations::front::front_of;
+use crate::declarations::function::{name_of, past_generics, past_where};
+use crate::declarations::implementation::end_of as braces_of;
+use crate::declarations::reader::{is, part};
+use crate::declarations::signs::{first_sign, name_class};
+use crate::declarations::syntax::TYPE_ITEM;
+use crate::item_tables::class::{Keyword, SignClass, Word};
 use crate::pm_stream::{Group, TokenTree};
 use crate::pm_token::{Delimiter, Ident};
 
@@ -85,112 +88,258 @@ pub enum Fields<'a> {
 /// [Expects]: crate::contracts#declarations.Expected.Expects
 pub fn parse_type_item(trees: &[TokenTree]) -> Result<TypeItem<'_>, Fault>
 {
-    let start = WalkState {
-        item: Item::Alone,
-        rule: Continuation::Alone,
-        state: State::At(Spot::Before(Part::TypeItem)),
-        depth: 0,
-    };
-    match read_whole(trees, start) {
-        Ok(()) => item_of(trees),
-        Err(fault) => Err(fault),
+    match item_of(trees) {
+        Ok((item, rest)) => {
+            if rest.is_empty() {
+                Ok(item)
+            } else {
+                Err(fault_by(&TYPE_ITEM, trees, rest))
+            }
+        }
+        Err(left) => Err(fault_by(&TYPE_ITEM, trees, left)),
     }
 }
 
-/// The parts of an item that is all of the trees.
-fn item_of(trees: &[TokenTree]) -> Result<TypeItem<'_>, Fault>
+/// Reads an item. Returns it and the trees after it, or the trees from the error on.
+pub(crate) fn item_of(trees: &[TokenTree]) -> Result<(TypeItem<'_>, &[TokenTree]), &[TokenTree]>
 {
-    let (attributes, rest) = split_attributes(trees)?;
-    let (visibility, rest) = split_visibility(rest)?;
-    let (keyword, rest) = split_name(rest)?;
-    let (name, rest) = split_name(rest)?;
-    let (generics, rest) = split_generics(rest)?;
-    let ending = ending_of(name_class(keyword), rest)?;
-    Ok(TypeItem {
-        attributes,
-        visibility,
-        keyword,
-        name,
-        generics,
-        where_clause: ending.where_clause,
-        body: ending.body,
-        semicolon: ending.semicolon,
-    })
+    match front_of(trees) {
+        Ok((front, from_keyword)) => match declared_of(from_keyword) {
+            Ok((keyword, named, rest)) => {
+                let item = TypeItem {
+                    attributes: front.attributes,
+                    visibility: front.visibility,
+                    keyword,
+                    name: named.name,
+                    generics: named.generics,
+                    where_clause: named.end.where_clause,
+                    body: named.end.body,
+                    semicolon: named.end.semicolon,
+                };
+                Ok((item, rest))
+            }
+            Err(left) => Err(left),
+        },
+        Err(left) => Err(left),
+    }
 }
 
-/// What comes after the generic parameters of an item.
+// ---- the keyword, the name and the generic parameters
+
+/// What the keyword of an item declares.
 #[derive(Clone, Copy)]
-struct Ending<'a> {
+enum Declared {
+    /// `struct`
+    Struct,
+    /// `enum`
+    Enum,
+    /// `union`
+    Union,
+}
+
+/// The parts of an item after its keyword.
+#[derive(Clone, Copy)]
+struct Named<'a> {
+    name: &'a Ident,
+    generics: &'a [TokenTree],
+    end: End<'a>,
+}
+
+/// The parts of an item after its generic parameters.
+#[derive(Clone, Copy)]
+struct End<'a> {
     where_clause: &'a [TokenTree],
     body: Body<'a>,
     semicolon: &'a [TokenTree],
 }
 
-fn ending_of<'a>(keyword: SignClass, trees: &'a [TokenTree]) -> Result<Ending<'a>, Fault>
+/// Reads an item from its keyword on. Returns the keyword, the parts after it, and the trees after the item.
+fn declared_of(trees: &[TokenTree]) -> Result<(&Ident, Named<'_>, &[TokenTree]), &[TokenTree]>
 {
-    match keyword {
-        SignClass::Keyword(Keyword::Struct) => struct_ending(trees),
-        SignClass::Keyword(Keyword::Enum) => {
-            let (where_clause, variants, semicolon) = braces_of(trees)?;
-            Ok(Ending {
-                where_clause,
-                body: Body::Enum(variants),
-                semicolon,
-            })
-        }
-        _ => {
-            let (where_clause, fields, semicolon) = braces_of(trees)?;
-            Ok(Ending {
-                where_clause,
-                body: Body::Union(fields),
-                semicolon,
-            })
-        }
+    match keyword_of(trees) {
+        Ok((keyword, declared, from_name)) => match named_of(declared, from_name) {
+            Ok((named, rest)) => Ok((keyword, named, rest)),
+            Err(left) => Err(left),
+        },
+        Err(left) => Err(left),
     }
 }
 
-fn struct_ending(trees: &[TokenTree]) -> Result<Ending<'_>, Fault>
+/// What a sign of this class declares.
+fn declared_by(class: SignClass) -> Option<Declared>
+{
+    match class {
+        SignClass::Keyword(Keyword::Struct) => Some(Declared::Struct),
+        SignClass::Keyword(Keyword::Enum) => Some(Declared::Enum),
+        SignClass::Word(Word::Union) => Some(Declared::Union),
+        _ => None,
+    }
+}
+
+/// Reads the keyword of an item. Returns it, what it declares, and the trees after it.
+fn keyword_of(trees: &[TokenTree]) -> Result<(&Ident, Declared, &[TokenTree]), &[TokenTree]>
+{
+    match split_name(trees) {
+        Ok((keyword, rest)) => match declared_by(name_class(keyword)) {
+            Some(declared) => Ok((keyword, declared, rest)),
+            None => Err(trees),
+        },
+        Err(_) => Err(trees),
+    }
+}
+
+/// Reads an item from its name on. Returns the parts and the trees after them.
+fn named_of(
+    declared: Declared,
+    trees: &[TokenTree],
+) -> Result<(Named<'_>, &[TokenTree]), &[TokenTree]>
+{
+    match name_of(trees) {
+        Ok((name, from_generics)) => match past_generics(from_generics) {
+            Ok(from_end) => match end_of(declared, from_end) {
+                Ok((end, rest)) => {
+                    let generics = part(from_generics, from_end);
+                    Ok((
+                        Named {
+                            name,
+                            generics,
+                            end,
+                        },
+                        rest,
+                    ))
+                }
+                Err(left) => Err(left),
+            },
+            Err(left) => Err(left),
+        },
+        Err(left) => Err(left),
+    }
+}
+
+// ---- after the generic parameters
+
+/// Reads what comes after the generic parameters. Returns the parts and the trees after them.
+fn end_of(declared: Declared, trees: &[TokenTree]) -> Result<(End<'_>, &[TokenTree]), &[TokenTree]>
+{
+    match declared {
+        Declared::Struct => struct_end(trees),
+        Declared::Enum => enum_end(trees),
+        Declared::Union => union_end(trees),
+    }
+}
+
+/// Reads what comes after the generic parameters of an enum. Returns the parts and the trees after them.
+fn enum_end(trees: &[TokenTree]) -> Result<(End<'_>, &[TokenTree]), &[TokenTree]>
+{
+    match braces_of(trees) {
+        Ok((braces, rest)) => {
+            let end = End {
+                where_clause: braces.where_clause,
+                body: Body::Enum(braces.body),
+                semicolon: &[],
+            };
+            Ok((end, rest))
+        }
+        Err(left) => Err(left),
+    }
+}
+
+/// Reads what comes after the generic parameters of a union. Returns the parts and the trees after them.
+fn union_end(trees: &[TokenTree]) -> Result<(End<'_>, &[TokenTree]), &[TokenTree]>
+{
+    match braces_of(trees) {
+        Ok((braces, rest)) => {
+            let end = End {
+                where_clause: braces.where_clause,
+                body: Body::Union(braces.body),
+                semicolon: &[],
+            };
+            Ok((end, rest))
+        }
+        Err(left) => Err(left),
+    }
+}
+
+/// Reads what comes after the generic parameters of a struct. Returns the parts and the trees after them.
+fn struct_end(trees: &[TokenTree]) -> Result<(End<'_>, &[TokenTree]), &[TokenTree]>
 {
     match split_parentheses(trees) {
-        Some((fields, rest)) => {
-            let (where_clause, semicolon) = split_where(rest)?;
-            Ok(Ending {
-                where_clause,
-                body: Body::Struct(Fields::Tuple(fields)),
-                semicolon,
-            })
+        Some((fields, from_clause)) => match clause_end_of(from_clause) {
+            Ok((where_clause, semicolon, rest)) => {
+                let end = End {
+                    where_clause,
+                    body: Body::Struct(Fields::Tuple(fields)),
+                    semicolon,
+                };
+                Ok((end, rest))
+            }
+            Err(left) => Err(left),
+        },
+        None => plain_end(trees),
+    }
+}
+
+/// Reads a where clause and `;`. Returns both and the trees after them.
+fn clause_end_of(
+    trees: &[TokenTree],
+) -> Result<(&[TokenTree], &[TokenTree], &[TokenTree]), &[TokenTree]>
+{
+    match past_where(trees) {
+        Ok(from_semicolon) => match semicolon_of(from_semicolon) {
+            Ok((semicolon, rest)) => Ok((part(trees, from_semicolon), semicolon, rest)),
+            Err(left) => Err(left),
+        },
+        Err(left) => Err(left),
+    }
+}
+
+/// Reads the end of a struct that has no fields in parentheses. Returns the parts and the trees after them.
+fn plain_end(trees: &[TokenTree]) -> Result<(End<'_>, &[TokenTree]), &[TokenTree]>
+{
+    match past_where(trees) {
+        Ok(from_body) => match body_of(from_body) {
+            Ok((fields, semicolon, rest)) => {
+                let end = End {
+                    where_clause: part(trees, from_body),
+                    body: Body::Struct(fields),
+                    semicolon,
+                };
+                Ok((end, rest))
+            }
+            Err(left) => Err(left),
+        },
+        Err(left) => Err(left),
+    }
+}
+
+/// Reads braces or `;`. Returns the fields in the braces, the `;`, and the trees after them.
+fn body_of(trees: &[TokenTree]) -> Result<(Fields<'_>, &[TokenTree], &[TokenTree]), &[TokenTree]>
+{
+    match split_braces(trees) {
+        Some((group, rest)) => Ok((Fields::Named(group), &[], rest)),
+        None => match semicolon_of(trees) {
+            Ok((semicolon, rest)) => Ok((Fields::Unit, semicolon, rest)),
+            Err(left) => Err(left),
+        },
+    }
+}
+
+/// Reads `;`. Returns it and the trees after it.
+fn semicolon_of(trees: &[TokenTree]) -> Result<(&[TokenTree], &[TokenTree]), &[TokenTree]>
+{
+    match first_sign(trees) {
+        Some((class, rest)) => {
+            if is(SignClass::Semicolon, class) {
+                Ok((part(trees, rest), rest))
+            } else {
+                Err(trees)
+            }
         }
-        None => plain_ending(trees),
+        None => Err(trees),
     }
 }
 
-/// The end of a struct that has no fields in parentheses.
-fn plain_ending(trees: &[TokenTree]) -> Result<Ending<'_>, Fault>
-{
-    let (where_clause, rest) = split_where(trees)?;
-    match split_group(rest) {
-        Some((group, after)) => Ok(Ending {
-            where_clause,
-            body: Body::Struct(Fields::Named(group)),
-            semicolon: after,
-        }),
-        None => Ok(Ending {
-            where_clause,
-            body: Body::Struct(Fields::Unit),
-            semicolon: rest,
-        }),
-    }
-}
-
-/// A where clause, the braces after it, and the trees after the braces.
-fn braces_of(trees: &[TokenTree]) -> Result<(&[TokenTree], &Group, &[TokenTree]), Fault>
-{
-    let (where_clause, rest) = split_where(trees)?;
-    match split_group(rest) {
-        Some((group, after)) => Ok((where_clause, group, after)),
-        None => Err(Fault::ahead_of(0, rest)),
-    }
-}
+// ---- single trees
 
 /// The identifier that the trees begin with, and the trees after it.
 pub(crate) fn split_name(trees: &[TokenTree]) -> Result<(&Ident, &[TokenTree]), Fault>

@@ -1,10 +1,16 @@
 // Made from crates/declarations/src/part_splitting.rt by dev/erase: change that file, not this one.
 //! Calls that split a part of a declaration off the start of trees.
 
+use crate::declarations::explore::fault_by;
 use crate::declarations::fault::Fault;
-use crate::declarations::function::{past_generics, past_visibility, past_where};
+use crate::declarations::field::{parse_field, parse_tuple_field};
+use crate::declarations::front::past_visibility;
+use crate::declarations::function::{past_generics, past_where};
+use crate::declarations::item::item_of;
 use crate::declarations::parameter::past_attributes;
 use crate::declarations::reader::part;
+use crate::declarations::syntax::TYPE_ITEM;
+use crate::declarations::variant::parse_variant;
 use crate::declarations::walk::split_from;
 use crate::item_tables::types::TypeState;
 use crate::item_tables::walk_state::{Continuation, Item, Part, Spot, State, WalkState};
@@ -150,14 +156,8 @@ pub fn split_attributes(trees: &[TokenTree]) -> Result<(&[TokenTree], &[TokenTre
 /// [Expects]: crate::contracts#declarations.Expected.Expects
 pub fn split_visibility(trees: &[TokenTree]) -> Result<(&[TokenTree], &[TokenTree]), Fault>
 {
-    match past_visibility(trees) {
-        Ok(rest) => Ok((part(trees, rest), rest)),
-        Err(_) => split_alone(
-            trees,
-            Continuation::Alone,
-            State::At(Spot::Before(Part::Visibility)),
-        ),
-    }
+    let rest = past_visibility(trees);
+    Ok((part(trees, rest), rest))
 }
 
 /// Returns the named field at the start of the trees, with attributes and visibility, and the trees after it.
@@ -183,11 +183,10 @@ pub fn split_visibility(trees: &[TokenTree]) -> Result<(&[TokenTree], &[TokenTre
 /// [Expects]: crate::contracts#declarations.Expected.Expects
 pub fn split_field(trees: &[TokenTree]) -> Result<(&[TokenTree], &[TokenTree]), Fault>
 {
-    split_alone(
-        trees,
-        Continuation::Alone,
-        State::At(Spot::Before(Part::Field)),
-    )
+    match parse_field(trees) {
+        Ok((_, rest)) => Ok((part(trees, rest), rest)),
+        Err(fault) => Err(fault),
+    }
 }
 
 /// Returns the field without a name at the start of the trees, with attributes and visibility, and the trees after it.
@@ -215,11 +214,10 @@ pub fn split_field(trees: &[TokenTree]) -> Result<(&[TokenTree], &[TokenTree]), 
 /// [Expects]: crate::contracts#declarations.Expected.Expects
 pub fn split_tuple_field(trees: &[TokenTree]) -> Result<(&[TokenTree], &[TokenTree]), Fault>
 {
-    split_alone(
-        trees,
-        Continuation::Alone,
-        State::At(Spot::Before(Part::TupleField)),
-    )
+    match parse_tuple_field(trees) {
+        Ok((_, rest)) => Ok((part(trees, rest), rest)),
+        Err(fault) => Err(fault),
+    }
 }
 
 /// Returns the named fields at the start of the trees, perhaps none, and the trees after them.
@@ -311,11 +309,10 @@ pub fn split_tuple_fields(trees: &[TokenTree]) -> Result<(&[TokenTree], &[TokenT
 /// [Expects]: crate::contracts#declarations.Expected.Expects
 pub fn split_variant(trees: &[TokenTree]) -> Result<(&[TokenTree], &[TokenTree]), Fault>
 {
-    split_alone(
-        trees,
-        Continuation::Alone,
-        State::At(Spot::Before(Part::Variant)),
-    )
+    match parse_variant(trees) {
+        Ok((_, rest)) => Ok((part(trees, rest), rest)),
+        Err(fault) => Err(fault),
+    }
 }
 
 /// Returns the variants at the start of the trees, perhaps none, and the trees after them.
@@ -468,11 +465,10 @@ pub fn split_where(trees: &[TokenTree]) -> Result<(&[TokenTree], &[TokenTree]), 
 /// [Expects]: crate::contracts#declarations.Expected.Expects
 pub fn split_item(trees: &[TokenTree]) -> Result<(&[TokenTree], &[TokenTree]), Fault>
 {
-    split_alone(
-        trees,
-        Continuation::Alone,
-        State::At(Spot::Before(Part::TypeItem)),
-    )
+    match item_of(trees) {
+        Ok((_, rest)) => Ok((part(trees, rest), rest)),
+        Err(left) => Err(fault_by(&TYPE_ITEM, trees, left)),
+    }
 }
 
 /// Returns the inner attributes at the start of the trees, perhaps none, and the trees after them.

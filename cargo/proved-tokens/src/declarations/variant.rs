@@ -1,11 +1,18 @@
 // Made from crates/declarations/src/variant.rt by dev/erase: change that file, not this one.
 //! The variants of an enum.
 
+use crate::declarations::entry::past_expression;
+use crate::declarations::explore::fault_by;
 use crate::declarations::fault::Fault;
-use crate::declarations::item::{Fields, split_group, split_name};
-use crate::declarations::part_splitting::{split_attributes, split_variant, split_visibility};
+use crate::declarations::front::front_of;
+use crate::declarations::function::name_of;
+use crate::declarations::item::{Fields, split_braces, split_parentheses};
+use crate::declarations::reader::{is, part};
+use crate::declarations::signs::first_sign;
+use crate::declarations::syntax::VARIANT;
+use crate::item_tables::class::SignClass;
 use crate::pm_stream::TokenTree;
-use crate::pm_token::{Delimiter, Ident};
+use crate::pm_token::Ident;
 
 /// A variant of an enum, split into its parts in reading order.
 #[derive(Clone, Copy, Debug)]
@@ -24,8 +31,9 @@ pub struct Variant<'a> {
 
 /// Returns the parts of the variant at the start of the trees, and the trees after it.
 ///
-/// It reads the same trees as [`split_variant`], and returns the same errors. For `#[a] B { c: D } = 1, C` the name is
-/// `B`, the fields are those in the braces, the discriminant is `1`, and the rest is `, C`.
+/// It reads the same trees as [`split_variant`](crate::declarations::split_variant), and returns the same errors. For
+/// `#[a] B { c: D } = 1, C` the name is `B`, the fields are those in the braces, the discriminant is `1`, and the rest
+/// is `, C`.
 ///
 /// # Contract
 ///
@@ -44,49 +52,89 @@ pub struct Variant<'a> {
 /// [Expects]: crate::contracts#declarations.Expected.Expects
 pub fn parse_variant(trees: &[TokenTree]) -> Result<(Variant<'_>, &[TokenTree]), Fault>
 {
-    let (part, rest) = split_variant(trees)?;
-    match variant_of(part) {
-        Ok(variant) => Ok((variant, rest)),
-        Err(fault) => Err(fault),
+    match variant_of(trees) {
+        Ok((variant, rest)) => Ok((variant, rest)),
+        Err(left) => Err(fault_by(&VARIANT, trees, left)),
     }
 }
 
-/// The parts of a variant that is all of the trees.
-fn variant_of(trees: &[TokenTree]) -> Result<Variant<'_>, Fault>
+/// Reads a variant. Returns it and the trees after it, or the trees from the error on.
+fn variant_of(trees: &[TokenTree]) -> Result<(Variant<'_>, &[TokenTree]), &[TokenTree]>
 {
-    let (attributes, rest) = split_attributes(trees)?;
-    let (visibility, rest) = split_visibility(rest)?;
-    let (name, rest) = split_name(rest)?;
-    let (fields, rest) = fields_first(rest);
-    Ok(Variant {
-        attributes,
-        visibility,
-        name,
-        fields,
-        discriminant: after_first(rest),
-    })
+    match front_of(trees) {
+        Ok((front, from_name)) => match named_of(from_name) {
+            Ok((named, rest)) => {
+                let variant = Variant {
+                    attributes: front.attributes,
+                    visibility: front.visibility,
+                    name: named.name,
+                    fields: named.fields,
+                    discriminant: named.discriminant,
+                };
+                Ok((variant, rest))
+            }
+            Err(left) => Err(left),
+        },
+        Err(left) => Err(left),
+    }
 }
 
-/// The fields in the group that the trees begin with, if they begin with one, and the trees after it.
-fn fields_first(trees: &[TokenTree]) -> (Fields<'_>, &[TokenTree])
+/// The parts of a variant after its visibility.
+#[derive(Clone, Copy)]
+struct Named<'a> {
+    name: &'a Ident,
+    fields: Fields<'a>,
+    discriminant: &'a [TokenTree],
+}
+
+/// Reads a variant from its name on. Returns the parts and the trees after them.
+fn named_of(trees: &[TokenTree]) -> Result<(Named<'_>, &[TokenTree]), &[TokenTree]>
 {
-    match split_group(trees) {
-        Some((group, rest)) => {
-            if group.delimiter() == Delimiter::Parenthesis {
-                (Fields::Tuple(group), rest)
-            } else {
-                (Fields::Named(group), rest)
+    match name_of(trees) {
+        Ok((name, from_fields)) => {
+            let (fields, from_value) = fields_of(from_fields);
+            match discriminant_of(from_value) {
+                Ok((discriminant, rest)) => {
+                    let named = Named {
+                        name,
+                        fields,
+                        discriminant,
+                    };
+                    Ok((named, rest))
+                }
+                Err(left) => Err(left),
             }
         }
-        None => (Fields::Unit, trees),
+        Err(left) => Err(left),
     }
 }
 
-/// The trees after the first one, if there is one.
-fn after_first(trees: &[TokenTree]) -> &[TokenTree]
+/// Reads the fields of a variant, if parentheses or braces are next. Returns them and the trees after them.
+fn fields_of(trees: &[TokenTree]) -> (Fields<'_>, &[TokenTree])
 {
-    match trees.split_first() {
-        Some((_, rest)) => rest,
-        None => trees,
+    match split_parentheses(trees) {
+        Some((group, rest)) => (Fields::Tuple(group), rest),
+        None => match split_braces(trees) {
+            Some((group, rest)) => (Fields::Named(group), rest),
+            None => (Fields::Unit, trees),
+        },
+    }
+}
+
+/// Reads `=` and an expression, if `=` is next. Returns the expression, or no trees, and the trees after it.
+fn discriminant_of(trees: &[TokenTree]) -> Result<(&[TokenTree], &[TokenTree]), &[TokenTree]>
+{
+    match first_sign(trees) {
+        Some((class, from_value)) => {
+            if is(SignClass::Equals, class) {
+                match past_expression(from_value) {
+                    Ok(rest) => Ok((part(from_value, rest), rest)),
+                    Err(left) => Err(left),
+                }
+            } else {
+                Ok((&[], trees))
+            }
+        }
+        None => Ok((&[], trees)),
     }
 }

@@ -1,10 +1,10 @@
 // The entries of attributes' lists. The crate syn 2 reads each text in the same way, unless a row says otherwise.
 use crate::tests::checks::{
-    HeldText, check_answer, debug_text, display_text, held_stream, in_groups, parsed,
+    HeldText, check_answer, check_held, debug_text, display_text, held_stream, in_groups, parsed,
 };
 use declarations::{
-    AttributeArgs, Attributes, Entries, Entry, EntryError, EntryKind, EntryProblem, check_entries,
-    parse_entry,
+    AttributeArgs, Attributes, Entries, Entry, EntryError, EntryKind, EntryProblem, SignClass,
+    check_entries, parse_entry,
 };
 use proc_macro2::{Group, Span, TokenStream, TokenTree};
 use std::process::Abort;
@@ -319,8 +319,38 @@ fn an_error_says_what_is_wrong(rt: HostRuntime) {
     );
     check_printed(&rt, "\"a\"", "unknown entry; known are `skip`, `rename`");
     check_printed(&rt, "skip, skip(a)", "a second entry `skip`");
-    check_printed(&rt, "skip, =", "not expected here");
-    check_printed(&rt, "rename =", "not expected here");
+    check_printed(&rt, "skip, =", "expected an entry");
+    check_printed(
+        &rt,
+        "rename =",
+        "the declaration ends too early, expected an expression",
+    );
+}
+
+/// Whether the error of `check_entries`, with one known name, expects `,` and whether it expects the end.
+fn expects(trees: &[TokenTree]) -> Option<(bool, bool)> {
+    match check_entries(trees, &["skip"]) {
+        Ok(()) => None,
+        Err(error) => {
+            let expected = error.expected();
+            Some((expected.contains(SignClass::Comma), expected.has_end()))
+        }
+    }
+}
+
+#[test]
+fn an_error_of_entries_has_the_signs_that_can_come_there(rt: HostRuntime) {
+    let rows = &[
+        ("skip rename", (true, true)),
+        ("skip = ,", (false, false)),
+        ("rename", (false, false)),
+    ];
+    for &(text, wanted) in rows {
+        let stream = parsed(&rt, text);
+        let found = expects(stream.trees());
+        release(stream);
+        check_answer(&rt, text, &found, &Some(wanted));
+    }
 }
 
 /// Whether the error of `check_entries`, with no known names, has the name of the entry.
@@ -510,4 +540,61 @@ fn an_error_in_a_group_without_delimiters_has_a_span(rt: HostRuntime) {
     let fault = unknown_entry(stream.trees());
     check_span(&rt, "a = 1", fault, "Some((0, Some(bytes(1..2))))");
     release(stream);
+}
+
+/// Checks what the error of the first entry of a list says.
+fn check_message(
+    rt: &(impl Abort + AllocGlobal),
+    left: &[TokenTree],
+    text: HeldText<'_>,
+    wanted: &str,
+) {
+    let mut list = Entries { left };
+    match list.next() {
+        Some(Err(fault)) => {
+            let printed = display_text(rt, &fault);
+            check_held(rt, text, &printed.as_str(), &wanted);
+        }
+        _ => assert!(rt; false, "no error of {text:?}"),
+    }
+}
+
+#[test]
+fn an_error_in_a_group_without_delimiters_says_what_was_expected(rt: HostRuntime) {
+    let rows: &[(HeldText<'_>, &str)] = &[
+        (
+            ("", "a b", 2, ", c"),
+            "expected `=`, a group, `::` or the end",
+        ),
+        (("", "a = ", 1, ", c"), "expected an expression"),
+        (("", "", 1, ""), "expected an entry"),
+        (("", "a", 1, " = , c"), "expected an expression"),
+        (
+            ("", "a", 1, " ="),
+            "the declaration ends too early, expected an expression",
+        ),
+        (("", "a", 1, " b"), "expected `,`, `=`, a group or the end"),
+        (("", "a", 1, "(b) c"), "expected `,` or the end"),
+        (("", "a = 1", 1, " = 2"), "expected `,` or the end"),
+    ];
+    for &(text, wanted) in rows {
+        let stream = held_stream(&rt, text);
+        check_message(&rt, stream.trees(), text, wanted);
+        release(stream);
+    }
+}
+
+// Here a path in a group is in another one, with what comes after it.
+#[test]
+fn an_error_after_a_path_in_two_groups_says_what_was_expected(rt: HostRuntime) {
+    let rows: &[(HeldText<'_>, &str)] = &[
+        (("", "a", 1, " b"), "expected `=`, a group or the end"),
+        (("", "a", 1, " ="), "expected an expression"),
+        (("", "a:: =", 1, " = b"), "expected a name"),
+    ];
+    for &(text, wanted) in rows {
+        let stream = in_groups(&rt, held_stream(&rt, text), 1);
+        check_message(&rt, stream.trees(), text, wanted);
+        release(stream);
+    }
 }

@@ -1,5 +1,5 @@
 // Generic parameters and predicates, with the number of trees in each part.
-use crate::tests::checks::{HeldText, check_answer, check_held, held_stream, parsed};
+use crate::tests::checks::{HeldText, check_answer, check_held, display_text, held_stream, parsed};
 use declarations::{Fault, ParamKind, after_where, parse_param, parse_predicate, within_generics};
 use proc_macro2::TokenTree;
 use std::process::Abort;
@@ -244,4 +244,35 @@ fn brackets_and_where_are_taken_off(rt: HostRuntime) {
     let is_fault = after_where(stream.trees()).is_err();
     release(stream);
     check_answer(&rt, "r#where T: A", &is_fault, &true);
+}
+
+/// Checks what the error says.
+fn check_message(rt: &(impl Abort + AllocGlobal), fault: Option<Fault>, text: &str, wanted: &str) {
+    match fault {
+        Some(fault) => {
+            let printed = display_text(rt, &fault);
+            check_answer(rt, text, &printed.as_str(), &wanted);
+        }
+        None => assert!(rt; false, "no error of {text:?}"),
+    }
+}
+
+/// Checks what the error says of generic parameters, or of a where clause.
+fn check_missing(rt: &(impl Abort + AllocGlobal), in_where: bool, text: &str, wanted: &str) {
+    let stream = parsed(rt, text);
+    let fault = if in_where {
+        after_where(stream.trees()).err()
+    } else {
+        within_generics(stream.trees()).err()
+    };
+    check_message(rt, fault, text, wanted);
+    release(stream);
+}
+
+#[test]
+fn an_error_names_the_bracket_or_the_word_that_is_missing(rt: HostRuntime) {
+    check_missing(&rt, false, "T >", "expected `<`");
+    let early = "the declaration ends too early, expected `>`";
+    check_missing(&rt, false, "< T", early);
+    check_missing(&rt, true, "T: A", "expected `where`");
 }

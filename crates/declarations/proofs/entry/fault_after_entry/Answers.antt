@@ -1,8 +1,8 @@
-use Rattle.declarations.proofs.HeldLemmas.{held_none}
+use Rattle.std.proofs.Common.{subst, sym}
+use Rattle.declarations.specs.EntryExpects.{CouldGoOn}
 use Rattle.declarations.proofs.entry.fault_after_entry.Goals as goal
 
-pub returns-in-Some-clause-expected : goal.returns-in-Some-clause-expected
-returns-in-Some-clause-expected c = λ none. held_none c.args.trees.now _ _ c.in-Some.ensures.found none
-
-pub returns-in-None-clause-expected : goal.returns-in-None-clause-expected
-returns-in-None-clause-expected c = λ none. c.fault_by.ensures.expected
+pub returns-clause-expected : goal.returns-clause-expected
+returns-clause-expected c =
+    subst (CouldGoOn c.args.trees.now c.args.entry.now c.args.rest.now) (sym c.expecting.ensures.expected)
+    c.onward.ensures

@@ -1,5 +1,7 @@
 use Rattle.std.proofs.Common.{refl, subst, []}
 use Rattle.declarations.specs.Entry.{IsNearEntryAt, IsNearFault}
+use Rattle.declarations.specs.EntryExpects.{ExpectsNear}
+use Rattle.declarations.proofs.EntryExpectsLemmas.{path_expected, within_expected}
 use Rattle.declarations.proofs.HeldLemmas.{held_path, held_path_fault, within_fault}
 use Rattle.declarations.proofs.entry.held_entry.Goals as goal
 
@@ -20,3 +22,16 @@ returns-in-Err-clause-fault c =
     within_fault IsNearEntryAt IsNearFault c.args.group.now c.args.after.now c.in-Err.fault c.fault_within.result
     (subst (λ ts. IsNearFault ts c.in-Err.fault) c.inside_of.ensures c.in-Err.ensures.err) c.fault_within.ensures.at
     c.fault_within.ensures.span
+
+pub returns-in-Path-clause-expected : goal.returns-in-Path-clause-expected
+returns-in-Path-clause-expected c =
+    path_expected IsNearEntryAt IsNearFault ExpectsNear c.args.group.now c.args.after.now c.in-Ok.held c.go_on.result
+    (subst (λ ts. IsNearEntryAt ts c.in-Ok.held []) c.inside_of.ensures c.in-Ok.ensures.ok) c.in-Path.is
+    c.go_on.ensures.expected
+
+pub returns-in-Err-clause-expected : goal.returns-in-Err-clause-expected
+returns-in-Err-clause-expected c =
+    within_expected IsNearEntryAt IsNearFault ExpectsNear c.args.group.now c.args.after.now c.in-Err.fault
+    c.fault_within.result (subst (λ ts. IsNearFault ts c.in-Err.fault) c.inside_of.ensures c.in-Err.ensures.err)
+    (subst (λ ts. ExpectsNear ts c.in-Err.fault.at c.in-Err.fault.expected) c.inside_of.ensures
+    c.in-Err.ensures.expected) c.fault_within.ensures.expected

@@ -1,6 +1,8 @@
 use Rattle.declarations.specs.Entry.{IsNearEntryAt, IsNearFault}
+use Rattle.declarations.specs.EntryExpects.{ExpectsNear}
+use Rattle.declarations.proofs.EntryExpectsLemmas.{held_expected, plain_expected}
 use Rattle.declarations.proofs.HeldLemmas.{held_fails, held_found, held_less, held_only, plain_fails, plain_found}
-use Rattle.declarations.proofs.HeldLemmas.{held_expected, plain_expected, plain_only}
+use Rattle.declarations.proofs.HeldLemmas.{plain_only}
 use Rattle.declarations.proofs.entry.parse_entry.Goals as goal
 
 pub returns-in-Some-clause-ok : goal.returns-in-Some-clause-ok
@@ -37,7 +39,10 @@ returns-in-None-clause-only c = plain_only c.args.trees.now c.plain_entry.result
 
 pub returns-in-Some-clause-expected : goal.returns-in-Some-clause-expected
 returns-in-Some-clause-expected c =
-    held_expected c.args.trees.now c.in-Some.after.now c.in-Some.group.now c.held_entry.result c.in-Some.ensures.found
+    held_expected IsNearEntryAt IsNearFault ExpectsNear c.args.trees.now c.held_entry.result c.in-Some.after.now
+    c.in-Some.group.now c.in-Some.ensures.found c.held_entry.ensures.expected
 
 pub returns-in-None-clause-expected : goal.returns-in-None-clause-expected
-returns-in-None-clause-expected c = plain_expected c.args.trees.now c.plain_entry.result c.plain_entry.ensures.expected
+returns-in-None-clause-expected c =
+    plain_expected IsNearEntryAt IsNearFault ExpectsNear c.args.trees.now c.plain_entry.result c.in-None.ensures.none
+    c.plain_entry.ensures.expected

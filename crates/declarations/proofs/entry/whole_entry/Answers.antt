@@ -1,6 +1,8 @@
 use Rattle.std.proofs.Common.{inr}
-use Rattle.declarations.specs.Entry.{IsNearEntryAt}
-use Rattle.declarations.proofs.HeldLemmas.{after_expected, leaves_some, no_rest}
+use Rattle.declarations.specs.Entry.{IsNearEntryAt, IsNearFault}
+use Rattle.declarations.specs.EntryExpects.{ExpectsNear}
+use Rattle.declarations.proofs.EntryExpectsLemmas.{left_expected}
+use Rattle.declarations.proofs.HeldLemmas.{leaves_some, no_rest}
 use Rattle.declarations.proofs.entry.whole_entry.Goals as goal
 
 pub returns-else-is_empty-clause-err : goal.returns-else-is_empty-clause-err
@@ -12,7 +14,7 @@ returns-else-is_empty-clause-err c =
 
 pub returns-else-is_empty-clause-expected : goal.returns-else-is_empty-clause-expected
 returns-else-is_empty-clause-expected c =
-    after_expected c.args.trees.now c.in-Ok.rest.now c.in-Ok.entry c.fault_after_entry.result.at
+    left_expected IsNearEntryAt c.args.trees.now c.in-Ok.rest.now c.in-Ok.entry c.fault_after_entry.result.at
     c.fault_after_entry.result.expected c.in-Ok.ensures.ok
     (no_rest c.in-Ok.rest.now c.is_empty.result c.is_empty.ensures c.if-is_empty.false) c.fault_after_entry.ensures.at
-    c.fault_after_entry.ensures.expected
+    c.fault_after_entry.ensures.expected IsNearFault ExpectsNear

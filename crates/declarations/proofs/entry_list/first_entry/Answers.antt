@@ -1,12 +1,13 @@
-use Rattle.std.proofs.Common.{inl, inr, arith}
+use Rattle.std.proofs.Common.{arith}
 use Rattle.declarations.specs.Entry.{IsNearEntryAt}
-use Rattle.declarations.proofs.CommaLemmas.{entry_lacks_comma, entry_lacks_part}
-use Rattle.declarations.proofs.HeldLemmas.{after_entry, rest_less}
+use Rattle.declarations.proofs.EntryExpectsLemmas.{entry_lacks_comma, entry_lacks_part}
+use Rattle.declarations.proofs.HeldLemmas.{rest_less}
 use Rattle.declarations.proofs.ListLemmas.{past_fewer}
 use Rattle.declarations.proofs.entry_list.first_entry.Goals as goal
 
 pub returns-in-Err-clause-given : goal.returns-in-Err-clause-given
-returns-in-Err-clause-given c = inl c.in-Err.ensures.fault
+returns-in-Err-clause-given c =
+    entry_lacks_part c.args.trees.now c.in-Err.fault c.in-Err.ensures.fault c.in-Err.ensures.expected
 
 pub returns-in-Some-clause-given : goal.returns-in-Some-clause-given
 returns-in-Some-clause-given c = (c.in-Ok.rest.now, c.in-Ok.ensures.ok, c.in-Some.ensures.found)
@@ -19,19 +20,6 @@ returns-in-Some-clause-fewer c =
 
 pub returns-in-None-clause-given : goal.returns-in-None-clause-given
 returns-in-None-clause-given c =
-    inr (
-      c.in-Ok.rest.now,
-      after_entry IsNearEntryAt c.args.trees.now c.in-Ok.rest.now c.in-Ok.entry c.in-Ok.ensures.ok _
-          c.fault_without_comma.ensures.at c.fault_without_comma.ensures.span,
-      c.in-None.ensures.none,
-    )
-
-pub returns-in-Err-clause-expected : goal.returns-in-Err-clause-expected
-returns-in-Err-clause-expected c =
-    entry_lacks_part c.args.trees.now c.in-Err.fault c.in-Err.ensures.fault c.in-Err.ensures.expected
-
-pub returns-in-None-clause-expected : goal.returns-in-None-clause-expected
-returns-in-None-clause-expected c =
     entry_lacks_comma c.args.trees.now c.in-Ok.rest.now c.in-Ok.entry c.fault_without_comma.result c.in-Ok.ensures.ok
     c.in-None.ensures.none c.fault_without_comma.ensures.at c.fault_without_comma.ensures.span
     c.fault_without_comma.ensures.expected

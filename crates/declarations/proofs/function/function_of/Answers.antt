@@ -4,7 +4,7 @@ use Rattle.declarations.proofs.FunctionLemmas.{generics_part}
 use Rattle.declarations.proofs.FunctionLemmas.{generics_stick, name_sticks, parameters_stick, past_attributes}
 use Rattle.declarations.proofs.FunctionLemmas.{past_end, past_fn, past_generics, past_name, past_parameters}
 use Rattle.declarations.proofs.FunctionLemmas.{past_qualifiers, past_visibility, qualifiers_part, rest_sticks}
-use Rattle.declarations.proofs.FunctionLemmas.{visibility_part, visibility_sticks}
+use Rattle.declarations.proofs.FunctionLemmas.{visibility_part}
 use Rattle.declarations.proofs.function.function_of.Goals as goal
 
 pub returns-in_err-from_visibility : goal.returns-in_err-from_visibility
@@ -13,24 +13,13 @@ returns-in_err-from_visibility c =
     fails c.args.trees.now c.from_residual.result p.0 c.in_err-from_visibility.field-0.0 p.1 p.2
     (attributes_stick c.args.trees.now c.in_err-from_visibility.field-0.0.now c.in_err-from_visibility.ensures)
 
-pub returns-in_err-from_qualifiers : goal.returns-in_err-from_qualifiers
-returns-in_err-from_qualifiers c =
-    let one = past_attributes c.args.trees.now c.in_ok-from_visibility.from_visibility.now
-    c.in_ok-from_visibility.ensures in
-    let p = err_from_is_err_and c.from_residual-in_err-from_qualifiers.result
-    c.from_residual-in_err-from_qualifiers.ensures.1 in
-    fails c.args.trees.now c.from_residual-in_err-from_qualifiers.result p.0 c.in_err-from_qualifiers.field-0.0 p.1 p.2
-    (visibility_sticks c.args.trees.now c.in_ok-from_visibility.from_visibility.now
-    c.in_err-from_qualifiers.field-0.0.now one
-    c.in_err-from_qualifiers.ensures)
-
 pub returns-in_err-from_name : goal.returns-in_err-from_name
 returns-in_err-from_name c =
     let one = past_attributes c.args.trees.now c.in_ok-from_visibility.from_visibility.now
     c.in_ok-from_visibility.ensures in
     let two = past_visibility c.args.trees.now c.in_ok-from_visibility.from_visibility.now
-    c.in_ok-from_qualifiers.from_qualifiers.now one c.in_ok-from_qualifiers.ensures in
-    let three = past_qualifiers c.args.trees.now c.in_ok-from_qualifiers.from_qualifiers.now
+    c.past_visibility-from_qualifiers.result.now one c.past_visibility-from_qualifiers.ensures in
+    let three = past_qualifiers c.args.trees.now c.past_visibility-from_qualifiers.result.now
     c.past_qualifiers-from_fn.result.now two c.past_qualifiers-from_fn.ensures in
     let p = err_from_is_err_and c.from_residual-in_err-from_name.result c.from_residual-in_err-from_name.ensures.1 in
     fails c.args.trees.now c.from_residual-in_err-from_name.result p.0 c.in_err-from_name.field-0.0 p.1 p.2
@@ -42,8 +31,8 @@ returns-in_err-name c =
     let one = past_attributes c.args.trees.now c.in_ok-from_visibility.from_visibility.now
     c.in_ok-from_visibility.ensures in
     let two = past_visibility c.args.trees.now c.in_ok-from_visibility.from_visibility.now
-    c.in_ok-from_qualifiers.from_qualifiers.now one c.in_ok-from_qualifiers.ensures in
-    let three = past_qualifiers c.args.trees.now c.in_ok-from_qualifiers.from_qualifiers.now
+    c.past_visibility-from_qualifiers.result.now one c.past_visibility-from_qualifiers.ensures in
+    let three = past_qualifiers c.args.trees.now c.past_visibility-from_qualifiers.result.now
     c.past_qualifiers-from_fn.result.now two c.past_qualifiers-from_fn.ensures in
     let four = past_fn c.args.trees.now c.past_qualifiers-from_fn.result.now c.in_ok-from_name.from_name.now three
     c.in_ok-from_name.ensures in
@@ -57,8 +46,8 @@ returns-in_err-from_parameters c =
     let one = past_attributes c.args.trees.now c.in_ok-from_visibility.from_visibility.now
     c.in_ok-from_visibility.ensures in
     let two = past_visibility c.args.trees.now c.in_ok-from_visibility.from_visibility.now
-    c.in_ok-from_qualifiers.from_qualifiers.now one c.in_ok-from_qualifiers.ensures in
-    let three = past_qualifiers c.args.trees.now c.in_ok-from_qualifiers.from_qualifiers.now
+    c.past_visibility-from_qualifiers.result.now one c.past_visibility-from_qualifiers.ensures in
+    let three = past_qualifiers c.args.trees.now c.past_visibility-from_qualifiers.result.now
     c.past_qualifiers-from_fn.result.now two c.past_qualifiers-from_fn.ensures in
     let four = past_fn c.args.trees.now c.past_qualifiers-from_fn.result.now c.in_ok-from_name.from_name.now three
     c.in_ok-from_name.ensures in
@@ -75,8 +64,8 @@ returns-in_err-parameters c =
     let one = past_attributes c.args.trees.now c.in_ok-from_visibility.from_visibility.now
     c.in_ok-from_visibility.ensures in
     let two = past_visibility c.args.trees.now c.in_ok-from_visibility.from_visibility.now
-    c.in_ok-from_qualifiers.from_qualifiers.now one c.in_ok-from_qualifiers.ensures in
-    let three = past_qualifiers c.args.trees.now c.in_ok-from_qualifiers.from_qualifiers.now
+    c.past_visibility-from_qualifiers.result.now one c.past_visibility-from_qualifiers.ensures in
+    let three = past_qualifiers c.args.trees.now c.past_visibility-from_qualifiers.result.now
     c.past_qualifiers-from_fn.result.now two c.past_qualifiers-from_fn.ensures in
     let four = past_fn c.args.trees.now c.past_qualifiers-from_fn.result.now c.in_ok-from_name.from_name.now three
     c.in_ok-from_name.ensures in
@@ -95,8 +84,8 @@ returns-in_err-end c =
     let one = past_attributes c.args.trees.now c.in_ok-from_visibility.from_visibility.now
     c.in_ok-from_visibility.ensures in
     let two = past_visibility c.args.trees.now c.in_ok-from_visibility.from_visibility.now
-    c.in_ok-from_qualifiers.from_qualifiers.now one c.in_ok-from_qualifiers.ensures in
-    let three = past_qualifiers c.args.trees.now c.in_ok-from_qualifiers.from_qualifiers.now
+    c.past_visibility-from_qualifiers.result.now one c.past_visibility-from_qualifiers.ensures in
+    let three = past_qualifiers c.args.trees.now c.past_visibility-from_qualifiers.result.now
     c.past_qualifiers-from_fn.result.now two c.past_qualifiers-from_fn.ensures in
     let four = past_fn c.args.trees.now c.past_qualifiers-from_fn.result.now c.in_ok-from_name.from_name.now three
     c.in_ok-from_name.ensures in
@@ -117,8 +106,8 @@ returns c =
     let one = past_attributes c.args.trees.now c.in_ok-from_visibility.from_visibility.now
     c.in_ok-from_visibility.ensures in
     let two = past_visibility c.args.trees.now c.in_ok-from_visibility.from_visibility.now
-    c.in_ok-from_qualifiers.from_qualifiers.now one c.in_ok-from_qualifiers.ensures in
-    let three = past_qualifiers c.args.trees.now c.in_ok-from_qualifiers.from_qualifiers.now
+    c.past_visibility-from_qualifiers.result.now one c.past_visibility-from_qualifiers.ensures in
+    let three = past_qualifiers c.args.trees.now c.past_visibility-from_qualifiers.result.now
     c.past_qualifiers-from_fn.result.now two c.past_qualifiers-from_fn.ensures in
     let four = past_fn c.args.trees.now c.past_qualifiers-from_fn.result.now c.in_ok-from_name.from_name.now three
     c.in_ok-from_name.ensures in
@@ -134,7 +123,7 @@ returns c =
       past_end c.args.trees.now c.in_ok-parameters.from_return.now c.in_ok-end.rest.now seven c.in_ok-end.ensures.0,
       record {
         from_visibility = c.in_ok-from_visibility.from_visibility.now;
-        from_qualifiers = c.in_ok-from_qualifiers.from_qualifiers.now;
+        from_qualifiers = c.past_visibility-from_qualifiers.result.now;
         from_fn = c.past_qualifiers-from_fn.result.now;
         fn_word = keyword.0;
         from_name = c.in_ok-from_name.from_name.now;
@@ -144,8 +133,8 @@ returns c =
         attributes = attributes_part c.args.trees.now _ c.in_ok-from_visibility.from_visibility.now
             c.in_ok-from_visibility.ensures c.part.ensures;
         visibility = visibility_part c.in_ok-from_visibility.from_visibility.now _
-            c.in_ok-from_qualifiers.from_qualifiers.now c.in_ok-from_qualifiers.ensures c.part-2.ensures;
-        qualifiers = qualifiers_part c.in_ok-from_qualifiers.from_qualifiers.now _ c.past_qualifiers-from_fn.result.now
+            c.past_visibility-from_qualifiers.result.now c.past_visibility-from_qualifiers.ensures c.part-2.ensures;
+        qualifiers = qualifiers_part c.past_visibility-from_qualifiers.result.now _ c.past_qualifiers-from_fn.result.now
             c.past_qualifiers-from_fn.ensures c.part-3.ensures;
         keyword = keyword.1;
         name = c.in_ok-name.ensures;

@@ -1,6 +1,7 @@
 use Rattle.declarations.proofs.PartReaderLemmas.{visibility_only}
 use Rattle.declarations.proofs.part_splitting.split_visibility.Goals as goal
 
-pub returns-in-Ok-clause-only : goal.returns-in-Ok-clause-only
-returns-in-Ok-clause-only c =
-    visibility_only c.args.trees.now c.part.result.now c.in-Ok.rest.now c.in-Ok.ensures c.part.ensures
+pub returns-clause-only : goal.returns-clause-only
+returns-clause-only c =
+    visibility_only c.args.trees.now c.part.result.now c.past_visibility-rest.result.now c.past_visibility-rest.ensures
+    c.part.ensures

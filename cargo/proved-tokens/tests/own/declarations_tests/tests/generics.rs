@@ -3,7 +3,7 @@
 use crate::shim::prelude::{AllocGlobal, HostRuntime};
 
 // Generic parameters and predicates, with the number of trees in each part.
-use crate::declarations_tests::tests::checks::{HeldText, check_answer, check_held, held_stream, parsed};
+use crate::declarations_tests::tests::checks::{HeldText, check_answer, check_held, display_text, held_stream, parsed};
 use proved_tokens::declarations::{Fault, ParamKind, after_where, parse_param, parse_predicate, within_generics};
 use proved_tokens::proc_macro2::TokenTree;
 use crate::shim::process::Abort;
@@ -252,4 +252,36 @@ fn brackets_and_where_are_taken_off() {
     let is_fault = after_where(stream.trees()).is_err();
     release(stream);
     check_answer(&rt, "r#where T: A", &is_fault, &true);
+}
+
+/// Checks what the error says.
+fn check_message(rt: &(impl Abort + AllocGlobal), fault: Option<Fault>, text: &str, wanted: &str) {
+    match fault {
+        Some(fault) => {
+            let printed = display_text(rt, &fault);
+            check_answer(rt, text, &printed.as_str(), &wanted);
+        }
+        None => assert!(false, "no error of {text:?}"),
+    }
+}
+
+/// Checks what the error says of generic parameters, or of a where clause.
+fn check_missing(rt: &(impl Abort + AllocGlobal), in_where: bool, text: &str, wanted: &str) {
+    let stream = parsed(rt, text);
+    let fault = if in_where {
+        after_where(stream.trees()).err()
+    } else {
+        within_generics(stream.trees()).err()
+    };
+    check_message(rt, fault, text, wanted);
+    release(stream);
+}
+
+#[test]
+fn an_error_names_the_bracket_or_the_word_that_is_missing() {
+    let rt = HostRuntime;
+    check_missing(&rt, false, "T >", "expected `<`");
+    let early = "the declaration ends too early, expected `>`";
+    check_missing(&rt, false, "< T", early);
+    check_missing(&rt, true, "T: A", "expected `where`");
 }

@@ -1,9 +1,6 @@
-use Rattle.std.proofs.Common.{◌≡◌, None, sym, subst, []}
-use Rattle.declarations.specs.Bare.{bare_first}
+use Rattle.std.proofs.Common.{sym, subst, []}
 use Rattle.declarations.specs.Entry.{IsEntryAt, IsEntryFault}
-use Rattle.declarations.specs.Expected.{Expects}
-use Rattle.declarations.specs.rules.Entries.{entry}
-use Rattle.declarations.specs.rules.Pieces.{ByRule}
+use Rattle.declarations.specs.EntryExpects.{ExpectsEntry}
 use Rattle.declarations.proofs.AttributeLemmas.{held_trees}
 use Rattle.declarations.proofs.EndingLemmas.{ends_at, expected_within}
 use Rattle.declarations.proofs.attribute.Attribute.entry.Goals as goal
@@ -23,5 +20,5 @@ pub returns-in-Err-clause-expected : goal.returns-in-Err-clause-expected
 returns-in-Err-clause-expected c =
     let held = held_trees c.trees.result.now _ _ c.trees.ensures.value c.stream_ref.ensures.value in
     expected_within _ c.in-Err.fault c.within.result _ c.within.ensures
-    (subst (λ trees. bare_first trees ≡ None → Expects (ByRule entry) trees c.in-Err.fault.at c.in-Err.fault.expected)
-    (sym held) c.in-Err.ensures.expected)
+    (subst (λ trees. ExpectsEntry trees c.in-Err.fault.at c.in-Err.fault.expected) (sym held)
+    c.in-Err.ensures.expected)

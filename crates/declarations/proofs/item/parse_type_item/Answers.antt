@@ -1,0 +1,19 @@
+use Rattle.std.proofs.Common.{◌≡◌, ◌∙◌, ◌==◌, ap, eqb-true, false, sym}
+use Rattle.declarations.proofs.ItemLemmas.{item_all, item_left, left_expects}
+use Rattle.declarations.proofs.item.parse_type_item.Goals as goal
+
+pub returns-then-is_empty-clause-ok : goal.returns-then-is_empty-clause-ok
+returns-then-is_empty-clause-ok c =
+    item_all c.args.trees.now c.in-Ok.rest.now c.in-Ok.item c.in-Ok.ensures.1
+    (eqb-true _ _ (sym c.if-is_empty.ensures))
+
+pub returns-else-is_empty-clause-fault : goal.returns-else-is_empty-clause-fault
+returns-else-is_empty-clause-fault c =
+    item_left c.args.trees.now c.in-Ok.rest.now c.fault_by.result.at c.in-Ok.ensures.0
+    (λ none. let no : false ≡ (0 == 0) = c.if-is_empty.ensures ∙ ap (λ n. n == 0) none in cc) c.fault_by.ensures.at
+
+pub returns-else-is_empty-clause-expected : goal.returns-else-is_empty-clause-expected
+returns-else-is_empty-clause-expected c =
+    left_expects c.args.trees.now c.in-Ok.rest.now c.fault_by.result.at c.fault_by.result.expected c.in-Ok.ensures.0
+    (λ none. let no : false ≡ (0 == 0) = c.if-is_empty.ensures ∙ ap (λ n. n == 0) none in cc)
+    c.fault_by.ensures.at c.fault_by.ensures.expected
