@@ -111,6 +111,8 @@
 //! - <a id="declarations.Expected.Expects"></a>**Expects**: the set has exactly the classes that can come after
 //!   the first `at` trees so that the form can be completed. It has the end if these trees are the whole of a
 //!   part
+//! - <a id="declarations.EntryExpects.ExpectsEntry"></a>**ExpectsEntry**: the set has exactly the signs that
+//!   could come in an entry. The entry may be in a group without delimiters, and its path in another one
 //! - <a id="declarations.Reading.FaultAt"></a>**FaultAt**: nothing of this form can be read. The error is after
 //!   `at` trees: the longest prefix that other trees could complete
 //! - <a id="declarations.File.FileFaultAt"></a>**FileFaultAt**: the trees are no file. The error is in the
@@ -187,6 +189,11 @@
 //! - <a id="declarations.Whole.IsWhole"></a>**IsWhole**: a piece of the form with nothing after it
 //! - <a id="declarations.Param.IsWithin"></a>**IsWithin**: the trees between `<` (60) and `>` (62), or no trees
 //!   if there are no generic parameters
+//! - <a id="declarations.Param.LacksBracket"></a>**LacksBracket**: the error of trees that are not in angle
+//!   brackets: at the first tree, where `<` is missing, or at the end if they begin with `<`, where `>` is
+//!   missing
+//! - <a id="declarations.Param.LacksWhere"></a>**LacksWhere**: the error of trees that do not begin with
+//!   `where`: it is at the first tree, where `where` is missing
 //! - <a id="declarations.List.ListsFields"></a>**ListsFields**: the list gives the fields of this struct or
 //!   variant
 //! - <a id="declarations.Param.ParamTrees"></a>**ParamTrees**: the parts of a generic parameter, as lists of
@@ -209,8 +216,6 @@
 //! - <a id="declarations.rules.Parts.attributes"></a>**attributes**: any number of attributes
 //! - <a id="declarations.Attribute.attributes_in"></a>**attributes_in**: the attributes at the start of the
 //!   trees, up to the first trees that are no attribute
-//! - <a id="declarations.Bare.bare_first"></a>**bare_first**: the group without delimiters that the trees begin
-//!   with, and the trees after it
 //! - <a id="declarations.Bare.bare_trees"></a>**bare_trees**: the trees; or if they are one group without
 //!   delimiters, the trees in the innermost of such groups
 //! - <a id="declarations.File.body_of"></a>**body_of**: the braces with the items of an item of this kind, if
@@ -222,8 +227,6 @@
 //! - <a id="declarations.Attribute.doc_of"></a>**doc_of**: the literal, if the trees in the brackets are `doc`,
 //!   `=` Alone and that literal
 //! - <a id="declarations.Ending.ending_at"></a>**ending_at**: the error with this span, if it has none
-//! - <a id="declarations.rules.Entries.entry"></a>**entry**: an entry: a literal, or a path with what follows
-//!   it
 //! - <a id="declarations.Entry.entry_extent"></a>**entry_extent**: the span of the first tree of an entry that
 //!   has this kind and this path
 //! - <a id="declarations.rules.Expressions.expression"></a>**expression**: an expression, from where an operand

@@ -160,6 +160,7 @@ erased! {
     #[cfg(feature = "layout")]
     layout
     #[cfg(feature = "pretty_printer")]
+    #[allow(unused_variables)]
     pretty_printer
     #[cfg(feature = "relayout")]
     relayout
