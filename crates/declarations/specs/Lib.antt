@@ -17,7 +17,9 @@ pub mod Ending
 pub mod Field
 pub mod Fault
 pub mod Variant
+pub mod ItemRest
 pub mod Kind
+pub mod ItemFront
 pub mod File
 pub mod Param
 pub mod Attribute

@@ -321,6 +321,16 @@ fn end_of(trees: &[TokenTree]) -> Result<(End<'_>, &[TokenTree]), &[TokenTree]>
     Ok((end, rest))
 }
 
+/// Skips the parts after the parameters.
+pub(crate) fn past_returning(trees: &[TokenTree]) -> Result<&[TokenTree], &[TokenTree]>
+    ensures { ReadsRule returning trees.now result }
+{
+    match end_of(trees) {
+        Ok((_, rest)) => Ok(rest),
+        Err(left) => Err(left),
+    }
+}
+
 /// Reads `->` and a type, if `->` is next. Returns the type, or no trees, and the trees after it.
 #[tactic(auto, using(crate::proofs::FunctionPartLemmas::returns))]
 pub(crate) fn return_of(trees: &[TokenTree]) -> Result<(&[TokenTree], &[TokenTree]), &[TokenTree]>

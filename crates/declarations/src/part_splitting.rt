@@ -7,10 +7,13 @@ ghost use Rattle.declarations.specs.Forms.{IsItem, IsTupleField, IsType, IsVisib
 ghost use Rattle.declarations.specs.Forms.{AreInnerAttributes, AreVariants, IsExpression, IsFrom, IsVariant, start};
 ghost use Rattle.declarations.specs.Reading.{FaultAt, IsOnly, Reads};
 
+use crate::explore::fault_by;
 use crate::fault::Fault;
 use crate::function::{past_generics, past_visibility, past_where};
+use crate::inner::past_inner_attributes;
 use crate::parameter::past_attributes;
 use crate::reader::part;
+use crate::syntax::INNER_ATTRIBUTES;
 use crate::walk::split_from;
 use item_tables::types::TypeState;
 use item_tables::walk_state::{Continuation, Item, Part, Spot, State, WalkState};
@@ -300,6 +303,7 @@ pub fn split_item(trees: &[TokenTree]) -> Result<(&[TokenTree], &[TokenTree]), F
 /// Returns the inner attributes at the start of the trees, perhaps none, and the trees after them.
 ///
 /// For `#![a] #[b] fn f() {}` the attributes are `#![a]`.
+#[tactic(auto, using(crate::proofs::InnerLemmas::inner_parts))]
 pub fn split_inner_attributes(trees: &[TokenTree]) -> Result<(&[TokenTree], &[TokenTree]), Fault>
     ensures ok { IfOk result (λ found. Reads AreInnerAttributes trees.now found.0.now found.1.now) }
     ensures only { IfOk result (λ found. IsOnly AreInnerAttributes trees.now found.0.now found.1.now) }
@@ -307,5 +311,8 @@ pub fn split_inner_attributes(trees: &[TokenTree]) -> Result<(&[TokenTree], &[To
     ensures span { IfErr result (λ fault. fault.span ≡ extent_at trees.now fault.at) }
     ensures expected { IfErr result (λ fault. Expects AreInnerAttributes trees.now fault.at fault.expected) }
 {
-    split_alone(trees, Continuation::Alone, State::At(Spot::Inner))
+    match past_inner_attributes(trees) {
+        Ok(rest) => Ok((part(trees, rest), rest)),
+        Err(left) => Err(fault_by(&INNER_ATTRIBUTES, trees, left)),
+    }
 }

@@ -239,6 +239,12 @@ pub(crate) const TUPLE_FIELD: Syntax<'static> = Syntax::Table(Table::TupleField)
 /// A variant.
 pub(crate) const VARIANT: Syntax<'static> = Syntax::Table(Table::Variant);
 
+/// Inner attributes.
+pub(crate) const INNER_ATTRIBUTES: Syntax<'static> = Syntax::Table(Table::InnerAttributes);
+
+/// An item of any kind.
+pub(crate) const ANY_ITEM: Syntax<'static> = Syntax::Table(Table::AnyItem);
+
 // ---- the rules of functions
 
 /// The path of an entry.
