@@ -34,7 +34,7 @@ METHODS = set('''
     starts_with strip_prefix strip_suffix
     take to_digit to_string trailing_zeros trim truncate try_clone try_extend try_into_iter try_next
     unsigned_abs unwrap_or utf8_chunks utf8_error
-    valid valid_up_to width wrapping_mul write write_all write_char write_str
+    valid valid_up_to width wrapping_add wrapping_mul wrapping_sub write write_all write_char write_str
 '''.split())
 
 # Those of them that are methods of traits alone, which take `&mut self`. A trait may have one of this name that takes
@@ -66,13 +66,13 @@ TEST_ITEMS = set('''
 '''.split())
 TEST_METHODS = set('''
     as_deref char_indices collected enumerate err expect or repeated sort split_at_checked trim_start_matches
-    wrapping_add zip
+    zip
 '''.split())
 TEST_MACROS = {'assert', 'assert_eq', 'vec'}
 
 # What the jobs may name besides. Their shim is in dev/workloads/src/shim.rs.
 JOB_ITEMS = {'hash::FoldHasher'}
-JOB_METHODS = set('to_le_bytes wrapping_add'.split())
+JOB_METHODS = {'to_le_bytes'}
 
 
 @dataclass(frozen=True)
