@@ -1,7 +1,8 @@
 //! The gaps of a stream, once they are all chosen, and the marks that are to be joined.
+use crate::atoms::White;
 use layout::{Chooser, Gap, GapContext};
 use quoting::join::Visit;
-use std::alloc::{AllocError, Global};
+use std::alloc::AllocError;
 
 /// How far a list of trees is read: up to an atom.
 #[derive(Clone, Copy)]
@@ -13,23 +14,12 @@ pub struct ListPosition {
     pub trees: usize,
 }
 
-impl ListPosition {
-    /// Returns a list of which no atom is read.
-    pub fn new(first: usize, end: usize) -> ListPosition {
-        ListPosition {
-            at: first,
-            end,
-            trees: 0,
-        }
-    }
-}
-
 /// The gaps before the tokens, openers and closers of a stream.
 #[derive(Drop)]
 pub struct Chosen {
-    gaps: Vec<Gap>,
+    pub gaps: Vec<White>,
     /// The index of the next of them.
-    at: usize,
+    pub at: usize,
     /// The marks that are to be joined, in reading order, with each group around them before the marks inside it.
     pub visits: Vec<Visit>,
     /// The number of groups around the next atom that are among them.
@@ -37,19 +27,9 @@ pub struct Chosen {
 }
 
 impl Chosen {
-    /// Returns no gaps.
-    pub fn new(alloc: Global) -> Chosen {
-        Chosen {
-            gaps: Vec::new(alloc),
-            at: 0,
-            visits: Vec::new(alloc),
-            entered: 0,
-        }
-    }
-
     /// Adds the gap before the next token, opener or closer.
     #[inline(always)]
-    pub fn add(&mut self, gap: Gap) -> Result<(), AllocError> {
+    pub fn add(&mut self, gap: White) -> Result<(), AllocError> {
         self.gaps.push(gap)?;
         Ok(())
     }
@@ -72,15 +52,16 @@ impl Chosen {
 
 impl Chooser for Chosen {
     #[inline(always)]
-    fn gap(&mut self, place: GapContext<'_>) -> Gap {
-        match (place.after, place.before) {
-            (None, None) => Gap::Nothing,
-            (None, Some(_)) => Gap::Line(0),
-            (Some(_), _) => {
-                let gap = self.gaps.get(self.at).copied();
-                self.at = self.at.saturating_add(1);
-                gap.unwrap_or(Gap::Nothing)
-            }
+    fn gap(&mut self, _place: GapContext<'_>) -> Gap {
+        let gap = self.gaps.get(self.at);
+        self.at = self.at.wrapping_add(1);
+        match gap {
+            Some(White::Space) => Gap::Space,
+            Some(White::Line(column)) => Gap::Line(*column as usize),
+            Some(White::Blank(column)) => Gap::Blank(*column as usize),
+            // A stream with tokens ends with a line.
+            None if self.at > 1 => Gap::Line(0),
+            _ => Gap::Nothing,
         }
     }
 }

@@ -1,9 +1,8 @@
 //! Breaks the lines of groups and of items.
-use crate::atoms::{Atom, Kind, Lexeme, Role};
+use crate::atoms::{Atom, Kind, Lexeme, Role, White};
 use crate::limits::CALL;
-use crate::lines::{LayStep, Task, WIDTH, deeper};
+use crate::lines::{DEEPEST, LayStep, Task, WIDTH, deeper};
 use crate::tree::{Form, NOWHERE, Node, Tree};
-use layout::Gap;
 
 /// The largest width of an element if several elements share a line.
 const SHORT: usize = 10;
@@ -63,12 +62,10 @@ impl Tree {
         let (from, until) = (own.from, own.until);
         let atom = self.atom(own.first);
         // Arguments and tuples that would fit on this line without their last comma have a line each.
-        let comma = atom.is_round() && self.previous(until).is_mark(',');
+        let comma = atom.is_round() && self.previous(until).role == Role::Comma;
         let fits = comma && self.width(from, until) <= CALL + 1 && self.fit(from, until, tail);
         let list = atom.is_list() && !fits && !matches!(atom.role, Role::Params | Role::Repeated);
-        let meta = atom.role == Role::Meta;
-        let most = if meta { usize::MAX } else { SHORT };
-        let short = list && self.are_short(from, until, Role::Comma, most);
+        let short = list && self.are_short(from, until, Role::Comma, SHORT);
         match atom.role {
             Role::Use if self.find_role(from, until, Role::Use) < until => LayStep::Names,
             role if role == Role::Use || short => LayStep::Fill,
@@ -109,7 +106,7 @@ impl Tree {
         } else {
             self.begin_line(part.first, task.indent);
             if !first && self.parts_items(&last, part) {
-                self.set_gap(part.first, Gap::Blank(task.indent));
+                self.set_gap(part.first, White::Blank(task.indent.min(DEEPEST) as u8));
             }
         }
         self.push(task.step, task, part.next, task.child);

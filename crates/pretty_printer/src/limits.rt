@@ -1,8 +1,7 @@
 //! Measures from the inside out: widths on one line, and what needs several lines. rustfmt's limits are here.
-use crate::atoms::{Atom, Kind, Lexeme, Role};
+use crate::atoms::{Atom, Kind, Lexeme, Role, White};
 use crate::parts::SHORT;
 use crate::tree::{Form, NO_HEAD, NOWHERE, Node, Tree};
-use layout::Gap;
 
 /// The largest width in characters on one line of a chain of calls, and of arguments.
 pub const CALL: usize = 60;
@@ -27,7 +26,9 @@ impl Tree {
             _ => usize::MAX,
         };
         let must = own.must || self.width(own.first, end) > limit || self.is_tall(own.first, end);
-        let head = self.head_of(own, self.node(own.last));
+        let opens = self.head_of(own, self.node(own.last));
+        let long = limit == CALL && opens > CALL;
+        let head = if long { NO_HEAD } else { opens };
         if let Some(node) = self.nodes.get_mut(index) {
             node.end = end;
             node.must = must;
@@ -67,7 +68,7 @@ impl Tree {
                 own.offset = offset.saturating_add(space & own.is_spaced() as usize);
                 own.tall_before = tall;
                 offset = own.offset.saturating_add(own.width);
-                tall = tall.saturating_add(own.tall as usize);
+                tall = tall.wrapping_add(own.tall as usize);
                 space = 1;
             }
         }
@@ -89,7 +90,7 @@ impl Tree {
         let own = self.node(group);
         let atom = self.atom(first);
         let padded = atom.is_brace() && atom.role != Role::Use && !self.is_doubled(own);
-        let gap = if padded { Gap::Space } else { Gap::Nothing };
+        let gap = if padded { White::Space } else { White::Nothing };
         let must = self.needs_lines(own, atom, inner);
         let long = must || inner > SHORT;
         let inside = if long { self.head_inside(own) } else { NO_HEAD };
@@ -115,7 +116,7 @@ impl Tree {
 
     /// Returns whether a group needs several lines. `inner` is the width of its list. The parts of a long one are read.
     fn needs_lines(&self, own: &Node, atom: &Atom, inner: usize) -> bool {
-        let comma = self.previous(own.until).is_mark(',');
+        let comma = self.previous(own.until).role == Role::Comma;
         let tall = own.must || atom.role == Role::Block || self.is_tall(own.from, own.until);
         if tall || inner <= FIELDS && !comma && atom.role != Role::Use {
             return tall;

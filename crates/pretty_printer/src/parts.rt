@@ -54,7 +54,7 @@ impl Tree {
         let mut at = first;
         for _ in first..end {
             let own = self.atom(at);
-            at = at.saturating_add(1);
+            at = at.wrapping_add(1);
             match own.role {
                 _ if own.ends || at >= end => return at,
                 _ if block => {}

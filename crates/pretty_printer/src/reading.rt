@@ -12,6 +12,8 @@ pub struct Unread<'a> {
     /// The index of its node.
     pub node: usize,
     pub trees: &'a [TokenTree],
+    /// Whether it is inside the delimiters of a macro's call.
+    pub call: bool,
 }
 
 /// Adds the atoms of these trees at the end of the atoms, and their groups at the end of the groups. After the atoms is
@@ -20,6 +22,7 @@ pub fn push_list<'a>(
     tree: &mut Tree,
     groups: &mut Vec<Unread<'a>>,
     trees: &'a [TokenTree],
+    call: bool,
 ) -> Result<(), AllocError> {
     tree.atoms.reserve(trees.len().saturating_add(1))?;
     let mut left = trees;
@@ -29,7 +32,7 @@ pub fn push_list<'a>(
                 let own = tree.atoms.len();
                 let node = tree.push_node(Form::Group, own, own.saturating_add(1));
                 let trees = group.stream_ref().trees();
-                groups.push(Unread { node, trees })?;
+                groups.push(Unread { node, trees, call })?;
                 let mut atom = Atom::new(Kind::Group(group.delimiter()), 2);
                 atom.node = node;
                 if atom.is_brace() && has_statements(trees) {

@@ -1,8 +1,7 @@
 //! Gives words and groups their roles.
-use crate::atoms::{Atom, Kind, Lexeme, Role, Sign};
+use crate::atoms::{Atom, Kind, Lexeme, Role, Sign, White};
 use crate::signs::{pair_angles, wants_space};
 use crate::tree::{NOWHERE, Tree};
-use layout::Gap;
 
 /// Gives the atoms in `first..end` their roles, and the gaps before them on one line. They are the list of a group with
 /// the role `inside`, in braces if `block`.
@@ -81,7 +80,7 @@ impl State {
                     Role::Greater => self.depth = self.depth.saturating_sub(1),
                     _ => {}
                 }
-                role = self.sign_role(tree, index, sign, role);
+                role = self.sign_role(tree, index, sign, own);
             }
             Kind::Nothing => {}
         }
@@ -94,7 +93,7 @@ impl State {
             changed.role = role;
             changed.ends = self.ends;
             changed.tall = tall;
-            changed.gap = if spaced { Gap::Space } else { Gap::Nothing };
+            changed.gap = if spaced { White::Space } else { White::Nothing };
         }
     }
 
@@ -122,7 +121,7 @@ impl State {
             Kind::Lexeme(Lexeme::Lifetime) => true,
             // For example `unsafe` and `async move`.
             Kind::Lexeme(Lexeme::Prefix) => passed < 3,
-            Kind::Lexeme(Lexeme::Name | Lexeme::MacroRules) => {
+            Kind::Lexeme(Lexeme::Name | Lexeme::Derive | Lexeme::MacroRules) => {
                 // For example `m! {}` and `union U {}`.
                 matches!(second.role, Role::Bang | Role::Path) || second.is_any_word()
             }
@@ -188,6 +187,8 @@ impl State {
             false if previous.role == Role::Hash => Role::Attribute,
             false => Role::Plain,
             _ if self.head == Head::Fn && (named || previous.role == Role::Greater) => Role::Params,
+            _ if self.inside == Role::Attribute && previous.is_word(Lexeme::Derive) =>
+                Role::Repeated,
             _ if matches!(self.inside, Role::Attribute | Role::Meta) => Role::Meta,
             _ if previous.is_value() || previous.role == Role::Bang => Role::Plain,
             _ => Role::Tuple,

@@ -1,7 +1,6 @@
 //! The trees that the atoms of lists are read as.
-use crate::atoms::{Atom, NOTHING, Role};
+use crate::atoms::{Atom, NOTHING, Role, White};
 use crate::lines::Task;
-use layout::Gap;
 use std::alloc::{AllocError, Global};
 
 /// The index of nothing.
@@ -134,12 +133,12 @@ impl Tree {
 
     /// Returns the atom before this index.
     pub fn previous(&self, index: usize) -> &Atom {
-        self.atom(index.saturating_sub(1))
+        self.atom(index.wrapping_sub(1))
     }
 
     /// Returns the atom after this index.
     pub fn next(&self, index: usize) -> &Atom {
-        self.atom(index.saturating_add(1))
+        self.atom(index.wrapping_add(1))
     }
 
     /// Returns the node at this index.
@@ -189,7 +188,7 @@ impl Tree {
     }
 
     /// Sets the gap before an atom.
-    pub fn set_gap(&mut self, index: usize, gap: Gap) {
+    pub fn set_gap(&mut self, index: usize, gap: White) {
         if let Some(atom) = self.atoms.get_mut(index) {
             atom.gap = gap;
         }

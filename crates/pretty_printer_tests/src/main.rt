@@ -1,7 +1,7 @@
 //! Writes the pretty texts of the streams on standard input, for comparison with recorded ones.
 //!
-//! No contract says where lines break. So `stdout` beside `stdin` records the texts of 1,035 streams. The first 100 are
-//! in full, then 900 are digests. The last 35 are in full again: their layouts were wrong once, or did not end.
+//! No contract says where lines break. So `stdout` beside `stdin` records the texts of 1,038 streams. The first 100 are
+//! in full, then 900 are digests. The last 38 are in full again: their layouts were wrong once, or did not end.
 //! `bench/pretty_record/remake.py` makes the record again. The status is 0 exactly if every line of the input is a row.
 #![tactic(auto)]
 

@@ -1,7 +1,6 @@
 // Made from crates/pretty_printer/src/atoms.rt by dev/erase: change that file, not this one.
 //! What lines are made of: words, operators and groups.
 
-use crate::layout::Gap;
 use crate::proc_macro2::Delimiter;
 
 /// The kind of an atom.
@@ -26,6 +25,7 @@ pub enum Lexeme {
     /// A keyword that no rule mentions.
     Keyword,
     As,
+    Derive,
     Else,
     Extern,
     Fn,
@@ -95,7 +95,7 @@ pub enum Role {
     /// The `|` that begins and ends a closure's parameters. `||` ends them.
     BarOpen,
     BarClose,
-    /// A group that a macro repeats.
+    /// A group that a macro repeats, and the parentheses of a `derive`.
     Repeated,
     /// The brackets of an attribute, and parentheses in one.
     Attribute,
@@ -116,7 +116,17 @@ pub enum Role {
     Expression,
 }
 
-/// A word, an operator or a group. The fields are in the order of their sizes, so that there is no padding.
+/// A gap, in two bytes.
+#[derive(Clone, Copy)]
+pub enum White {
+    Nothing,
+    Space,
+    /// A line end, and an empty line after it, with the number of spaces after them.
+    Line(u8),
+    Blank(u8),
+}
+
+/// A word, an operator or a group.
 #[derive(Clone, Copy)]
 pub struct Atom {
     /// The number of characters, if a group is on one line.
@@ -128,7 +138,7 @@ pub struct Atom {
     /// Of a group: the index of its node. Of `<` around types: that of its `>`, and the other way round.
     pub node: usize,
     /// The gap before it: at first that on one line, and that in the text once lines are broken.
-    pub gap: Gap,
+    pub gap: White,
     pub kind: Kind,
     pub role: Role,
     /// Whether its last mark is Joint, so that no gap may follow.
@@ -145,7 +155,7 @@ pub static NOTHING: Atom = Atom {
     offset: 0,
     tall_before: 0,
     node: 0,
-    gap: Gap::Nothing,
+    gap: White::Nothing,
     kind: Kind::Nothing,
     role: Role::Plain,
     glued: false,
@@ -162,7 +172,7 @@ impl Atom {
             offset: 0,
             tall_before: 0,
             node: 0,
-            gap: Gap::Nothing,
+            gap: White::Nothing,
             kind,
             role: Role::Plain,
             glued: false,
@@ -226,7 +236,7 @@ impl Atom {
 
     /// Whether a space is before it on one line.
     pub fn is_spaced(&self) -> bool {
-        matches!(self.gap, Gap::Space)
+        matches!(self.gap, White::Space)
     }
 
     /// Whether it is a comma or a semicolon.
@@ -238,7 +248,7 @@ impl Atom {
     pub fn is_name(&self) -> bool {
         match self.kind {
             Kind::Lexeme(Lexeme::Name | Lexeme::Fragment | Lexeme::Literal) => true,
-            Kind::Lexeme(Lexeme::String | Lexeme::Lifetime) => true,
+            Kind::Lexeme(Lexeme::String | Lexeme::Lifetime | Lexeme::Derive) => true,
             _ => false,
         }
     }
@@ -257,6 +267,7 @@ impl Atom {
 pub fn word_of(text: &str) -> Lexeme {
     match text.as_bytes() {
         b"as" => Lexeme::As,
+        b"derive" => Lexeme::Derive,
         b"else" => Lexeme::Else,
         b"extern" => Lexeme::Extern,
         b"fn" => Lexeme::Fn,

@@ -3,6 +3,7 @@
 
 use crate::shim::prelude::Grow;
 
+use crate::pretty_printer::atoms::White;
 use crate::layout::{Chooser, Gap, GapContext};
 use crate::quoting::join::Visit;
 use crate::shim::alloc::AllocError;
@@ -17,22 +18,11 @@ pub struct ListPosition {
     pub trees: usize,
 }
 
-impl ListPosition {
-    /// Returns a list of which no atom is read.
-    pub fn new(first: usize, end: usize) -> ListPosition {
-        ListPosition {
-            at: first,
-            end,
-            trees: 0,
-        }
-    }
-}
-
 /// The gaps before the tokens, openers and closers of a stream.
 pub struct Chosen {
-    gaps: Vec<Gap>,
+    pub gaps: Vec<White>,
     /// The index of the next of them.
-    at: usize,
+    pub at: usize,
     /// The marks that are to be joined, in reading order, with each group around them before the marks inside it.
     pub visits: Vec<Visit>,
     /// The number of groups around the next atom that are among them.
@@ -40,19 +30,9 @@ pub struct Chosen {
 }
 
 impl Chosen {
-    /// Returns no gaps.
-    pub fn new() -> Chosen {
-        Chosen {
-            gaps: Vec::new(),
-            at: 0,
-            visits: Vec::new(),
-            entered: 0,
-        }
-    }
-
     /// Adds the gap before the next token, opener or closer.
     #[cfg_attr(not(debug_assertions), inline(always))]
-    pub fn add(&mut self, gap: Gap) -> Result<(), AllocError> {
+    pub fn add(&mut self, gap: White) -> Result<(), AllocError> {
         self.gaps.push_fallibly(gap)?;
         Ok(())
     }
@@ -75,15 +55,16 @@ impl Chosen {
 
 impl Chooser for Chosen {
     #[cfg_attr(not(debug_assertions), inline(always))]
-    fn gap(&mut self, place: GapContext<'_>) -> Gap {
-        match (place.after, place.before) {
-            (None, None) => Gap::Nothing,
-            (None, Some(_)) => Gap::Line(0),
-            (Some(_), _) => {
-                let gap = self.gaps.get(self.at).copied();
-                self.at = self.at.saturating_add(1);
-                gap.unwrap_or(Gap::Nothing)
-            }
+    fn gap(&mut self, _place: GapContext<'_>) -> Gap {
+        let gap = self.gaps.get(self.at);
+        self.at = self.at.wrapping_add(1);
+        match gap {
+            Some(White::Space) => Gap::Space,
+            Some(White::Line(column)) => Gap::Line(*column as usize),
+            Some(White::Blank(column)) => Gap::Blank(*column as usize),
+            // A stream with tokens ends with a line.
+            None if self.at > 1 => Gap::Line(0),
+            _ => Gap::Nothing,
         }
     }
 }

@@ -124,8 +124,7 @@ impl Tree {
         }
         let previous = *self.previous(index);
         let strength = strength_of(own, &previous, self.next(index));
-        let bang = previous.role == Role::Bang;
-        let body = own.is_body() && self.reader.controls > 0 && !bang;
+        let body = own.is_body() && self.reader.controls > 0 && previous.role != Role::Bang;
         let inside = !self.reader.opens.is_empty();
         match own.kind {
             Kind::Group(_) if body => self.take_block(index, own),

@@ -1,11 +1,10 @@
 // Made from crates/pretty_printer/src/groups.rt by dev/erase: change that file, not this one.
 //! Breaks the lines of groups and of items.
 
-use crate::pretty_printer::atoms::{Atom, Kind, Lexeme, Role};
+use crate::pretty_printer::atoms::{Atom, Kind, Lexeme, Role, White};
 use crate::pretty_printer::limits::CALL;
-use crate::pretty_printer::lines::{LayStep, Task, WIDTH, deeper};
+use crate::pretty_printer::lines::{DEEPEST, LayStep, Task, WIDTH, deeper};
 use crate::pretty_printer::tree::{Form, NOWHERE, Node, Tree};
-use crate::layout::Gap;
 
 /// The largest width of an element if several elements share a line.
 const SHORT: usize = 10;
@@ -65,12 +64,10 @@ impl Tree {
         let (from, until) = (own.from, own.until);
         let atom = self.atom(own.first);
         // Arguments and tuples that would fit on this line without their last comma have a line each.
-        let comma = atom.is_round() && self.previous(until).is_mark(',');
+        let comma = atom.is_round() && self.previous(until).role == Role::Comma;
         let fits = comma && self.width(from, until) <= CALL + 1 && self.fit(from, until, tail);
         let list = atom.is_list() && !fits && !matches!(atom.role, Role::Params | Role::Repeated);
-        let meta = atom.role == Role::Meta;
-        let most = if meta { usize::MAX } else { SHORT };
-        let short = list && self.are_short(from, until, Role::Comma, most);
+        let short = list && self.are_short(from, until, Role::Comma, SHORT);
         match atom.role {
             Role::Use if self.find_role(from, until, Role::Use) < until => LayStep::Names,
             role if role == Role::Use || short => LayStep::Fill,
@@ -111,7 +108,7 @@ impl Tree {
         } else {
             self.begin_line(part.first, task.indent);
             if !first && self.parts_items(&last, part) {
-                self.set_gap(part.first, Gap::Blank(task.indent));
+                self.set_gap(part.first, White::Blank(task.indent.min(DEEPEST) as u8));
             }
         }
         self.push(task.step, task, part.next, task.child);

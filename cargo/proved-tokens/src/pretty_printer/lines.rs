@@ -1,16 +1,15 @@
 // Made from crates/pretty_printer/src/lines.rt by dev/erase: change that file, not this one.
 //! Breaks the lines of a part from the outside in, by a list of tasks.
 
-use crate::pretty_printer::atoms::Role;
+use crate::pretty_printer::atoms::{Role, White};
 use crate::pretty_printer::tree::{Form, NOWHERE, Node, Tree, push_item};
-use crate::layout::Gap;
 
 /// The number of columns of a line.
 pub const WIDTH: usize = 100;
 /// The number of columns by which a block is indented.
 pub const TAB: usize = 4;
 /// The largest column at which a line begins. It keeps the size of a deeply nested text in proportion to its tokens.
-const DEEPEST: usize = 60;
+pub const DEEPEST: usize = 60;
 
 /// What is to be done.
 #[derive(Clone, Copy, PartialEq)]
@@ -54,10 +53,8 @@ impl Tree {
         self.lay(node, 0, 1);
         // An atom begins at most eight nodes, and a node has at most four tasks. A task that is left keeps its gaps.
         for _ in 0..self.atoms.len().saturating_mul(32) {
-            match self.tasks.pop() {
-                Some(task) => self.take_task(&task),
-                None => break,
-            }
+            let Some(task) = self.tasks.pop() else { break };
+            self.take_task(&task);
         }
     }
 
@@ -204,7 +201,7 @@ impl Tree {
         if self.previous(index).glued {
             return;
         }
-        self.set_gap(index, Gap::Line(column));
+        self.set_gap(index, White::Line(column.min(DEEPEST) as u8));
         self.column = column;
         self.is_shut = false;
     }

@@ -3,12 +3,11 @@
 
 use crate::shim::prelude::Grow;
 
-use crate::pretty_printer::atoms::{Lexeme, Role};
+use crate::pretty_printer::atoms::{Lexeme, Role, White};
 use crate::pretty_printer::chosen::{Chosen, ListPosition};
 use crate::pretty_printer::reading::{Unread, push_list};
 use crate::pretty_printer::roles::assign_roles;
 use crate::pretty_printer::tree::{NOWHERE, Tree, push_item};
-use crate::layout::Gap;
 use crate::proc_macro2::TokenStream;
 use crate::shim::alloc::AllocError;
 
@@ -37,7 +36,7 @@ impl<'a> Printer<'a> {
     pub fn new(stream: &'a TokenStream) -> Result<Printer<'a>, AllocError> {
         let mut tree = Tree::new()?;
         let mut groups = Vec::new();
-        push_list(&mut tree, &mut groups, stream.trees())?;
+        push_list(&mut tree, &mut groups, stream.trees(), false)?;
         let end = tree.atoms.len().saturating_sub(1);
         assign_roles(&mut tree, 1, end, true, Role::Block);
         let part = tree.nodes.len();
@@ -50,13 +49,23 @@ impl<'a> Printer<'a> {
             end,
             part,
             next_group: 0,
-            here: ListPosition::new(1, 1),
+            here: ListPosition {
+                at: 1,
+                end: 1,
+                trees: 0,
+            },
             outer: Vec::new(),
-            chosen: Chosen::new(),
+            chosen: Chosen {
+                gaps: Vec::new(),
+                at: 0,
+                visits: Vec::new(),
+                entered: 0,
+            },
         })
     }
 
     /// Returns the gaps of the stream.
+    #[cfg_attr(not(debug_assertions), inline(always))]
     pub fn choose(mut self) -> Result<Chosen, AllocError> {
         for _ in 0..usize::MAX {
             if self.pass_atoms()? {
@@ -87,21 +96,21 @@ impl<'a> Printer<'a> {
         for own in tree.atoms.get(here.at..here.end).unwrap_or(&[]) {
             let marks = own.is_sign() || own.is_word(Lexeme::Lifetime);
             let touches = marks && before.is_sign() && !before.glued;
-            if touches && matches!(own.gap, Gap::Nothing) && !is_doc_bang(tree, here.at) {
+            if touches && matches!(own.gap, White::Nothing) && !is_doc_bang(tree, here.at) {
                 self.chosen.want(&self.outer, &here)?;
             }
             let tokens = own.tokens();
             self.chosen.add(own.gap)?;
-            here.at = here.at.saturating_add(1);
-            here.trees = here.trees.saturating_add(tokens);
+            here.at = here.at.wrapping_add(1);
+            here.trees = here.trees.wrapping_add(tokens);
             if own.is_group() {
                 let inner = tree.node(own.node);
                 self.outer.push_fallibly(here)?;
-                self.here = ListPosition::new(inner.from, inner.until);
+                (self.here.at, self.here.end, self.here.trees) = (inner.from, inner.until, 0);
                 return Ok(true);
             }
             for _ in 1..tokens {
-                self.chosen.add(Gap::Nothing)?;
+                self.chosen.add(White::Nothing)?;
             }
             before = own;
         }
@@ -118,9 +127,9 @@ impl<'a> Printer<'a> {
         let node = self.tree.read_part(part.first, part.end, true);
         self.tree.lay_all(node);
         let gap = match part.first {
-            1 => Gap::Nothing,
-            _ if self.tree.parts_items(&last, &part) => Gap::Blank(0),
-            _ => Gap::Line(0),
+            1 => White::Nothing,
+            _ if self.tree.parts_items(&last, &part) => White::Blank(0),
+            _ => White::Line(0),
         };
         self.tree.set_gap(part.first, gap);
         self.part = self.part.saturating_add(1);
@@ -153,9 +162,8 @@ impl<'a> Printer<'a> {
         }
         // Groups are before the groups inside them, and are measured after them.
         for _ in top..self.groups.len() {
-            if let Some(group) = self.groups.pop() {
-                self.tree.measure_group(group.node);
-            }
+            let Some(last) = self.groups.pop() else { break };
+            self.tree.measure_group(last.node);
         }
     }
 
@@ -163,16 +171,22 @@ impl<'a> Printer<'a> {
     fn read_group(&mut self, group: Unread<'a>) {
         let tree = &mut self.tree;
         let first = tree.atoms.len();
-        if let Err(error) = push_list(tree, &mut self.groups, group.trees) {
+        let at = tree.node(group.node).first;
+        let own = *tree.atom(at);
+        let call = group.call || tree.previous(at).role == Role::Bang;
+        if let Err(error) = push_list(tree, &mut self.groups, group.trees, call) {
             tree.failure = Some(error);
         }
         let end = tree.atoms.len().saturating_sub(1);
-        let own = *tree.atom(tree.node(group.node).first);
         if let Some(node) = tree.nodes.get_mut(group.node) {
             node.from = first;
             node.until = end;
         }
         assign_roles(tree, first, end, own.is_brace(), own.role);
+        // In a macro's call a comma at the end of a list is no reason for several lines.
+        if group.call && !own.is_brace() && tree.previous(end).role == Role::Comma {
+            tree.set_role(end.saturating_sub(1), Role::Separator, 0);
+        }
     }
 }
 

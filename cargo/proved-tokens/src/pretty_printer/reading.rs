@@ -16,6 +16,8 @@ pub struct Unread<'a> {
     /// The index of its node.
     pub node: usize,
     pub trees: &'a [TokenTree],
+    /// Whether it is inside the delimiters of a macro's call.
+    pub call: bool,
 }
 
 /// Adds the atoms of these trees at the end of the atoms, and their groups at the end of the groups. After the atoms is
@@ -24,6 +26,7 @@ pub fn push_list<'a>(
     tree: &mut Tree,
     groups: &mut Vec<Unread<'a>>,
     trees: &'a [TokenTree],
+    call: bool,
 ) -> Result<(), AllocError> {
     tree.atoms.reserve_fallibly(trees.len().saturating_add(1))?;
     let mut left = trees;
@@ -33,7 +36,7 @@ pub fn push_list<'a>(
                 let own = tree.atoms.len();
                 let node = tree.push_node(Form::Group, own, own.saturating_add(1));
                 let trees = group.stream_ref().trees();
-                groups.push_fallibly(Unread { node, trees })?;
+                groups.push_fallibly(Unread { node, trees, call })?;
                 let mut atom = Atom::new(Kind::Group(group.delimiter()), 2);
                 atom.node = node;
                 if atom.is_brace() && has_statements(trees) {

@@ -105,10 +105,8 @@ impl Tree {
         let block = child.form == Form::Closure || self.atom(child.first).is_word(Lexeme::Prefix);
         let stays = child.must || block && child.head != NO_HEAD;
         let opens = self.column.saturating_add(child.head) <= WIDTH;
-        let width = match stays {
-            true => NO_HEAD,
-            false => self.width(child.first, child.end).saturating_add(tail),
-        };
+        let whole = self.width(child.first, child.end).saturating_add(tail);
+        let width = if stays { NO_HEAD } else { whole };
         let needed = if opens { width } else { width.min(child.head) };
         let moves = equals && !fits && below < self.column && below.saturating_add(needed) <= WIDTH;
         if moves {

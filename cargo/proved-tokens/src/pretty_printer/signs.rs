@@ -43,9 +43,9 @@ fn ends_types(atom: &Atom, previous: &Atom) -> bool {
 }
 
 impl State {
-    /// Returns the role of an operator at this index. `role` is the one that it has as an angle.
-    pub fn sign_role(&mut self, tree: &Tree, index: usize, sign: Sign, role: Role) -> Role {
-        let (previous, own, next) = (tree.previous(index), tree.atom(index), tree.next(index));
+    /// Returns the role of an operator at this index. The role that it has already is that of an angle.
+    pub fn sign_role(&mut self, tree: &Tree, index: usize, sign: Sign, own: &Atom) -> Role {
+        let previous = tree.previous(index);
         let listed = self.depth > 0 || self.in_bars || is_item(self.head);
         self.ends = own.is_mark(';') || own.is_mark(',') && !listed;
         if self.ends || matches!(sign, Sign::Arm) {
@@ -61,12 +61,12 @@ impl State {
         let begins = index == self.start;
         let value = previous.is_value() && !(begins && previous.is_brace());
         match sign {
-            Sign::One('!') => bang_role(previous, next, value),
+            Sign::One('!') => bang_role(previous, tree.next(index), value),
             Sign::One('|') if begins && begins_arm(tree, index) => Role::Between,
             Sign::One('|') | Sign::Or => self.bar_role(own, value && !ends_binder(tree, previous)),
             // For example `a ?= b` in a macro.
-            Sign::One('?') if next.is_mark('=') && own.glued => Role::Between,
-            _ if role != Role::Plain => role,
+            Sign::One('?') if own.glued && tree.next(index).is_mark('=') => Role::Between,
+            _ if own.role != Role::Plain => own.role,
             _ => plain_role(sign, value),
         }
     }
@@ -175,13 +175,11 @@ fn is_close(role: Role, own: &Atom) -> bool {
 
 /// Returns whether a space follows an operator.
 fn is_wide(tree: &Tree, index: usize, previous: &Atom, next: &Atom) -> bool {
+    let dollar = tree.atom(index.wrapping_sub(3));
     match previous.role {
-        Role::Colon => {
-            let dollar = tree.atom(index.saturating_sub(3));
-            !(dollar.is_mark('$') && next.is_word(Lexeme::Fragment))
-        }
+        Role::Colon if next.is_word(Lexeme::Fragment) => !dollar.is_mark('$'),
         Role::Bang => !next.is_list(),
-        Role::Plain | Role::Between | Role::Arm | Role::BarClose => true,
+        Role::Plain | Role::Between | Role::Arm | Role::BarClose | Role::Colon => true,
         role => role == Role::Comma || role == Role::Semicolon,
     }
 }

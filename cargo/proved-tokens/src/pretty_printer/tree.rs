@@ -3,9 +3,8 @@
 
 use crate::shim::prelude::Grow;
 
-use crate::pretty_printer::atoms::{Atom, NOTHING, Role};
+use crate::pretty_printer::atoms::{Atom, NOTHING, Role, White};
 use crate::pretty_printer::lines::Task;
-use crate::layout::Gap;
 use crate::shim::alloc::AllocError;
 
 /// The index of nothing.
@@ -136,12 +135,12 @@ impl Tree {
 
     /// Returns the atom before this index.
     pub fn previous(&self, index: usize) -> &Atom {
-        self.atom(index.saturating_sub(1))
+        self.atom(index.wrapping_sub(1))
     }
 
     /// Returns the atom after this index.
     pub fn next(&self, index: usize) -> &Atom {
-        self.atom(index.saturating_add(1))
+        self.atom(index.wrapping_add(1))
     }
 
     /// Returns the node at this index.
@@ -191,7 +190,7 @@ impl Tree {
     }
 
     /// Sets the gap before an atom.
-    pub fn set_gap(&mut self, index: usize, gap: Gap) {
+    pub fn set_gap(&mut self, index: usize, gap: White) {
         if let Some(atom) = self.atoms.get_mut(index) {
             atom.gap = gap;
         }
