@@ -120,6 +120,9 @@
 //!   there in the attributes or in the item
 //! - <a id="declarations.Field.HasFieldParts"></a>**HasFieldParts**: the trees are a named field with these
 //!   parts: attributes, a visibility, a name, `:` and a type
+//! - <a id="declarations.Kind.HasKind"></a>**HasKind**: the trees begin with an item of this kind and this
+//!   name: attributes, a visibility, qualifiers, the keyword of the kind, and from the name on what the kind
+//!   has there
 //! - <a id="declarations.EntryCheck.HasNames"></a>**HasNames**: the entries before the left trees have known
 //!   names, no two the same. Their positions are in the list, the last first
 //! - <a id="declarations.Field.HasTypeParts"></a>**HasTypeParts**: the trees are a field without a name, with
@@ -196,6 +199,7 @@
 //!   `where`: it is at the first tree, where `where` is missing
 //! - <a id="declarations.List.ListsFields"></a>**ListsFields**: the list gives the fields of this struct or
 //!   variant
+//! - <a id="declarations.Kind.OneKind"></a>**OneKind**: an item that begins the trees has one kind and one name
 //! - <a id="declarations.Param.ParamTrees"></a>**ParamTrees**: the parts of a generic parameter, as lists of
 //!   trees
 //! - <a id="declarations.Param.PredicateTrees"></a>**PredicateTrees**: the parts of a predicate, as lists of
@@ -207,8 +211,6 @@
 //!   the start of any signs
 //! - <a id="declarations.Param.ReadsElement"></a>**ReadsElement**: the trees begin with what the rule reads.
 //!   Then comes a `,` and the rest, or nothing
-//! - <a id="declarations.Kind.Tells"></a>**Tells**: the walk over the item's signs, up to the rest, ends in an
-//!   item of this kind and finds this name
 //! - <a id="declarations.Attribute.after_path"></a>**after_path**: the trees after the path that the trees
 //!   begin with
 //! - <a id="declarations.rules.Items.any_item"></a>**any_item**: an item of any kind, or a group without

@@ -12,8 +12,8 @@ use proved_tokens::items::{
     bare_trees, check_entries, compile_error, impl_generics, impl_header, impl_header_where, parse_entry, parse_file,
     parse_function, parse_generic_argument, parse_impl, parse_param, parse_parameter, parse_type_item, parse_type_path,
     split_any_item, split_attribute, split_attributes, split_type, split_visibility, type_generics, where_clause,
-    where_clause_with_bound, within_generics, ArgumentKind, Attributes, Body, Entries, EntryKind, GenericArguments,
-    ItemKind, Keyword, ParamKind, ParameterKind, Parameters, PathArguments, SignClass,
+    where_clause_with_bound, within_generics, ArgumentKind, Attributes, Body, Entries, EntryKind, FieldList,
+    GenericArguments, ItemKind, Keyword, ParamKind, ParameterKind, Parameters, PathArguments, SignClass, VariantList,
 };
 use proved_tokens::print::to_pretty_string;
 use proved_tokens::quote::{Hole, Holes, Quote, Template};
@@ -274,7 +274,7 @@ fn calls_for_lints_and_editors() -> Outcome {
     let text = "enum E { A = x as (u8) < 3, B = y as (u8) > (1), C }";
     let stream: TokenStream = text.parse()?;
     let Body::Enum(variants) = parse_type_item(stream.trees())?.body else { return Err("it is an enum".into()) };
-    let list = proved_tokens::items::VariantList::new(variants);
+    let list = VariantList::new(variants);
     let names: Vec<_> = list.map(|variant| Ok(variant?.name.to_string())).collect::<Result<_, Box<dyn Error>>>()?;
     assert_eq!(names, ["A", "B", "C"]);
     Ok(())
@@ -289,6 +289,33 @@ fn calls_for_lints_in_bodies() -> Outcome {
     assert!(split_any_item(rest).is_err());
     let (attribute, rest) = split_attribute(trees).ok_or("no attribute")?;
     assert!(attribute.is("a") && rest.len() == 5);
+    Ok(())
+}
+
+#[test]
+fn calls_for_fields_and_attributes_of_files() -> Outcome {
+    let file: TokenStream = "#![no_std] impl A for fn(u8) {} enum E { B } union U { c: Fn(u8) }".parse()?;
+    let file = parse_file(file.trees())?;
+    assert!(Attributes::new(file.inner).all(|attribute| attribute.is_inner()));
+    let mut names = Vec::new();
+    for item in file.items {
+        let item = item?;
+        match item.kind {
+            ItemKind::Impl => assert!(parse_impl(item.trees)?.trait_path.is_some()),
+            _ => match parse_type_item(item.trees)?.body {
+                Body::Enum(group) => names.push(VariantList::new(group).next().ok_or("no variant")??.name.to_string()),
+                Body::Union(group) => {
+                    let field = FieldList::named(group).next().ok_or("no field")??;
+                    names.push(field.name.ok_or("no name")?.to_string());
+                }
+                Body::Struct(_) => return Err("it is no struct".into()),
+            },
+        }
+    }
+    assert_eq!(names, ["B", "c"]);
+    let i = 1;
+    let Ok(index) = Literal::usize_unsuffixed(i);
+    assert_eq!(quote! { self.#index }.to_string(), "self . 1");
     Ok(())
 }
 

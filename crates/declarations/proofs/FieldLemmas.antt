@@ -1,6 +1,6 @@
 -- Attributes and a visibility before a part, and the parts of a field with a name.
 use Rattle.std.proofs.Common.{◌≡◌, refl, sym, ◌∙◌, ap, subst, ℕ, ◌-◌, true, false, List, [], ◌∷◌, ◌++◌}
-use Rattle.std.proofs.Common.{Option, Some, None, append_assoc, append-nil, length, arith}
+use Rattle.std.proofs.Common.{Option, Some, None, append_assoc, append-nil, length}
 use Rattle.std.proofs.lemmas.List.{append_cancel_left, append_cancel_right}
 use Rattle.grammars.specs.Deterministic.{IsStart}
 use Rattle.grammars.specs.First.{may_begin}
@@ -197,7 +197,7 @@ module _ (trees a v mid rest : List TokenTree) (f : ReadsFront trees a v mid) wh
             ∙ (ap (λ ts. v ++ ts) b.whole
             ∙ (sym (append_assoc v (trees_of b.front) rest) ∙ ap (λ ts. ts ++ rest) (sym same)));
       } in
-      let attributed = parts_read.attributes_read trees a f.from_visibility f.attributes_found f.attributes_whole in
+      let attributed = parts_read.attributes_reads trees a f.from_visibility f.attributes_found f.attributes_whole in
       let visible = parts_read.visibility_reads f.from_visibility v mid f.visibility_found f.visibility_whole in
       record {
         whole = refl;

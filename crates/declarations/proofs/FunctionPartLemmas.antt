@@ -2,11 +2,11 @@
 use Rattle.std.proofs.Common.{◌≡◌, refl, sym, ◌∙◌, ap, subst, Bool, true, false, ◌&&◌, ◌||◌, List, [], ◌∷◌}
 use Rattle.std.proofs.Common.{◌++◌, inl, inr, arith}
 use Rattle.std.proofs.lemmas.Bool.{both_ways}
-use Rattle.std.specs.Prelude.{MatchResult, Result}
+use Rattle.std.specs.Prelude.{Result}
 use Rattle.std.specs.Borrow.{Bor}
 use Rattle.grammars.specs.Deterministic.{IsStart}
 use Rattle.grammars.specs.First.{heads, may_begin}
-use Rattle.grammars.specs.Grammar.{Mark, Nothing, Sign, Then, perhaps}
+use Rattle.grammars.specs.Grammar.{Either, Mark, Nothing, Sign, Then, perhaps}
 use Rattle.pm_token.specs.Leaf.{Name}
 use Rattle.pm_token.specs.declared.delimiters.Delimiter.{Delimiter}
 use Rattle.pm_token.specs.declared.delimiters.Delimiter.TheVariants as delimiters
@@ -14,61 +14,171 @@ use Rattle.pm_stream.specs.Forest.{Forest}
 use Rattle.pm_stream.specs.declared.stream.Group.{Group as Grouped}
 use Rattle.pm_stream.specs.declared.stream.TokenTree.{TokenTree}
 use Rattle.pm_stream.specs.declared.stream.TokenTree.TheVariants.{Group, Ident}
-use Rattle.declarations.specs.Forms.{start}
 use Rattle.declarations.specs.Function.{AreParentheses, HasReturn, IsBlock}
 use Rattle.declarations.specs.Function.{IsNameAt}
 use Rattle.declarations.specs.Item.{IsNameClass}
+use Rattle.declarations.specs.PartList.{list_rule}
+use Rattle.declarations.specs.declared.part_list.Element.TheVariants as elements
 use Rattle.declarations.specs.Reader.{Finds, ReadsRule, Sticks, classes_in}
-use Rattle.declarations.specs.Reading.{StopsAt}
 use Rattle.declarations.specs.Signs as signs_in
 use Rattle.declarations.specs.Signs.{BeginsWith, group_class, is_restriction, name_class, parentheses_class}
 use Rattle.item_tables.specs.declared.class.SignClass.{SignClass}
 use Rattle.item_tables.specs.declared.class.SignClass.TheVariants as signs
 use Rattle.item_tables.specs.declared.class.Keyword.TheVariants as keywords
 use Rattle.item_tables.specs.declared.class.Word.TheVariants as words
-use Rattle.item_tables.specs.declared.walk_state.Continuation.TheVariants as places
-use Rattle.item_tables.specs.declared.walk_state.Spot.TheVariants as spots
-use Rattle.item_tables.specs.declared.walk_state.State.TheVariants as states
 use Rattle.declarations.specs.rules.Bodies.{block, braces, function_end, semicolon}
-use Rattle.item_tables.specs.Classes.{is, is_block, is_round, is_word}
+use Rattle.item_tables.specs.Classes.{is, is_block, is_round, is_word, opens}
 use Rattle.declarations.specs.rules.Fronts.{is_safe}
 use Rattle.declarations.specs.rules.Functions as rule
-use Rattle.declarations.specs.rules.Names.{Body, Label, Name as RuleName, Rest, Returns, key}
+use Rattle.declarations.specs.rules.Names.{Body, Generics, Label, Name as RuleName, Rest, Returns, Where, comma_list}
+use Rattle.declarations.specs.rules.Names.{key}
 use Rattle.declarations.specs.rules.Names.{G, one, word}
-use Rattle.declarations.specs.rules.Parts.{generics, where_clause}
+use Rattle.declarations.specs.rules.Parts.{closed_parameters, generics, parameters, predicate, where_clause}
 use Rattle.declarations.specs.rules.Rules.{follows, rules}
 use Rattle.declarations.specs.rules.Types.{type}
 use Rattle.declarations.proofs.ClassLemmas.{same_class}
-use Rattle.declarations.proofs.ReaderLemmas.{first_finds, first_sticks, heads_none, heads_sign, lacks, mark_finds}
-use Rattle.declarations.proofs.ReaderLemmas.{mark_sticks, other_finds, other_sticks, perhaps_stays}
+use Rattle.declarations.proofs.ReaderLemmas.{first_finds, first_reads, first_sticks, heads_none, heads_sign, lacks}
+use Rattle.declarations.proofs.ReaderLemmas.{mark_finds, mark_reads, mark_sticks, other_finds, other_reads}
+use Rattle.declarations.proofs.ReaderLemmas.{other_sticks}
+use Rattle.declarations.proofs.ReaderLemmas.{perhaps_reads, perhaps_stays, then_reads, then_sticks}
 use Rattle.declarations.proofs.ReaderLemmas.{sign_ends, sign_finds, sign_sticks}
 use Rattle.declarations.proofs.ReaderLemmas.{then_fails, then_finds}
 use Rattle.declarations.proofs.RuleFormLemmas.{found_reads}
 use Rattle.declarations.proofs.RuleLemmas.{starts}
 use Rattle.declarations.proofs.SignLemmas.{signs_group}
+use Rattle.declarations.proofs.TreeLemmas.{or_nothing}
 use Rattle.declarations.proofs.SortLemmas.{is_group_sign, groups, is_identifier_sign, names, sort_of, unseen}
-use Rattle.declarations.proofs.TableReaderLemmas.{table_reads}
 
 -- ---- where a reading begins
 
 starts_type : IsStart rules follows (type ∷ [])
 starts_type = starts type refl refl
 
--- ---- parts that the tables read
+-- ---- generic parameters
 
-pub generics_read : (trees : List TokenTree) (result : Result (Bor (List TokenTree)) (Bor (List TokenTree)))
-    → MatchResult result
-    (λ rest. StopsAt (start places.Alone (states.At spots.Generics)) true trees rest.now)
-    (λ left. StopsAt (start places.Alone (states.At spots.Generics)) false trees left.now)
+abbrev less : G
+less = Then (one signs.Less) closed_parameters
+
+abbrev less_joint : G
+less_joint = Then (one signs.LessJoint) closed_parameters
+
+abbrev opened_parameters : G
+opened_parameters = Either less less_joint
+
+less_first : (c : SignClass) → may_begin less c ≡ is signs.Less c
+less_first c = or_nothing (is signs.Less c) (may_begin closed_parameters c)
+
+less_joint_first : (c : SignClass) → may_begin less_joint c ≡ is signs.LessJoint c
+less_joint_first c = or_nothing (is signs.LessJoint c) (may_begin closed_parameters c)
+
+generics_first : (c : SignClass) → may_begin (Then (Mark Generics) opened_parameters) c ≡ opens c
+generics_first c = go (is signs.Less c) (is signs.LessJoint c) (may_begin closed_parameters c)
+  where
+    go : (x y z : Bool) → ((x || false && z) || (y || false && z)) ≡ (x || (y || false))
+    go true y z = refl
+    go false true z = refl
+    go false false z = refl
+
+or_second : (x y : Bool) → x ≡ false → (x || (y || false)) ≡ true → y ≡ true
+or_second true y e h = absurd (both_ways _ e refl)
+or_second false true e h = refl
+or_second false false e h = h
+
+-- `<`, and then parameters and `>`
+open_reads : (trees rest : List TokenTree) (class : SignClass)
+    (result : Result (Bor (List TokenTree)) (Bor (List TokenTree))) → BeginsWith trees class rest → opens class ≡ true
+    → ReadsRule closed_parameters rest result
+    → ReadsRule opened_parameters trees result
+open_reads trees rest class result b h f = go (is signs.Less class) refl
+  where
+    joint : (x : Bool) → is signs.Less class ≡ x → x ≡ false → is signs.LessJoint class ≡ true
+    joint false e _ = or_second (is signs.Less class) (is signs.LessJoint class) e h
+    joint true e none = absurd (both_ways _ none refl)
+
+    go : (x : Bool) → is signs.Less class ≡ x → ReadsRule opened_parameters trees result
+    go true e =
+        first_reads less less_joint trees result (heads_sign less trees rest class b ∙ (less_first class ∙ e))
+        (then_reads (one signs.Less) closed_parameters trees rest result
+        (sign_finds (is signs.Less) trees rest class b e) f)
+    go false e =
+        other_reads less less_joint trees result (heads_sign less trees rest class b ∙ (less_first class ∙ e)) refl
+        (then_reads (one signs.LessJoint) closed_parameters trees rest result
+        (sign_finds (is signs.LessJoint) trees rest class b (joint false e refl)) f)
+
+pub brackets_read : (trees rest : List TokenTree) (class : SignClass) (begun : Bool)
+    (result : Result (Bor (List TokenTree)) (Bor (List TokenTree))) → BeginsWith trees class rest
+    → begun ≡ opens class → begun ≡ true → ReadsRule closed_parameters rest result
     → ReadsRule generics trees result
-generics_read = table_reads (start places.Alone (states.At spots.Generics)) generics refl
+brackets_read trees rest class begun result b is_begun h f =
+    perhaps_reads (Then (Mark Generics) opened_parameters) trees result
+    (heads_sign (Then (Mark Generics) opened_parameters) trees rest class b
+    ∙ (generics_first class ∙ (sym is_begun ∙ h)))
+    (mark_reads Generics opened_parameters trees result
+    (open_reads trees rest class result b (sym is_begun ∙ h) f))
 
-pub where_reads : (trees : List TokenTree) (result : Result (Bor (List TokenTree)) (Bor (List TokenTree)))
-    → MatchResult result
-    (λ rest. StopsAt (start places.Alone (states.At spots.Where)) true trees rest.now)
-    (λ left. StopsAt (start places.Alone (states.At spots.Where)) false trees left.now)
+pub brackets_stay : (trees rest : List TokenTree) (class : SignClass) (begun : Bool) → BeginsWith trees class rest
+    → begun ≡ opens class → begun ≡ false
+    → Finds generics trees trees
+brackets_stay trees rest class begun b is_begun none =
+    perhaps_stays (Then (Mark Generics) opened_parameters) trees
+    (heads_sign (Then (Mark Generics) opened_parameters) trees rest class b
+    ∙ (generics_first class ∙ (sym is_begun ∙ none)))
+
+pub brackets_end : (trees : List TokenTree) → trees ≡ [] → Finds generics trees trees
+brackets_end trees none =
+    perhaps_stays (Then (Mark Generics) opened_parameters) trees
+    (heads_none (Then (Mark Generics) opened_parameters) trees none)
+
+pub ruleset brackets = (brackets_read, brackets_stay, brackets_end)
+
+-- the parameters, and then `>`
+pub closings_read : (trees mid : List TokenTree) (result : Result (Bor (List TokenTree)) (Bor (List TokenTree)))
+    → Finds (list_rule elements.Parameter) trees mid → ReadsRule (one signs.Greater) mid result
+    → ReadsRule closed_parameters trees result
+closings_read trees mid result f r =
+    then_reads parameters (Then (Mark Rest) (one signs.Greater)) trees mid result f
+    (mark_reads Rest (one signs.Greater) mid result r)
+
+pub closings_stick : (trees left : List TokenTree) → Sticks (list_rule elements.Parameter) trees left
+    → Sticks closed_parameters trees left
+closings_stick trees left f = then_sticks parameters (Then (Mark Rest) (one signs.Greater)) trees left f
+
+pub ruleset closings = (closings_read, closings_stick)
+
+-- ---- where clauses
+
+abbrev clause : G
+clause = Then (key keywords.Where) (comma_list predicate)
+
+abbrev marked_clause : G
+marked_clause = Then (Mark Where) clause
+
+clause_first : (c : SignClass) → may_begin marked_clause c ≡ is (signs.Keyword keywords.Where) c
+clause_first c = or_nothing (is (signs.Keyword keywords.Where) c) (may_begin (comma_list predicate) c)
+
+pub clause_reads : (trees rest : List TokenTree) (class : SignClass) (begun : Bool)
+    (result : Result (Bor (List TokenTree)) (Bor (List TokenTree))) → BeginsWith trees class rest
+    → begun ≡ is (signs.Keyword keywords.Where) class → begun ≡ true
+    → ReadsRule (list_rule elements.Predicate) rest result
     → ReadsRule where_clause trees result
-where_reads = table_reads (start places.Alone (states.At spots.Where)) where_clause refl
+clause_reads trees rest class begun result b is_begun h f =
+    perhaps_reads marked_clause trees result
+    (heads_sign marked_clause trees rest class b ∙ (clause_first class ∙ (sym is_begun ∙ h)))
+    (mark_reads Where clause trees result
+    (then_reads (key keywords.Where) (comma_list predicate) trees rest result
+    (sign_finds (is (signs.Keyword keywords.Where)) trees rest class b (sym is_begun ∙ h)) f))
+
+pub clause_stays : (trees rest : List TokenTree) (class : SignClass) (begun : Bool) → BeginsWith trees class rest
+    → begun ≡ is (signs.Keyword keywords.Where) class → begun ≡ false
+    → Finds where_clause trees trees
+clause_stays trees rest class begun b is_begun none =
+    perhaps_stays marked_clause trees
+    (heads_sign marked_clause trees rest class b ∙ (clause_first class ∙ (sym is_begun ∙ none)))
+
+pub clause_ends : (trees : List TokenTree) → trees ≡ [] → Finds where_clause trees trees
+clause_ends trees none = perhaps_stays marked_clause trees (heads_none marked_clause trees none)
+
+pub ruleset clauses = (clause_reads, clause_stays, clause_ends)
 
 -- ---- qualifiers
 
@@ -90,10 +200,6 @@ may_stay passes trees rest class b h =
 pub may_end : (passes : SignClass → Bool) (trees : List TokenTree) → trees ≡ []
     → Finds (perhaps (Sign passes)) trees trees
 may_end passes trees e = perhaps_stays (Sign passes) trees (heads_none (Sign passes) trees e)
-
-or_nothing : (x y : Bool) → (x || false && y) ≡ x
-or_nothing true y = refl
-or_nothing false y = refl
 
 abi_first : (c : SignClass) → may_begin rule.abi c ≡ is (signs.Keyword keywords.Extern) c
 abi_first c = or_nothing (is (signs.Keyword keywords.Extern) c) (may_begin (perhaps (one signs.Literal)) c)

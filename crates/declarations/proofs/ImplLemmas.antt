@@ -18,7 +18,7 @@ use Rattle.declarations.specs.Impl.{HasBraces, HasFront, HasGenerics, HasHeader,
 use Rattle.declarations.specs.Impl.{HasTypes, IsImpl, begins_generics, begins_parameter, ends_parameter}
 use Rattle.declarations.specs.Impl.{for_type, goes_on_parameter, has_generics, may_const, may_for, target_types}
 use Rattle.declarations.specs.Param.{HasNo}
-use Rattle.declarations.specs.Reader.{Finds, Sticks, classes_in}
+use Rattle.declarations.specs.Reader.{Finds, ReadsRule, Sticks, classes_in}
 use Rattle.declarations.specs.Reading.{FaultAt, Reads}
 use Rattle.declarations.specs.Signs.{BeginsWith, group_class}
 use Rattle.declarations.specs.Whole.{IsWhole}
@@ -558,6 +558,14 @@ pub where_sticks : (trees left : List TokenTree) → Sticks where_clause trees l
 where_sticks trees left s = then_sticks where_clause braces trees left s
 
 pub ruleset ends = (braces_find, braces_have, braces_stick, where_sticks)
+
+pub header_reads : (trees mid : List TokenTree) (result : Result (Bor (List TokenTree)) (Bor (List TokenTree)))
+    → TurnsTo impl_front trees where_and_body mid → ReadsRule where_and_body mid result
+    → ReadsRule impl_front trees result
+header_reads trees mid (Ok rest) t f = turns_finds impl_front where_and_body trees mid rest.now t f
+header_reads trees mid (Err left) t f = turns_sticks impl_front where_and_body trees mid left.now t f
+
+pub ruleset rests = (header_reads)
 
 -- ---- the whole item
 

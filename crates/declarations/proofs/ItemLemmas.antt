@@ -1,13 +1,13 @@
 -- The parts of a struct, an enum or a union.
-use Rattle.std.proofs.Common.{◌≡◌, refl, sym, ◌∙◌, ap, subst, ℕ, ◌-◌, Bool, true, false, ◌&&◌, ◌||◌, List, [], ◌∷◌}
-use Rattle.std.proofs.Common.{◌++◌, Option, Some, None, append-nil, append_assoc, length, arith}
+use Rattle.std.proofs.Common.{◌≡◌, refl, sym, ◌∙◌, ap, subst, ℕ, ◌-◌, Bool, true, false, List, [], ◌∷◌}
+use Rattle.std.proofs.Common.{◌++◌, Option, Some, None, append-nil, length, arith}
 use Rattle.std.proofs.lemmas.Bool.{both_ways}
 use Rattle.std.proofs.lemmas.List.{append_cancel_right}
 use Rattle.std.specs.Prelude.{MatchResult, Result, Ok, Err}
 use Rattle.std.specs.Borrow.{Bor}
 use Rattle.grammars.specs.Deterministic.{IsStart}
 use Rattle.grammars.specs.First.{heads, may_begin}
-use Rattle.grammars.specs.Grammar.{Mark, Sign, Then}
+use Rattle.grammars.specs.Grammar.{Sign, Then}
 use Rattle.pm_span.specs.Extent.{Extent}
 use Rattle.pm_token.specs.Leaf.{Name}
 use Rattle.pm_token.specs.declared.delimiters.Delimiter.TheVariants as delimiters
@@ -493,7 +493,7 @@ item_parts trees mid rest item named f h has name_is generics_are body_is clause
     read.whole ∙ ap (λ r. Ident item.name.now ∷ r) e4 in
     let e2 : mid ≡ spec.after_visibility item = has.keyword_read.whole ∙ ap (λ r. Ident item.keyword.now ∷ r) e3 in
     let e1 : f.from_visibility ≡ spec.after_attributes item = f.visibility_whole ∙ ap (λ r. v ++ r) e2 in
-    let attributed = parts_read.attributes_read trees a f.from_visibility f.attributes_found f.attributes_whole in
+    let attributed = parts_read.attributes_reads trees a f.from_visibility f.attributes_found f.attributes_whole in
     let visible = parts_read.visibility_reads f.from_visibility v mid f.visibility_found f.visibility_whole in
     let bracketed = reads_to (ByRule generics) AreGenerics forms.generic_parameters n.from_generics item.generics.now
     n.from_end brackets in

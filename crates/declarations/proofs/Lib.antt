@@ -63,3 +63,15 @@ pub mod ImplHeaderLemmas
 pub mod ImplLemmas
 pub mod ParamRuleLemmas
 pub mod ExplorePathLemmas
+pub mod ItemRestLemmas
+pub mod ItemFrontLemmas
+pub mod ConstantLemmas
+pub mod TraitLemmas
+pub mod ItemKindLemmas
+pub mod DeclarationLemmas
+pub mod ItemCallLemmas
+pub mod PrivateItemLemmas
+pub mod AnyItemLemmas
+pub mod InnerLemmas
+pub mod KindLemmas
+pub mod PartListLemmas

@@ -62,6 +62,21 @@ fewer_signs g (c ∷ left) next events h p =
     let last : Fits (length left) (Past events next) = subst (Fits (length left)) e all in
     omega (arith, last)
 
+-- an error is after the first sign if the rule can begin with it
+pub stuck_fewer : (g : G) (left next : List SignClass) → heads g left ≡ true → find rules g left ≡ Stuck next
+    → length next < length left
+unfolding find
+stuck_fewer g [] next h p = absurd (both_ways _ refl h)
+stuck_fewer g (c ∷ left) next h p =
+    let t = into_some rules g [] c h in
+    let s = scan_step rules (g ∷ []) c left (Some t.0) (rw t.1 refl) in
+    let fits = scan_fits rules t.0.1 left in
+    let e : front t.0.0 (scan rules t.0.1 left) ≡ Stuck next = sym s ∙ p in
+    let all : Fits (length left) (front t.0.0 (scan rules t.0.1 left)) =
+    fits_front (length left) (length left) t.0.0 (scan rules t.0.1 left) (omega arith) fits in
+    let last : Fits {C = SignClass} {L = Label} (length left) (Stuck next) = subst (Fits (length left)) e all in
+    omega (arith, last)
+
 pub fewer : (g : G) (left next : List TokenTree) → heads g (classes_in left) ≡ true → Finds g left next
     → length (classes_in next) < length (classes_in left)
 fewer g left next h f = fewer_signs g (classes_in left) (classes_in next) f.events h f.found

@@ -1,5 +1,5 @@
 -- Calls that split off what a function read by a rule.
-use Rattle.std.proofs.Common.{◌≡◌, refl, sym, ◌∙◌, ap, subst, ℕ, ◌-◌, List, [], ◌∷◌, ◌++◌, Option, length}
+use Rattle.std.proofs.Common.{◌≡◌, refl, sym, ◌∙◌, ap, subst, ℕ, ◌-◌, ◌≤◌, List, [], ◌∷◌, ◌++◌, Option, length}
 use Rattle.std.proofs.lemmas.List.{append_cancel_right}
 use Rattle.grammars.specs.Deterministic.{IsStart}
 use Rattle.pm_span.specs.Extent.{Extent}
@@ -8,23 +8,31 @@ use Rattle.declarations.specs.Expected.{Expects}
 use Rattle.declarations.specs.Explore.{ExpectsWhole}
 use Rattle.declarations.specs.Fault.{extent_at, first_extent}
 use Rattle.declarations.specs.Field.{HasFieldParts, HasTypeParts, IsFieldAt}
-use Rattle.declarations.specs.Forms.{AreAttributes, AreGenerics, IsField, IsItem, IsTupleField, IsVariant, IsVisibility}
+use Rattle.declarations.specs.Forms.{AreAttributes, AreBounds, AreFields, AreGenerics, AreTupleFields, AreVariants}
+use Rattle.declarations.specs.Forms.{IsExpression, IsField, IsItem, IsTupleField, IsType, IsVariant, IsVisibility}
 use Rattle.declarations.specs.Forms.{IsWhere}
+use Rattle.declarations.specs.PartList.{list_rule}
 use Rattle.declarations.specs.Reader.{Finds, Remains, Sticks}
 use Rattle.declarations.specs.Reading.{FaultAt, IsOnly, Reads}
 use Rattle.declarations.specs.Variant.{IsVariantAt}
 use Rattle.item_tables.specs.declared.class.SignClass.{SignClass}
 use Rattle.declarations.specs.declared.expected.Expected.{Expected}
 use Rattle.declarations.specs.declared.field.Field.{Field}
+use Rattle.declarations.specs.declared.part_list.Element.TheVariants as elements
 use Rattle.declarations.specs.declared.variant.Variant.{Variant}
+use Rattle.declarations.specs.rules.Expressions.{expression}
 use Rattle.declarations.specs.rules.Items.{type_item}
 use Rattle.declarations.specs.rules.Names.{G}
-use Rattle.declarations.specs.rules.Parts.{attributes, field, generics, tuple_field, variant, visibility, where_clause}
+use Rattle.declarations.specs.rules.Parts.{attributes, field, fields, generics, tuple_field, tuple_fields, variant}
+use Rattle.declarations.specs.rules.Parts.{variants, visibility, where_clause}
 use Rattle.declarations.specs.rules.Pieces.{ByRule, ReadsBy}
 use Rattle.declarations.specs.rules.Rules.{follows, rules}
-use Rattle.declarations.proofs.FormLemmas.{attribute_lists, generic_parameters, one_field, one_tuple_field, one_variant}
-use Rattle.declarations.proofs.FormLemmas.{type_items, visibilities, where_clauses}
-use Rattle.declarations.proofs.ReaderLemmas.{remains_span}
+use Rattle.declarations.specs.rules.Types.{bounds, type}
+use Rattle.declarations.proofs.FormLemmas.{attribute_lists, bound_lists, expressions, field_lists, generic_parameters}
+use Rattle.declarations.proofs.FormLemmas.{one_field, one_tuple_field, one_variant, tuple_field_lists, type_items}
+use Rattle.declarations.proofs.FormLemmas.{types}
+use Rattle.declarations.proofs.FormLemmas.{variant_lists, visibilities, where_clauses}
+use Rattle.declarations.proofs.ReaderLemmas.{remains_span, remains_within}
 use Rattle.declarations.proofs.RuleFaultLemmas.{form_expects, form_fault, form_only}
 use Rattle.declarations.proofs.RuleFormLemmas.{found_reads, only_reading}
 use Rattle.declarations.proofs.RuleLemmas.{starts}
@@ -45,15 +53,34 @@ module _ (g : G) (form : List SignClass → List SignClass → Type 0) (by : Rea
 
 -- ---- attributes
 
-pub attributes_read : (trees part rest : List TokenTree) → Finds attributes trees rest → trees ≡ part ++ rest
+pub attributes_reads : (trees part rest : List TokenTree) → Finds attributes trees rest → trees ≡ part ++ rest
     → Reads AreAttributes trees part rest
-attributes_read = part_reads attributes AreAttributes attribute_lists (starts attributes refl refl)
+attributes_reads = part_reads attributes AreAttributes attribute_lists (starts attributes refl refl)
 
 pub attributes_only : (trees part rest : List TokenTree) → Finds attributes trees rest → trees ≡ part ++ rest
     → IsOnly AreAttributes trees part rest
 attributes_only = part_only attributes AreAttributes attribute_lists (starts attributes refl refl)
 
-pub ruleset attribute_parts = (attributes_read, attributes_only)
+pub attributes_fault : (trees left : List TokenTree) (at : ℕ) → Sticks attributes trees left
+    → at ≡ length trees - length left
+    → FaultAt AreAttributes trees at
+attributes_fault = form_fault attributes AreAttributes attribute_lists (starts attributes refl refl)
+
+pub attributes_span : (trees left : List TokenTree) (at : ℕ) (span : Option Extent) → Sticks attributes trees left
+    → at ≡ length trees - length left → span ≡ first_extent left
+    → span ≡ extent_at trees at
+attributes_span trees left at span s counted first = remains_span trees left at span s.remains counted first
+
+pub attributes_within : (trees left : List TokenTree) → Sticks attributes trees left → length left ≤ length trees
+attributes_within trees left s = remains_within trees left s.remains
+
+pub attributes_expects : (trees left : List TokenTree) (at : ℕ) (set : Expected) → Sticks attributes trees left
+    → at ≡ length trees - length left → ExpectsWhole attributes trees set
+    → Expects AreAttributes trees at set
+attributes_expects = form_expects attributes AreAttributes attribute_lists (starts attributes refl refl)
+
+pub ruleset attribute_parts =
+    (attributes_reads, attributes_only, attributes_fault, attributes_span, attributes_within, attributes_expects)
 
 -- ---- visibilities
 
@@ -69,15 +96,34 @@ pub ruleset visibility_parts = (visibility_reads, visibility_only)
 
 -- ---- generic parameters
 
-pub generics_read : (trees part rest : List TokenTree) → Finds generics trees rest → trees ≡ part ++ rest
+pub generics_reads : (trees part rest : List TokenTree) → Finds generics trees rest → trees ≡ part ++ rest
     → Reads AreGenerics trees part rest
-generics_read = part_reads generics AreGenerics generic_parameters (starts generics refl refl)
+generics_reads = part_reads generics AreGenerics generic_parameters (starts generics refl refl)
 
 pub generics_only : (trees part rest : List TokenTree) → Finds generics trees rest → trees ≡ part ++ rest
     → IsOnly AreGenerics trees part rest
 generics_only = part_only generics AreGenerics generic_parameters (starts generics refl refl)
 
-pub ruleset generic_parts = (generics_read, generics_only)
+pub generics_fault : (trees left : List TokenTree) (at : ℕ) → Sticks generics trees left
+    → at ≡ length trees - length left
+    → FaultAt AreGenerics trees at
+generics_fault = form_fault generics AreGenerics generic_parameters (starts generics refl refl)
+
+pub generics_span : (trees left : List TokenTree) (at : ℕ) (span : Option Extent) → Sticks generics trees left
+    → at ≡ length trees - length left → span ≡ first_extent left
+    → span ≡ extent_at trees at
+generics_span trees left at span s counted first = remains_span trees left at span s.remains counted first
+
+pub generics_within : (trees left : List TokenTree) → Sticks generics trees left → length left ≤ length trees
+generics_within trees left s = remains_within trees left s.remains
+
+pub generics_expects : (trees left : List TokenTree) (at : ℕ) (set : Expected) → Sticks generics trees left
+    → at ≡ length trees - length left → ExpectsWhole generics trees set
+    → Expects AreGenerics trees at set
+generics_expects = form_expects generics AreGenerics generic_parameters (starts generics refl refl)
+
+pub ruleset generic_parts =
+    (generics_reads, generics_only, generics_fault, generics_span, generics_within, generics_expects)
 
 -- ---- where clauses
 
@@ -89,7 +135,233 @@ pub where_only : (trees part rest : List TokenTree) → Finds where_clause trees
     → IsOnly IsWhere trees part rest
 where_only = part_only where_clause IsWhere where_clauses (starts where_clause refl refl)
 
-pub ruleset where_parts = (where_reads, where_only)
+pub where_fault : (trees left : List TokenTree) (at : ℕ) → Sticks where_clause trees left
+    → at ≡ length trees - length left
+    → FaultAt IsWhere trees at
+where_fault = form_fault where_clause IsWhere where_clauses (starts where_clause refl refl)
+
+pub where_span : (trees left : List TokenTree) (at : ℕ) (span : Option Extent) → Sticks where_clause trees left
+    → at ≡ length trees - length left → span ≡ first_extent left
+    → span ≡ extent_at trees at
+where_span trees left at span s counted first = remains_span trees left at span s.remains counted first
+
+pub where_within : (trees left : List TokenTree) → Sticks where_clause trees left → length left ≤ length trees
+where_within trees left s = remains_within trees left s.remains
+
+pub where_expects : (trees left : List TokenTree) (at : ℕ) (set : Expected) → Sticks where_clause trees left
+    → at ≡ length trees - length left → ExpectsWhole where_clause trees set
+    → Expects IsWhere trees at set
+where_expects = form_expects where_clause IsWhere where_clauses (starts where_clause refl refl)
+
+pub ruleset where_parts =
+    (where_reads, where_only, where_fault, where_span, where_within, where_expects)
+
+-- ---- types
+
+pub type_reads : (trees part rest : List TokenTree) → Finds type trees rest → trees ≡ part ++ rest
+    → Reads IsType trees part rest
+type_reads = part_reads type IsType types (starts type refl refl)
+
+pub type_only : (trees part rest : List TokenTree) → Finds type trees rest → trees ≡ part ++ rest
+    → IsOnly IsType trees part rest
+type_only = part_only type IsType types (starts type refl refl)
+
+pub type_fault : (trees left : List TokenTree) (at : ℕ) → Sticks type trees left
+    → at ≡ length trees - length left
+    → FaultAt IsType trees at
+type_fault = form_fault type IsType types (starts type refl refl)
+
+pub type_span : (trees left : List TokenTree) (at : ℕ) (span : Option Extent) → Sticks type trees left
+    → at ≡ length trees - length left → span ≡ first_extent left
+    → span ≡ extent_at trees at
+type_span trees left at span s counted first = remains_span trees left at span s.remains counted first
+
+pub type_within : (trees left : List TokenTree) → Sticks type trees left → length left ≤ length trees
+type_within trees left s = remains_within trees left s.remains
+
+pub type_expects : (trees left : List TokenTree) (at : ℕ) (set : Expected) → Sticks type trees left
+    → at ≡ length trees - length left → ExpectsWhole type trees set
+    → Expects IsType trees at set
+type_expects = form_expects type IsType types (starts type refl refl)
+
+pub ruleset type_parts =
+    (type_reads, type_only, type_fault, type_span, type_within, type_expects)
+
+-- ---- bounds
+
+pub bounds_reads : (trees part rest : List TokenTree) → Finds bounds trees rest → trees ≡ part ++ rest
+    → Reads AreBounds trees part rest
+bounds_reads = part_reads bounds AreBounds bound_lists (starts bounds refl refl)
+
+pub bounds_only : (trees part rest : List TokenTree) → Finds bounds trees rest → trees ≡ part ++ rest
+    → IsOnly AreBounds trees part rest
+bounds_only = part_only bounds AreBounds bound_lists (starts bounds refl refl)
+
+pub bounds_fault : (trees left : List TokenTree) (at : ℕ) → Sticks bounds trees left
+    → at ≡ length trees - length left
+    → FaultAt AreBounds trees at
+bounds_fault = form_fault bounds AreBounds bound_lists (starts bounds refl refl)
+
+pub bounds_span : (trees left : List TokenTree) (at : ℕ) (span : Option Extent) → Sticks bounds trees left
+    → at ≡ length trees - length left → span ≡ first_extent left
+    → span ≡ extent_at trees at
+bounds_span trees left at span s counted first = remains_span trees left at span s.remains counted first
+
+pub bounds_within : (trees left : List TokenTree) → Sticks bounds trees left → length left ≤ length trees
+bounds_within trees left s = remains_within trees left s.remains
+
+pub bounds_expects : (trees left : List TokenTree) (at : ℕ) (set : Expected) → Sticks bounds trees left
+    → at ≡ length trees - length left → ExpectsWhole bounds trees set
+    → Expects AreBounds trees at set
+bounds_expects = form_expects bounds AreBounds bound_lists (starts bounds refl refl)
+
+pub ruleset bound_parts =
+    (bounds_reads, bounds_only, bounds_fault, bounds_span, bounds_within, bounds_expects)
+
+-- ---- expressions
+
+pub expression_reads : (trees part rest : List TokenTree) → Finds expression trees rest → trees ≡ part ++ rest
+    → Reads IsExpression trees part rest
+expression_reads = part_reads expression IsExpression expressions (starts expression refl refl)
+
+pub expression_only : (trees part rest : List TokenTree) → Finds expression trees rest → trees ≡ part ++ rest
+    → IsOnly IsExpression trees part rest
+expression_only = part_only expression IsExpression expressions (starts expression refl refl)
+
+pub expression_fault : (trees left : List TokenTree) (at : ℕ) → Sticks expression trees left
+    → at ≡ length trees - length left
+    → FaultAt IsExpression trees at
+expression_fault = form_fault expression IsExpression expressions (starts expression refl refl)
+
+pub expression_span : (trees left : List TokenTree) (at : ℕ) (span : Option Extent) → Sticks expression trees left
+    → at ≡ length trees - length left → span ≡ first_extent left
+    → span ≡ extent_at trees at
+expression_span trees left at span s counted first = remains_span trees left at span s.remains counted first
+
+pub expression_within : (trees left : List TokenTree) → Sticks expression trees left → length left ≤ length trees
+expression_within trees left s = remains_within trees left s.remains
+
+pub expression_expects : (trees left : List TokenTree) (at : ℕ) (set : Expected) → Sticks expression trees left
+    → at ≡ length trees - length left → ExpectsWhole expression trees set
+    → Expects IsExpression trees at set
+expression_expects = form_expects expression IsExpression expressions (starts expression refl refl)
+
+pub ruleset expression_parts =
+    (expression_reads, expression_only, expression_fault, expression_span, expression_within, expression_expects)
+
+-- ---- lists of fields
+
+pub fields_reads : (trees part rest : List TokenTree) → Finds (list_rule elements.Field) trees rest
+    → trees ≡ part ++ rest
+    → Reads AreFields trees part rest
+fields_reads = part_reads fields AreFields field_lists (starts fields refl refl)
+
+pub fields_only : (trees part rest : List TokenTree) → Finds (list_rule elements.Field) trees rest
+    → trees ≡ part ++ rest
+    → IsOnly AreFields trees part rest
+fields_only = part_only fields AreFields field_lists (starts fields refl refl)
+
+pub fields_fault : (trees left : List TokenTree) (at : ℕ) → Sticks (list_rule elements.Field) trees left
+    → at ≡ length trees - length left
+    → FaultAt AreFields trees at
+fields_fault = form_fault fields AreFields field_lists (starts fields refl refl)
+
+pub fields_span : (trees left : List TokenTree) (at : ℕ) (span : Option Extent)
+    → Sticks (list_rule elements.Field) trees left
+    → at ≡ length trees - length left → span ≡ first_extent left
+    → span ≡ extent_at trees at
+fields_span trees left at span s counted first = remains_span trees left at span s.remains counted first
+
+pub fields_within : (trees left : List TokenTree) → Sticks (list_rule elements.Field) trees left
+    → length left ≤ length trees
+fields_within trees left s = remains_within trees left s.remains
+
+pub fields_expects : (trees left : List TokenTree) (at : ℕ) (set : Expected)
+    → Sticks (list_rule elements.Field) trees left
+    → at ≡ length trees - length left → ExpectsWhole fields trees set
+    → Expects AreFields trees at set
+fields_expects = form_expects fields AreFields field_lists (starts fields refl refl)
+
+pub ruleset field_lists_read =
+    (fields_reads, fields_only, fields_fault, fields_span, fields_within, fields_expects)
+
+-- ---- lists of fields without names
+
+pub tuple_fields_reads : (trees part rest : List TokenTree) → Finds (list_rule elements.TupleField) trees rest
+    → trees ≡ part ++ rest
+    → Reads AreTupleFields trees part rest
+tuple_fields_reads = part_reads tuple_fields AreTupleFields tuple_field_lists (starts tuple_fields refl refl)
+
+pub tuple_fields_only : (trees part rest : List TokenTree) → Finds (list_rule elements.TupleField) trees rest
+    → trees ≡ part ++ rest
+    → IsOnly AreTupleFields trees part rest
+tuple_fields_only = part_only tuple_fields AreTupleFields tuple_field_lists (starts tuple_fields refl refl)
+
+pub tuple_fields_fault : (trees left : List TokenTree) (at : ℕ) → Sticks (list_rule elements.TupleField) trees left
+    → at ≡ length trees - length left
+    → FaultAt AreTupleFields trees at
+tuple_fields_fault = form_fault tuple_fields AreTupleFields tuple_field_lists (starts tuple_fields refl refl)
+
+pub tuple_fields_span : (trees left : List TokenTree) (at : ℕ) (span : Option Extent)
+    → Sticks (list_rule elements.TupleField) trees left
+    → at ≡ length trees - length left → span ≡ first_extent left
+    → span ≡ extent_at trees at
+tuple_fields_span trees left at span s counted first = remains_span trees left at span s.remains counted first
+
+pub tuple_fields_within : (trees left : List TokenTree) → Sticks (list_rule elements.TupleField) trees left
+    → length left ≤ length trees
+tuple_fields_within trees left s = remains_within trees left s.remains
+
+pub tuple_fields_expects : (trees left : List TokenTree) (at : ℕ) (set : Expected)
+    → Sticks (list_rule elements.TupleField) trees left
+    → at ≡ length trees - length left → ExpectsWhole tuple_fields trees set
+    → Expects AreTupleFields trees at set
+tuple_fields_expects = form_expects tuple_fields AreTupleFields tuple_field_lists (starts tuple_fields refl refl)
+
+pub ruleset tuple_field_lists_read = (
+  tuple_fields_reads,
+  tuple_fields_only,
+  tuple_fields_fault,
+  tuple_fields_span,
+  tuple_fields_within,
+  tuple_fields_expects,
+)
+
+-- ---- lists of variants
+
+pub variants_reads : (trees part rest : List TokenTree) → Finds (list_rule elements.Variant) trees rest
+    → trees ≡ part ++ rest
+    → Reads AreVariants trees part rest
+variants_reads = part_reads variants AreVariants variant_lists (starts variants refl refl)
+
+pub variants_only : (trees part rest : List TokenTree) → Finds (list_rule elements.Variant) trees rest
+    → trees ≡ part ++ rest
+    → IsOnly AreVariants trees part rest
+variants_only = part_only variants AreVariants variant_lists (starts variants refl refl)
+
+pub variants_fault : (trees left : List TokenTree) (at : ℕ) → Sticks (list_rule elements.Variant) trees left
+    → at ≡ length trees - length left
+    → FaultAt AreVariants trees at
+variants_fault = form_fault variants AreVariants variant_lists (starts variants refl refl)
+
+pub variants_span : (trees left : List TokenTree) (at : ℕ) (span : Option Extent)
+    → Sticks (list_rule elements.Variant) trees left
+    → at ≡ length trees - length left → span ≡ first_extent left
+    → span ≡ extent_at trees at
+variants_span trees left at span s counted first = remains_span trees left at span s.remains counted first
+
+pub variants_within : (trees left : List TokenTree) → Sticks (list_rule elements.Variant) trees left
+    → length left ≤ length trees
+variants_within trees left s = remains_within trees left s.remains
+
+pub variants_expects : (trees left : List TokenTree) (at : ℕ) (set : Expected)
+    → Sticks (list_rule elements.Variant) trees left
+    → at ≡ length trees - length left → ExpectsWhole variants trees set
+    → Expects AreVariants trees at set
+variants_expects = form_expects variants AreVariants variant_lists (starts variants refl refl)
+
+pub ruleset variant_lists_read =
+    (variants_reads, variants_only, variants_fault, variants_span, variants_within, variants_expects)
 
 -- ---- fields and variants, whose parts are read
 

@@ -6,7 +6,7 @@ use Rattle.std.proofs.lemmas.List.{append_cancel_left, append_cancel_right, leng
 use Rattle.grammars.specs.Grammar.{Event}
 use Rattle.grammars.specs.Machine as machine
 use Rattle.grammars.specs.Deterministic.{IsStart}
-use Rattle.grammars.specs.Find.{Past, find}
+use Rattle.grammars.specs.Find.{Found, Past, Stuck, find, scan}
 use Rattle.grammars.proofs.PieceLemmas.{piece_stops, piece_walk, walk_piece}
 use Rattle.grammars.proofs.ReadingLemmas.{found, goes_on, reading}
 use Rattle.grammars.proofs.WholeLemmas.{Ended, scan_ended}
@@ -198,6 +198,27 @@ module _ (g : G) (start : IsStart rules follows (g ∷ [])) where
             (classes_of reads.piece) (classes_of (signs rest))
             (sym all ∙ ap classes_of reads.read ∙ classes-append reads.piece (signs rest)) reads.stands;
       }
+
+  -- the rule finds each of its pieces
+  pub piece_found : (cs piece rest : List SignClass) → cs ≡ piece ++ rest → ByRule g piece rest
+      → (events : List (Event SignClass Label)) × (find rules g cs ≡ Past events rest)
+  unfolding find
+  piece_found cs piece rest whole p = go (scan rules (g ∷ []) cs) refl (scan_ended rules (g ∷ []) cs)
+    where
+      go : (f : Found SignClass Label) → scan rules (g ∷ []) cs ≡ f → Ended rules (g ∷ []) cs f
+          → (events : List (Event SignClass Label)) × (scan rules (g ∷ []) cs ≡ Past events rest)
+      go (Past events left) e s =
+          let other = found_piece cs s.0.before left events e s.0.whole in
+          let same : s.0.before ++ left ≡ piece ++ rest = sym s.0.whole ∙ whole in
+          let pieces = one_walk step machine.ends (g ∷ []) s.0.before left piece rest
+          (piece_form s.0.before left other) (piece_form piece rest p) same in
+          let lefts : left ≡ rest =
+          append_cancel_left piece left rest (ap (λ x. x ++ left) (sym pieces.0) ∙ same) in
+          (events, e ∙ ap (Past events) lefts)
+      go (Stuck left) e s =
+          absurd (nothing_read s.0.before left s.0.taken.1
+          (walk_same (g ∷ []) s.0.before ∙ ap stack_of s.0.walks) s.1 (stop_here s.0.taken.1 left s.0.stops) piece rest
+          (sym s.0.whole ∙ whole) p)
 
   -- ---- a part has at least one tree
 

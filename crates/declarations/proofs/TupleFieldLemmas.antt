@@ -1,6 +1,6 @@
 -- Fields without a name: what their rule reads is a visibility and a type.
-use Rattle.std.proofs.Common.{◌≡◌, refl, sym, ◌∙◌, ap, subst, ℕ, ◌-◌, Bool, true, false, not, ◌&&◌, ◌||◌, List, []}
-use Rattle.std.proofs.Common.{◌∷◌, ◌++◌, Option, None, length, arith}
+use Rattle.std.proofs.Common.{◌≡◌, refl, sym, ◌∙◌, ap, subst, ℕ, ◌-◌, Bool, true, false, ◌&&◌, ◌||◌, List, []}
+use Rattle.std.proofs.Common.{◌∷◌, ◌++◌, Option, None, length}
 use Rattle.grammars.specs.Deterministic.{IsStart}
 use Rattle.grammars.specs.Find.{find}
 use Rattle.grammars.specs.First.{heads, may_begin}

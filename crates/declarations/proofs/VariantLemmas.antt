@@ -1,6 +1,6 @@
 -- The parts of a variant.
-use Rattle.std.proofs.Common.{◌≡◌, refl, sym, ◌∙◌, ap, subst, ℕ, ◌-◌, Bool, true, false, ◌&&◌, ◌||◌, List, [], ◌∷◌}
-use Rattle.std.proofs.Common.{◌++◌, ◌⊎◌, inl, inr, Option, length, arith}
+use Rattle.std.proofs.Common.{◌≡◌, refl, ◌∙◌, ap, subst, ℕ, ◌-◌, true, false, ◌||◌, List, [], ◌∷◌}
+use Rattle.std.proofs.Common.{◌++◌, inl, inr, Option, length}
 use Rattle.grammars.specs.Deterministic.{IsStart}
 use Rattle.grammars.specs.First.{heads, may_begin}
 use Rattle.grammars.specs.Grammar.{Either, Mark, Nothing, Sign, Then}

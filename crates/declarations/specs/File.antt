@@ -10,7 +10,7 @@ use Rattle.pm_stream.specs.declared.stream.TokenTree.TheVariants.{Group}
 use Rattle.declarations.specs.Expected.{Expects}
 use Rattle.declarations.specs.Fault.{extent_at}
 use Rattle.declarations.specs.Forms.{AreInnerAttributes, IsAnyItem}
-use Rattle.declarations.specs.Kind.{Tells}
+use Rattle.declarations.specs.Kind.{HasKind}
 use Rattle.declarations.specs.Reading.{FaultAt, Reads}
 use Rattle.declarations.specs.declared.any_item.AnyItem.{AnyItem}
 use Rattle.declarations.specs.declared.any_item.ItemKind.{ItemKind}
@@ -57,10 +57,10 @@ abbrev pub FileFaultAt : List TokenTree → ℕ → Expected → Type 0
 FileFaultAt trees at set =
     (FaultAt AreInnerAttributes trees at × Expects AreInnerAttributes trees at set) ⊎ ItemFaultAt trees at set
 
--- the item has the kind and the name that the walk over its signs finds
-abbrev pub TellsOf : List TokenTree → List TokenTree → AnyItem → Type 0
-TellsOf trees rest item =
-    (name : Option Name) × Tells trees rest item.kind name
+-- the trees begin with an item of this kind and with this name
+abbrev pub HasKindOf : List TokenTree → List TokenTree → AnyItem → Type 0
+HasKindOf trees rest item =
+    (name : Option Name) × HasKind trees rest item.kind name
     × MatchOption item.name (name ≡ None) (λ ident. name ≡ Some ident.now)
 
 -- a call of `next` gives the next item, or an error, after which no trees are left. It gives nothing if none are left
@@ -68,7 +68,7 @@ abbrev pub GivesItem : Items → Option (Result AnyItem Fault) → Items → Typ
 GivesItem old given new =
     MatchOption given ((old.left.now ≡ []) × (new ≡ old))
     (λ found. MatchResult found
-    (λ item. Reads IsAnyItem old.left.now item.trees.now new.left.now × TellsOf old.left.now new.left.now item)
+    (λ item. Reads IsAnyItem old.left.now item.trees.now new.left.now × HasKindOf old.left.now new.left.now item)
     (λ fault. FaultAt IsAnyItem old.left.now fault.at × (fault.span ≡ extent_at old.left.now fault.at)
     × Expects IsAnyItem old.left.now fault.at fault.expected × (new.left.now ≡ [])))
 

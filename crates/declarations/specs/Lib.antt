@@ -18,7 +18,9 @@ pub mod Ending
 pub mod Field
 pub mod Fault
 pub mod Variant
+pub mod ItemRest
 pub mod Kind
+pub mod ItemFront
 pub mod File
 pub mod Param
 pub mod Attribute
@@ -28,6 +30,7 @@ pub mod List
 pub mod EntryList
 pub mod EntryCheck
 pub mod Parameter
+pub mod PartList
 pub mod Function
 pub mod GenericArgument
 pub mod TypePath

@@ -1,5 +1,5 @@
 -- The path of a type, and its parts in reading order.
-use Rattle.std.specs.Prelude.{◌≡◌, Bool, true, false, List, [], ◌∷◌, ◌++◌, ◌⊎◌, MatchResult, Option, Some, None, Result}
+use Rattle.std.specs.Prelude.{◌≡◌, true, List, [], ◌∷◌, ◌++◌, ◌⊎◌, MatchResult, Option, Some, None, Result}
 use Rattle.std.specs.Borrow.{Bor}
 use Rattle.pm_token.specs.Leaf.{Name}
 use Rattle.pm_stream.specs.declared.stream.Group.{Group as Grouped}
@@ -106,11 +106,6 @@ pub record IsTypePath (trees : List TokenTree) (path : TypePath) : Type 0 where
   pub parts : HasPathParts trees path []
 
 -- ---- how a path is read
-
--- what is found of the arguments: more of them are to be read after a comma, or these are all
-abbrev pub IsElement : Bool → List TokenTree → List TokenTree → Type 0
-IsElement true trees rest = LeadsTo rule.generic_arguments trees rule.generic_arguments rest
-IsElement false trees rest = Finds rule.generic_arguments trees rest
 
 -- the rule reads up to the arguments of the next segment, or up to the rest if there is no next segment
 abbrev pub Goes : G → List TokenTree → List TokenTree → Option Segment → Type 0

@@ -4,12 +4,14 @@ ghost use Rattle.pm_token.specs.Leaf.{Name};
 ghost use Rattle.declarations.specs.Expected.{Expects};
 ghost use Rattle.declarations.specs.Fault.{extent_at};
 ghost use Rattle.declarations.specs.Forms.{IsAnyItem};
-ghost use Rattle.declarations.specs.Kind.{Tells, kind_of};
+ghost use Rattle.declarations.specs.Kind.{HasKind, name_at};
 ghost use Rattle.declarations.specs.Reading.{FaultAt, IsOnly, Reads, first_name};
 
+use crate::explore::fault_by;
 use crate::fault::Fault;
-use crate::walk::split_from;
-use item_tables::walk_state::{Continuation, Item, Part, Spot, State, WalkState};
+use crate::item_kinds::past_any_item;
+use crate::reader::part;
+use crate::syntax::ANY_ITEM;
 use pm_stream::TokenTree;
 use pm_token::Ident;
 
@@ -71,30 +73,43 @@ pub struct AnyItem<'a> {
 /// groups are not read. If the trees begin with no item, the call returns a `Fault`. It allocates nothing.
 ///
 /// For `pub fn f() {} struct S;` it returns the function `pub fn f() {}` with the name `f`, and the rest `struct S;`.
+#[tactic(auto, using(crate::proofs::AnyItemLemmas::promises))]
 pub fn split_any_item<'a>(trees: &'a [TokenTree]) -> Result<(AnyItem<'a>, &'a [TokenTree]), Fault>
     ensures ok { IfOk result (λ found. Reads IsAnyItem trees.now found.0.trees.now found.1.now) }
     ensures only { IfOk result (λ found. IsOnly IsAnyItem trees.now found.0.trees.now found.1.now) }
     ensures fewer { IfOk result (λ found. length found.1.now < length trees.now) }
-    // The kind and the name are those that the walk over the item's signs finds.
-    ensures kind_and_name { IfOk result (λ found. (name : Option Name) × Tells trees.now found.1.now found.0.kind name
+    // The item has the keyword of its kind, and reads from its name on by the rule of its kind.
+    ensures kind_and_name { IfOk result (λ found. (name : Option Name) × HasKind trees.now found.1.now found.0.kind name
         × MatchOption found.0.name (name ≡ None) (λ ident. name ≡ Some ident.now)) }
     ensures fault { IfErr result (λ fault. FaultAt IsAnyItem trees.now fault.at) }
     ensures span { IfErr result (λ fault. fault.span ≡ extent_at trees.now fault.at) }
     ensures expected { IfErr result (λ fault. Expects IsAnyItem trees.now fault.at fault.expected) }
 {
-    let start = WalkState {
-        item: Item::Alone,
-        rule: Continuation::Alone,
-        state: State::At(Spot::Before(Part::AnyItem)),
-        depth: 0,
-    };
-    let split = split_from(trees, start)?;
-    let item = AnyItem {
-        kind: kind_of(split.last),
-        name: first_name(split.named),
-        trees: split.part,
-    };
-    Ok((item, split.rest))
+    match past_any_item(trees) {
+        Ok(found) => {
+            let name = name_of(found.kind, found.named);
+            let item = part(trees, found.rest);
+            Ok((
+                AnyItem {
+                    kind: found.kind,
+                    name,
+                    trees: item,
+                },
+                found.rest,
+            ))
+        }
+        Err(left) => Err(fault_by(&ANY_ITEM, trees, left)),
+    }
+}
+
+/// The name of an item of this kind, where these are the trees from its name on.
+pub(crate) fn name_of<'a>(kind: ItemKind, trees: &'a [TokenTree]) -> Option<&'a Ident>
+    ensures { MatchOption result (name_at kind trees.now ≡ None) (λ ident. name_at kind trees.now ≡ Some ident.now) }
+{
+    match kind {
+        ItemKind::ExternBlock | ItemKind::Group | ItemKind::Impl | ItemKind::Use => None,
+        _ => first_name(trees),
+    }
 }
 
 /// The identifier that is the first tree, if it is one.
@@ -104,29 +119,5 @@ fn first_name<'a>(trees: &'a [TokenTree]) -> Option<&'a Ident>
     match trees.first()? {
         TokenTree::Ident(ident) => Some(ident),
         TokenTree::Group(_) | TokenTree::Punct(_) | TokenTree::Literal(_) => None,
-    }
-}
-
-fn kind_of(item: Item) -> ItemKind
-    ensures { result ≡ kind_of item }
-{
-    match item {
-        Item::Struct | Item::Tuple => ItemKind::Struct,
-        Item::Enum => ItemKind::Enum,
-        Item::Union => ItemKind::Union,
-        Item::Function | Item::Returning => ItemKind::Function,
-        Item::Constant => ItemKind::Constant,
-        Item::Static => ItemKind::Static,
-        Item::Alias | Item::Aliased => ItemKind::TypeAlias,
-        Item::Trait => ItemKind::Trait,
-        Item::TraitAlias => ItemKind::TraitAlias,
-        Item::Impl => ItemKind::Impl,
-        Item::Module => ItemKind::Module,
-        Item::Use => ItemKind::Use,
-        Item::ExternCrate => ItemKind::ExternCrate,
-        Item::ExternBlock => ItemKind::ExternBlock,
-        Item::Macro => ItemKind::Macro,
-        Item::Call => ItemKind::MacroCall,
-        Item::Group | Item::Alone | Item::Variants => ItemKind::Group,
     }
 }

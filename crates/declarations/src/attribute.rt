@@ -39,9 +39,9 @@ pub enum AttributeArgs<'a> {
     Other(&'a Group, &'a [TokenTree]),
 }
 
-/// The attributes at the start of trees, such as those of an item, a field or a variant, in order.
+/// The attributes at the start of trees, outer and inner, in order, such as those of an item, a field or a variant.
 ///
-/// Outer and inner attributes are given. The iterator ends before the first trees that are no attribute, which stay in
+/// The iterator ends before the first trees that are no attribute, which stay in
 /// `left`. It allocates nothing.
 ///
 /// ```text

@@ -71,7 +71,7 @@ pub fn parse_tuple_field(trees: &[TokenTree]) -> Result<(Field<'_>, &[TokenTree]
 
 /// Reads a named field. Returns it and the trees after it, or the trees from the error on.
 #[tactic(auto, using(crate::proofs::FieldLemmas::fields_of))]
-fn field_of(trees: &[TokenTree]) -> Result<(Field<'_>, &[TokenTree]), &[TokenTree]>
+pub(crate) fn field_of(trees: &[TokenTree]) -> Result<(Field<'_>, &[TokenTree]), &[TokenTree]>
     ensures { MatchResult result (λ found. Finds field trees.now found.1.now
         × IsFieldAt IsField HasFieldParts trees.now found.0 found.1.now) (λ left. Sticks field trees.now left.now) }
 {
@@ -133,7 +133,7 @@ fn colon_type_of(trees: &[TokenTree]) -> Result<(&[TokenTree], &[TokenTree]), &[
 ///
 /// Parentheses after `pub` that can be a restriction are one, as the rule `tuple-field` says.
 #[tactic(auto, using(crate::proofs::TupleFieldLemmas::tuple_fields_of))]
-fn tuple_field_of(trees: &[TokenTree]) -> Result<(Field<'_>, &[TokenTree]), &[TokenTree]>
+pub(crate) fn tuple_field_of(trees: &[TokenTree]) -> Result<(Field<'_>, &[TokenTree]), &[TokenTree]>
     ensures { MatchResult result (λ found. Finds tuple_field trees.now found.1.now
         × IsFieldAt IsTupleField HasTypeParts trees.now found.0 found.1.now)
         (λ left. Sticks tuple_field trees.now left.now) }

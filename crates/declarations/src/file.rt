@@ -6,15 +6,16 @@ ghost use Rattle.declarations.specs.Expected.{Expects};
 ghost use Rattle.declarations.specs.Fault.{extent_at};
 ghost use Rattle.declarations.specs.File.{FileFaultAt, IsFile, body_of, braces, last_braces};
 ghost use Rattle.declarations.specs.Forms.{IsAnyItem};
-ghost use Rattle.declarations.specs.Kind.{Tells};
+ghost use Rattle.declarations.specs.Kind.{HasKind};
 ghost use Rattle.declarations.specs.Reading.{FaultAt};
 ghost use Rattle.declarations.specs.Whole.{IsWhole, ReadsAll};
 
-use crate::any_item::{AnyItem, ItemKind, split_any_item};
+use crate::any_item::{AnyItem, ItemKind, name_of, split_any_item};
+use crate::explore::fault_by;
 use crate::fault::Fault;
+use crate::item_kinds::past_any_item;
 use crate::part_splitting::split_inner_attributes;
-use crate::walk::read_whole;
-use item_tables::walk_state::{Continuation, Item, Part, Spot, State, WalkState};
+use crate::syntax::ANY_ITEM;
 use pm_stream::{Group, TokenTree};
 use pm_token::Delimiter;
 
@@ -74,24 +75,31 @@ pub fn parse_file(trees: &[TokenTree]) -> Result<File<'_>, Fault>
 /// It returns `Ok` exactly if [`split_any_item`] reads all of the trees. Otherwise it returns a `Fault` at the first
 /// tree that does not fit or is too many, or at the end if trees are missing. It allocates nothing. `fn f() {}` gives
 /// the function `f`, and `fn f() {} fn g() {}` has an error at the second `fn`.
+#[tactic(auto, using(crate::proofs::AnyItemLemmas::wholes))]
 pub fn parse_item(trees: &[TokenTree]) -> Result<AnyItem<'_>, Fault>
     ensures ok { IfOk result (λ item. ReadsAll IsAnyItem trees.now × (item.trees.now ≡ trees.now)) }
-    // The kind and the name are those that the walk over the item's signs finds.
-    ensures kind_and_name { IfOk result (λ item. (name : Option Name) × Tells trees.now [] item.kind name
+    // The item has the keyword of its kind, and reads from its name on by the rule of its kind.
+    ensures kind_and_name { IfOk result (λ item. (name : Option Name) × HasKind trees.now [] item.kind name
         × MatchOption item.name (name ≡ None) (λ ident. name ≡ Some ident.now)) }
     ensures fault { IfErr result (λ fault. FaultAt (IsWhole IsAnyItem) trees.now fault.at) }
     ensures span { IfErr result (λ fault. fault.span ≡ extent_at trees.now fault.at) }
     ensures expected { IfErr result (λ fault. Expects IsAnyItem trees.now fault.at fault.expected) }
 {
-    let start = WalkState {
-        item: Item::Alone,
-        rule: Continuation::Alone,
-        state: State::At(Spot::Before(Part::AnyItem)),
-        depth: 0,
-    };
-    read_whole(trees, start)?;
-    let (item, _) = split_any_item(trees)?;
-    Ok(item)
+    match past_any_item(trees) {
+        Ok(found) => {
+            if found.rest.is_empty() {
+                let name = name_of(found.kind, found.named);
+                Ok(AnyItem {
+                    kind: found.kind,
+                    name,
+                    trees,
+                })
+            } else {
+                Err(fault_by(&ANY_ITEM, trees, found.rest))
+            }
+        }
+        Err(left) => Err(fault_by(&ANY_ITEM, trees, left)),
+    }
 }
 
 impl<'a> Iterator for Items<'a> {

@@ -16,7 +16,7 @@ ghost use Rattle.item_tables.specs.Classes.{is_block, is_round, is_word};
 ghost use Rattle.declarations.specs.rules.Fronts.{is_safe};
 ghost use Rattle.declarations.specs.rules.Functions.{abi, function_item, qualifiers, return_type_rule};
 ghost use Rattle.declarations.specs.rules.Names.{one, word};
-ghost use Rattle.declarations.specs.rules.Parts.{generics, where_clause};
+ghost use Rattle.declarations.specs.rules.Parts.{closed_parameters, generics, where_clause};
 ghost use Rattle.declarations.specs.rules.Pieces.{ByRule};
 
 use crate::explore::fault_by;
@@ -24,12 +24,12 @@ use crate::fault::Fault;
 use crate::front::past_visibility;
 use crate::item::{split_group, split_name, split_parentheses};
 use crate::parameter::{past_attributes, past_type};
+use crate::part_list::{Element, past_list};
 use crate::reader::{begins_identifier, begins_mark, is, part, past};
 use crate::signs::{first_sign, group_class, name_class};
 use crate::syntax::FUNCTION;
-use crate::walk::walk_past;
+use crate::type_path::opens;
 use item_tables::class::{Keyword, SignClass, Word};
-use item_tables::walk_state::{Continuation, Item, Spot, State, WalkState};
 use pm_stream::{Group, TokenTree};
 use pm_token::Ident;
 
@@ -117,7 +117,7 @@ fn function_of(trees: &[TokenTree]) -> Result<(Function<'_>, &[TokenTree]), &[To
     Ok((function, rest))
 }
 
-// ---- parts that are read by the tables
+// ---- generic parameters and where clauses
 
 /// Skips generic parameters, if they are next.
 #[tactic(auto, using(crate::proofs::FrontLemmas::no_generics))]
@@ -125,23 +125,35 @@ pub(crate) fn past_generics(trees: &[TokenTree]) -> Result<&[TokenTree], &[Token
     ensures { ReadsRule generics trees.now result }
 {
     if begins_mark(trees) {
-        walk_generics(trees)
+        past_brackets(trees)
     } else {
         Ok(trees)
     }
 }
 
-#[tactic(auto, using(crate::proofs::FunctionPartLemmas::generics_read))]
-fn walk_generics(trees: &[TokenTree]) -> Result<&[TokenTree], &[TokenTree]>
+/// Skips generic parameters in angle brackets, if they are next.
+#[tactic(auto, using(crate::proofs::FunctionPartLemmas::brackets))]
+fn past_brackets(trees: &[TokenTree]) -> Result<&[TokenTree], &[TokenTree]>
     ensures { ReadsRule generics trees.now result }
 {
-    let start = WalkState {
-        item: Item::Alone,
-        rule: Continuation::Alone,
-        state: State::At(Spot::Generics),
-        depth: 0,
-    };
-    walk_past(trees, start)
+    match first_sign(trees) {
+        Some((class, rest)) => {
+            if opens(class) {
+                past_parameters(rest)
+            } else {
+                Ok(trees)
+            }
+        }
+        None => Ok(trees),
+    }
+}
+
+/// Skips generic parameters and the `>` after them.
+#[tactic(auto, using(crate::proofs::FunctionPartLemmas::closings))]
+fn past_parameters(trees: &[TokenTree]) -> Result<&[TokenTree], &[TokenTree]>
+    ensures { ReadsRule closed_parameters trees.now result }
+{
+    past(past_list(Element::Parameter, trees)?, SignClass::Greater)
 }
 
 /// Skips a where clause, if one is next.
@@ -150,23 +162,27 @@ pub(crate) fn past_where(trees: &[TokenTree]) -> Result<&[TokenTree], &[TokenTre
     ensures { ReadsRule where_clause trees.now result }
 {
     if begins_identifier(trees) {
-        walk_where(trees)
+        past_clause(trees)
     } else {
         Ok(trees)
     }
 }
 
-#[tactic(auto, using(crate::proofs::FunctionPartLemmas::where_reads))]
-fn walk_where(trees: &[TokenTree]) -> Result<&[TokenTree], &[TokenTree]>
+/// Skips a where clause, if one is next.
+#[tactic(auto, using(crate::proofs::FunctionPartLemmas::clauses))]
+fn past_clause(trees: &[TokenTree]) -> Result<&[TokenTree], &[TokenTree]>
     ensures { ReadsRule where_clause trees.now result }
 {
-    let start = WalkState {
-        item: Item::Alone,
-        rule: Continuation::Alone,
-        state: State::At(Spot::Where),
-        depth: 0,
-    };
-    walk_past(trees, start)
+    match first_sign(trees) {
+        Some((class, rest)) => {
+            if is(SignClass::Keyword(Keyword::Where), class) {
+                past_list(Element::Predicate, rest)
+            } else {
+                Ok(trees)
+            }
+        }
+        None => Ok(trees),
+    }
 }
 
 // ---- qualifiers
@@ -301,6 +317,16 @@ fn end_of(trees: &[TokenTree]) -> Result<(End<'_>, &[TokenTree]), &[TokenTree]>
         body,
     };
     Ok((end, rest))
+}
+
+/// Skips the parts after the parameters.
+pub(crate) fn past_returning(trees: &[TokenTree]) -> Result<&[TokenTree], &[TokenTree]>
+    ensures { ReadsRule returning trees.now result }
+{
+    match end_of(trees) {
+        Ok((_, rest)) => Ok(rest),
+        Err(left) => Err(left),
+    }
 }
 
 /// Reads `->` and a type, if `->` is next. Returns the type, or no trees, and the trees after it.

@@ -7,7 +7,7 @@ ghost use Rattle.declarations.specs.Found.{TurnsTo};
 ghost use Rattle.declarations.specs.Impl.{HasBraces, HasFront, HasGenerics, HasHeader, HasImplParts, HasTarget};
 ghost use Rattle.declarations.specs.Impl.{HasTypes, IsImpl, begins_generics, begins_parameter, ends_parameter};
 ghost use Rattle.declarations.specs.Impl.{for_type, goes_on_parameter, has_generics, target_types};
-ghost use Rattle.declarations.specs.Reader.{Finds, Sticks, classes_in};
+ghost use Rattle.declarations.specs.Reader.{Finds, ReadsRule, Sticks, classes_in};
 ghost use Rattle.declarations.specs.Reading.{FaultAt};
 ghost use Rattle.declarations.specs.Signs.{BeginsWith};
 ghost use Rattle.declarations.specs.Whole.{IsWhole};
@@ -23,6 +23,7 @@ use crate::fault::Fault;
 use crate::front::past_visibility;
 use crate::function::{is_name, may, past_generics, past_where};
 use crate::item::split_braces;
+use crate::item_rest::past_where_and_body;
 use crate::parameter::{past_attributes, past_type};
 use crate::reader::{is, part};
 use crate::signs::first_sign;
@@ -230,6 +231,17 @@ fn header_of(trees: &[TokenTree]) -> Result<(Header<'_>, &[TokenTree]), &[TokenT
                 Err(left) => Err(left),
             }
         }
+        Err(left) => Err(left),
+    }
+}
+
+/// Skips what an `impl` has after the keyword.
+#[tactic(auto, using(crate::proofs::ImplLemmas::rests))]
+pub(crate) fn past_impl_rest(trees: &[TokenTree]) -> Result<&[TokenTree], &[TokenTree]>
+    ensures { ReadsRule impl_front trees.now result }
+{
+    match header_of(trees) {
+        Ok((_, from_clause)) => past_where_and_body(from_clause),
         Err(left) => Err(left),
     }
 }

@@ -19,6 +19,7 @@ ghost use Rattle.declarations.specs.Forms.{
   IsVisibility,
   IsWhere,
 };
+ghost use Rattle.declarations.specs.Kind.{OneKind};
 ghost use Rattle.declarations.specs.rules.Expressions.{expression};
 ghost use Rattle.declarations.specs.rules.Items.{any_item, type_item};
 ghost use Rattle.declarations.specs.rules.Parts.{
@@ -64,4 +65,14 @@ pub fn tables_are_the_grammar()
     ensures where_clause { ReadsBy where_clause IsWhere }
     ensures type_item { ReadsBy type_item IsItem }
     ensures any_item { ReadsBy any_item IsAnyItem }
+{}
+
+/// An item has one kind and one name.
+///
+/// They are those that [`split_any_item`](crate::split_any_item) gives, by `HasKind` of its contract.
+/// After the attributes, the visibility and the qualifiers of an item comes the keyword of its kind. From its name on
+/// it reads by the rule of its kind. This holds for one kind and one name only. In `const unsafe fn f() {}` the `const`
+/// is a qualifier, because a constant would go on with a name and `:`.
+pub fn items_have_one_kind()
+    ensures { OneKind }
 {}

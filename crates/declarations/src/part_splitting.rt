@@ -4,64 +4,33 @@ ghost use Rattle.declarations.specs.Expected.{Expects};
 ghost use Rattle.declarations.specs.Fault.{extent_at};
 ghost use Rattle.declarations.specs.Forms.{AreAttributes, AreBounds, AreFields, AreGenerics, AreTupleFields, IsField};
 ghost use Rattle.declarations.specs.Forms.{IsItem, IsTupleField, IsType, IsVisibility, IsWhere};
-ghost use Rattle.declarations.specs.Forms.{AreInnerAttributes, AreVariants, IsExpression, IsFrom, IsVariant, start};
+ghost use Rattle.declarations.specs.Forms.{AreInnerAttributes, AreVariants, IsExpression, IsVariant};
 ghost use Rattle.declarations.specs.Reading.{FaultAt, IsOnly, Reads};
 
+use crate::entry::past_expression;
 use crate::explore::fault_by;
 use crate::fault::Fault;
 use crate::field::{parse_field, parse_tuple_field};
 use crate::front::past_visibility;
 use crate::function::{past_generics, past_where};
+use crate::generic_argument::past_bounds;
+use crate::inner::past_inner_attributes;
 use crate::item::item_of;
-use crate::parameter::past_attributes;
+use crate::parameter::{past_attributes, past_type};
+use crate::part_list::{Element, past_list};
 use crate::reader::part;
-use crate::syntax::TYPE_ITEM;
+use crate::syntax::{
+    ATTRIBUTES, BOUNDS, EXPRESSION, FIELDS, GENERICS, INNER_ATTRIBUTES, TUPLE_FIELDS, TYPE,
+    TYPE_ITEM, VARIANTS, WHERE,
+};
 use crate::variant::parse_variant;
-use crate::walk::split_from;
-use item_tables::types::TypeState;
-use item_tables::walk_state::{Continuation, Item, Part, Spot, State, WalkState};
 use pm_stream::TokenTree;
-
-/// Reads a part that is in no item, from a state on.
-fn split_alone<'a>(
-    trees: &'a [TokenTree],
-    rule: Continuation,
-    state: State,
-) -> Result<(&'a [TokenTree], &'a [TokenTree]), Fault>
-    ensures ok { IfOk result (λ found. Reads (IsFrom (start rule state)) trees.now found.0.now found.1.now) }
-    ensures only { IfOk result (λ found. IsOnly (IsFrom (start rule state)) trees.now found.0.now found.1.now) }
-    ensures fault { IfErr result (λ fault. FaultAt (IsFrom (start rule state)) trees.now fault.at) }
-    ensures span { IfErr result (λ fault. fault.span ≡ extent_at trees.now fault.at) }
-    ensures expected { IfErr result (λ fault. Expects (IsFrom (start rule state)) trees.now fault.at fault.expected) }
-{
-    let start = WalkState {
-        item: Item::Alone,
-        rule,
-        state,
-        depth: 0,
-    };
-    split_pair(trees, start)
-}
-
-fn split_pair<'a>(
-    trees: &'a [TokenTree],
-    start: WalkState,
-) -> Result<(&'a [TokenTree], &'a [TokenTree]), Fault>
-    requires { start.depth ≡ 0 }
-    ensures ok { IfOk result (λ found. Reads (IsFrom start) trees.now found.0.now found.1.now) }
-    ensures only { IfOk result (λ found. IsOnly (IsFrom start) trees.now found.0.now found.1.now) }
-    ensures fault { IfErr result (λ fault. FaultAt (IsFrom start) trees.now fault.at) }
-    ensures span { IfErr result (λ fault. fault.span ≡ extent_at trees.now fault.at) }
-    ensures expected { IfErr result (λ fault. Expects (IsFrom start) trees.now fault.at fault.expected) }
-{
-    let split = split_from(trees, start)?;
-    Ok((split.part, split.rest))
-}
 
 /// Returns the type at the start of the trees, and the trees after it.
 ///
 /// A type is not parsed; only its end is found. It ends outside of angle brackets, after an operand, where the next
 /// sign cannot continue it. For `Vec<A>, B` it is `Vec<A>`.
+#[tactic(auto, using(crate::proofs::PartReaderLemmas::type_parts))]
 pub fn split_type(trees: &[TokenTree]) -> Result<(&[TokenTree], &[TokenTree]), Fault>
     ensures ok { IfOk result (λ found. Reads IsType trees.now found.0.now found.1.now) }
     ensures only { IfOk result (λ found. IsOnly IsType trees.now found.0.now found.1.now) }
@@ -69,12 +38,16 @@ pub fn split_type(trees: &[TokenTree]) -> Result<(&[TokenTree], &[TokenTree]), F
     ensures span { IfErr result (λ fault. fault.span ≡ extent_at trees.now fault.at) }
     ensures expected { IfErr result (λ fault. Expects IsType trees.now fault.at fault.expected) }
 {
-    split_alone(trees, Continuation::Alone, State::Range(TypeState::Wanted))
+    match past_type(trees) {
+        Ok(rest) => Ok((part(trees, rest), rest)),
+        Err(left) => Err(fault_by(&TYPE, trees, left)),
+    }
 }
 
 /// Returns the bounds at the start of the trees, perhaps none, and the trees after them.
 ///
 /// Bounds end as a type does. For `A + 'b = C` they are `A + 'b`.
+#[tactic(auto, using(crate::proofs::PartReaderLemmas::bound_parts))]
 pub fn split_bounds(trees: &[TokenTree]) -> Result<(&[TokenTree], &[TokenTree]), Fault>
     ensures ok { IfOk result (λ found. Reads AreBounds trees.now found.0.now found.1.now) }
     ensures only { IfOk result (λ found. IsOnly AreBounds trees.now found.0.now found.1.now) }
@@ -82,7 +55,10 @@ pub fn split_bounds(trees: &[TokenTree]) -> Result<(&[TokenTree], &[TokenTree]),
     ensures span { IfErr result (λ fault. fault.span ≡ extent_at trees.now fault.at) }
     ensures expected { IfErr result (λ fault. Expects AreBounds trees.now fault.at fault.expected) }
 {
-    split_alone(trees, Continuation::Alone, State::Range(TypeState::Bound))
+    match past_bounds(trees) {
+        Ok(rest) => Ok((part(trees, rest), rest)),
+        Err(left) => Err(fault_by(&BOUNDS, trees, left)),
+    }
 }
 
 /// Returns the outer attributes at the start of the trees, perhaps none, and the trees after them.
@@ -98,11 +74,7 @@ pub fn split_attributes(trees: &[TokenTree]) -> Result<(&[TokenTree], &[TokenTre
 {
     match past_attributes(trees) {
         Ok(rest) => Ok((part(trees, rest), rest)),
-        Err(_) => split_alone(
-            trees,
-            Continuation::Alone,
-            State::At(Spot::Before(Part::Attributes)),
-        ),
+        Err(left) => Err(fault_by(&ATTRIBUTES, trees, left)),
     }
 }
 
@@ -160,6 +132,7 @@ pub fn split_tuple_field(trees: &[TokenTree]) -> Result<(&[TokenTree], &[TokenTr
 ///
 /// A `,` is between two fields, and may be after the last. If a rest is left of the trees in a struct's braces, the
 /// struct has an error there.
+#[tactic(auto, using(crate::proofs::PartReaderLemmas::field_lists_read))]
 pub fn split_fields(trees: &[TokenTree]) -> Result<(&[TokenTree], &[TokenTree]), Fault>
     ensures ok { IfOk result (λ found. Reads AreFields trees.now found.0.now found.1.now) }
     ensures only { IfOk result (λ found. IsOnly AreFields trees.now found.0.now found.1.now) }
@@ -167,16 +140,16 @@ pub fn split_fields(trees: &[TokenTree]) -> Result<(&[TokenTree], &[TokenTree]),
     ensures span { IfErr result (λ fault. fault.span ≡ extent_at trees.now fault.at) }
     ensures expected { IfErr result (λ fault. Expects AreFields trees.now fault.at fault.expected) }
 {
-    split_alone(
-        trees,
-        Continuation::Fields,
-        State::At(Spot::Before(Part::Field)),
-    )
+    match past_list(Element::Field, trees) {
+        Ok(rest) => Ok((part(trees, rest), rest)),
+        Err(left) => Err(fault_by(&FIELDS, trees, left)),
+    }
 }
 
 /// Returns the fields without names at the start of the trees, perhaps none, and the trees after them.
 ///
 /// A `,` is between two fields, and may be after the last.
+#[tactic(auto, using(crate::proofs::PartReaderLemmas::tuple_field_lists_read))]
 pub fn split_tuple_fields(trees: &[TokenTree]) -> Result<(&[TokenTree], &[TokenTree]), Fault>
     ensures ok { IfOk result (λ found. Reads AreTupleFields trees.now found.0.now found.1.now) }
     ensures only { IfOk result (λ found. IsOnly AreTupleFields trees.now found.0.now found.1.now) }
@@ -184,11 +157,10 @@ pub fn split_tuple_fields(trees: &[TokenTree]) -> Result<(&[TokenTree], &[TokenT
     ensures span { IfErr result (λ fault. fault.span ≡ extent_at trees.now fault.at) }
     ensures expected { IfErr result (λ fault. Expects AreTupleFields trees.now fault.at fault.expected) }
 {
-    split_alone(
-        trees,
-        Continuation::TupleFields,
-        State::At(Spot::Before(Part::TupleField)),
-    )
+    match past_list(Element::TupleField, trees) {
+        Ok(rest) => Ok((part(trees, rest), rest)),
+        Err(left) => Err(fault_by(&TUPLE_FIELDS, trees, left)),
+    }
 }
 
 /// Returns the variant at the start of the trees, and the trees after it.
@@ -213,6 +185,7 @@ pub fn split_variant(trees: &[TokenTree]) -> Result<(&[TokenTree], &[TokenTree])
 ///
 /// A `,` is between two variants, and may be after the last. If a rest is left of the trees in an enum's braces, the
 /// enum has an error there.
+#[tactic(auto, using(crate::proofs::PartReaderLemmas::variant_lists_read))]
 pub fn split_variants(trees: &[TokenTree]) -> Result<(&[TokenTree], &[TokenTree]), Fault>
     ensures ok { IfOk result (λ found. Reads AreVariants trees.now found.0.now found.1.now) }
     ensures only { IfOk result (λ found. IsOnly AreVariants trees.now found.0.now found.1.now) }
@@ -220,13 +193,10 @@ pub fn split_variants(trees: &[TokenTree]) -> Result<(&[TokenTree], &[TokenTree]
     ensures span { IfErr result (λ fault. fault.span ≡ extent_at trees.now fault.at) }
     ensures expected { IfErr result (λ fault. Expects AreVariants trees.now fault.at fault.expected) }
 {
-    let start = WalkState {
-        item: Item::Variants,
-        rule: Continuation::Alone,
-        state: State::At(Spot::Before(Part::Variant)),
-        depth: 0,
-    };
-    split_pair(trees, start)
+    match past_list(Element::Variant, trees) {
+        Ok(rest) => Ok((part(trees, rest), rest)),
+        Err(left) => Err(fault_by(&VARIANTS, trees, left)),
+    }
 }
 
 /// Returns the expression at the start of the trees, and the trees after it.
@@ -234,6 +204,7 @@ pub fn split_variants(trees: &[TokenTree]) -> Result<(&[TokenTree], &[TokenTree]
 /// Like the discriminant of a variant, it ends before a `,`, a `;` or a second operand, outside of angle brackets and
 /// a closure's bars, or with the trees. It is not parsed; only its end is found, so `a => b` is one expression. For
 /// `f::<X, Y>() as A<B, C>, D` it is everything before the last `,`.
+#[tactic(auto, using(crate::proofs::PartReaderLemmas::expression_parts))]
 pub fn split_expression(trees: &[TokenTree]) -> Result<(&[TokenTree], &[TokenTree]), Fault>
     ensures ok { IfOk result (λ found. Reads IsExpression trees.now found.0.now found.1.now) }
     ensures only { IfOk result (λ found. IsOnly IsExpression trees.now found.0.now found.1.now) }
@@ -241,7 +212,10 @@ pub fn split_expression(trees: &[TokenTree]) -> Result<(&[TokenTree], &[TokenTre
     ensures span { IfErr result (λ fault. fault.span ≡ extent_at trees.now fault.at) }
     ensures expected { IfErr result (λ fault. Expects IsExpression trees.now fault.at fault.expected) }
 {
-    split_alone(trees, Continuation::Alone, State::At(Spot::Expression))
+    match past_expression(trees) {
+        Ok(rest) => Ok((part(trees, rest), rest)),
+        Err(left) => Err(fault_by(&EXPRESSION, trees, left)),
+    }
 }
 
 /// Returns the generic parameters at the start of the trees with their angle brackets, and the trees after them.
@@ -258,7 +232,7 @@ pub fn split_generics(trees: &[TokenTree]) -> Result<(&[TokenTree], &[TokenTree]
 {
     match past_generics(trees) {
         Ok(rest) => Ok((part(trees, rest), rest)),
-        Err(_) => split_alone(trees, Continuation::Alone, State::At(Spot::Generics)),
+        Err(left) => Err(fault_by(&GENERICS, trees, left)),
     }
 }
 
@@ -275,7 +249,7 @@ pub fn split_where(trees: &[TokenTree]) -> Result<(&[TokenTree], &[TokenTree]), 
 {
     match past_where(trees) {
         Ok(rest) => Ok((part(trees, rest), rest)),
-        Err(_) => split_alone(trees, Continuation::Alone, State::At(Spot::Where)),
+        Err(left) => Err(fault_by(&WHERE, trees, left)),
     }
 }
 
@@ -300,6 +274,7 @@ pub fn split_item(trees: &[TokenTree]) -> Result<(&[TokenTree], &[TokenTree]), F
 /// Returns the inner attributes at the start of the trees, perhaps none, and the trees after them.
 ///
 /// For `#![a] #[b] fn f() {}` the attributes are `#![a]`.
+#[tactic(auto, using(crate::proofs::InnerLemmas::inner_parts))]
 pub fn split_inner_attributes(trees: &[TokenTree]) -> Result<(&[TokenTree], &[TokenTree]), Fault>
     ensures ok { IfOk result (λ found. Reads AreInnerAttributes trees.now found.0.now found.1.now) }
     ensures only { IfOk result (λ found. IsOnly AreInnerAttributes trees.now found.0.now found.1.now) }
@@ -307,5 +282,8 @@ pub fn split_inner_attributes(trees: &[TokenTree]) -> Result<(&[TokenTree], &[To
     ensures span { IfErr result (λ fault. fault.span ≡ extent_at trees.now fault.at) }
     ensures expected { IfErr result (λ fault. Expects AreInnerAttributes trees.now fault.at fault.expected) }
 {
-    split_alone(trees, Continuation::Alone, State::At(Spot::Inner))
+    match past_inner_attributes(trees) {
+        Ok(rest) => Ok((part(trees, rest), rest)),
+        Err(left) => Err(fault_by(&INNER_ATTRIBUTES, trees, left)),
+    }
 }

@@ -233,6 +233,24 @@ pub(crate) fn admits(guard: Guard, class: SignClass) -> bool
 
 // ---- the rules that one table reads
 
+/// A type.
+pub(crate) const TYPE: Syntax<'static> = Syntax::Table(Table::Type);
+
+/// Bounds.
+pub(crate) const BOUNDS: Syntax<'static> = Syntax::Table(Table::Bounds);
+
+/// Attributes.
+pub(crate) const ATTRIBUTES: Syntax<'static> = Syntax::Table(Table::Attributes);
+
+/// An expression.
+pub(crate) const EXPRESSION: Syntax<'static> = Syntax::Table(Table::Expression);
+
+/// Generic parameters, or nothing.
+pub(crate) const GENERICS: Syntax<'static> = Syntax::Table(Table::Generics);
+
+/// A where clause, or nothing.
+pub(crate) const WHERE: Syntax<'static> = Syntax::Table(Table::Where);
+
 /// A named field.
 pub(crate) const FIELD: Syntax<'static> = Syntax::Table(Table::Field);
 
@@ -242,8 +260,23 @@ pub(crate) const TUPLE_FIELD: Syntax<'static> = Syntax::Table(Table::TupleField)
 /// A variant.
 pub(crate) const VARIANT: Syntax<'static> = Syntax::Table(Table::Variant);
 
+/// Named fields.
+pub(crate) const FIELDS: Syntax<'static> = Syntax::List(&FIELD);
+
+/// Fields without names.
+pub(crate) const TUPLE_FIELDS: Syntax<'static> = Syntax::List(&TUPLE_FIELD);
+
+/// Variants.
+pub(crate) const VARIANTS: Syntax<'static> = Syntax::List(&VARIANT);
+
 /// A struct, an enum or a union.
 pub(crate) const TYPE_ITEM: Syntax<'static> = Syntax::Table(Table::TypeItem);
+
+/// Inner attributes.
+pub(crate) const INNER_ATTRIBUTES: Syntax<'static> = Syntax::Table(Table::InnerAttributes);
+
+/// An item of any kind.
+pub(crate) const ANY_ITEM: Syntax<'static> = Syntax::Table(Table::AnyItem);
 
 // ---- the rules of functions
 

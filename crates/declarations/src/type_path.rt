@@ -1,19 +1,19 @@
 //! The path of a type, with the name and the arguments of its last segment.
-ghost use Rattle.std.specs.Prelude.{◌≡◌, ◌<◌, IfErr, IfOk, MatchResult, false, length, true};
-ghost use Rattle.grammars.specs.First.{heads, may_begin};
+ghost use Rattle.std.specs.Prelude.{◌≡◌, ◌<◌, IfErr, IfOk, MatchResult, false, true};
+ghost use Rattle.grammars.specs.First.{heads};
 ghost use Rattle.grammars.specs.Grammar.{perhaps};
 ghost use Rattle.declarations.specs.Bare.{bare_trees};
 ghost use Rattle.declarations.specs.Expected.{Expects};
 ghost use Rattle.declarations.specs.Fault.{extent_at};
-ghost use Rattle.declarations.specs.Reader.{Finds, ReadsRule, Sticks, classes_in};
+ghost use Rattle.declarations.specs.Reader.{Finds, Sticks, classes_in};
 ghost use Rattle.declarations.specs.Reading.{FaultAt};
 ghost use Rattle.declarations.specs.Signs.{BeginsWith};
-ghost use Rattle.declarations.specs.TypePath.{Goes, HasAngle, HasArguments, HasNext, HasPathParts, HasRound, IsElement};
+ghost use Rattle.declarations.specs.TypePath.{Goes, HasAngle, HasArguments, HasNext, HasPathParts, HasRound};
 ghost use Rattle.declarations.specs.TypePath.{IsSegmentAt, IsTypePath, MaySeparate, ReadsLast, ReadsStep};
 ghost use Rattle.declarations.specs.Whole.{IsWhole};
 ghost use Rattle.item_tables.specs.Classes.{is_round, opens};
 ghost use Rattle.declarations.specs.rules.Names.{AfterName, one};
-ghost use Rattle.declarations.specs.rules.Paths.{angle_rest, generic_argument, generic_arguments, is_segment, path};
+ghost use Rattle.declarations.specs.rules.Paths.{angle_rest, is_segment, path};
 ghost use Rattle.declarations.specs.rules.Paths.{round_arguments, segment, further_segment, type_path};
 ghost use Rattle.declarations.specs.rules.Pieces.{ByRule};
 ghost use Rattle.item_tables.specs.declared.class.SignClass.TheVariants as signs;
@@ -22,11 +22,11 @@ use crate::bare::bare_trees;
 use crate::explore_path::fault_in_path;
 use crate::fault::Fault;
 use crate::function::return_of;
-use crate::generic_argument::argument_of;
 use crate::item::{split_name, split_parentheses};
+use crate::part_list::{Element, past_list};
 use crate::reader::{begins, is, part};
 use crate::signs::{first_sign, name_class};
-use item_tables::class::{Keyword, SignClass};
+use item_tables::class::SignClass;
 use pm_stream::{Group, TokenTree};
 use pm_token::Ident;
 
@@ -143,91 +143,6 @@ pub(crate) fn is_round(class: SignClass) -> bool
     }
 }
 
-/// Whether a generic argument can begin with the sign.
-fn begins_argument(class: SignClass) -> bool
-    ensures { result ≡ may_begin generic_argument class }
-{
-    match class {
-        SignClass::Word(_) | SignClass::Lifetime => true,
-        SignClass::Minus
-        | SignClass::Literal
-        | SignClass::Braces
-        | SignClass::Block
-        | SignClass::Truth => true,
-        SignClass::SelfValue
-        | SignClass::SelfType
-        | SignClass::Super
-        | SignClass::Crate
-        | SignClass::Underscore => true,
-        SignClass::Restriction
-        | SignClass::Parentheses
-        | SignClass::Brackets
-        | SignClass::Invisible => true,
-        SignClass::Exclamation | SignClass::PathSeparator | SignClass::And | SignClass::Question =>
-            true,
-        SignClass::Star | SignClass::Tilde | SignClass::Less | SignClass::LessJoint => true,
-        SignClass::Keyword(Keyword::Async | Keyword::Dyn | Keyword::Fn | Keyword::Impl) => true,
-        SignClass::Keyword(Keyword::Mut | Keyword::Unsafe | Keyword::Use) => true,
-        SignClass::Keyword(Keyword::Extern | Keyword::For) => true,
-        _ => false,
-    }
-}
-
-/// Whether a generic argument is next.
-#[tactic(auto, using(crate::proofs::ReaderLemmas::steps))]
-fn has_argument(trees: &[TokenTree]) -> bool
-    ensures { result ≡ heads generic_argument (classes_in trees.now) }
-{
-    match first_sign(trees) {
-        Some((class, _)) => begins_argument(class),
-        None => false,
-    }
-}
-
-/// Skips the next argument and its comma. Returns whether there was a comma, and the trees after it.
-#[tactic(auto, using(crate::proofs::ListedLemmas::elements))]
-fn element(trees: &[TokenTree]) -> Result<(bool, &[TokenTree]), &[TokenTree]>
-    ensures reads { MatchResult result (λ found. IsElement found.0 trees.now found.1.now)
-        (λ left. Sticks generic_arguments trees.now left.now) }
-    ensures fewer { IfOk result (λ found. found.0 ≡ true → length found.1.now < length trees.now) }
-{
-    if has_argument(trees) {
-        match argument_of(trees) {
-            Ok((_, from_comma)) => match first_sign(from_comma) {
-                Some((class, rest)) => {
-                    if is(SignClass::Comma, class) {
-                        Ok((true, rest))
-                    } else {
-                        Ok((false, from_comma))
-                    }
-                }
-                None => Ok((false, from_comma)),
-            },
-            Err(left) => Err(left),
-        }
-    } else {
-        Ok((false, trees))
-    }
-}
-
-/// Skips generic arguments.
-fn past_arguments(trees: &[TokenTree]) -> Result<&[TokenTree], &[TokenTree]>
-    ensures { ReadsRule generic_arguments trees.now result }
-{
-    let mut left = trees;
-    loop {
-        match element(left) {
-            Ok((more, rest)) => {
-                if !more {
-                    return Ok(rest);
-                }
-                left = rest;
-            }
-            Err(fault) => return Err(fault),
-        }
-    }
-}
-
 // ---- segments
 
 /// Whether the sign can be the name of a segment.
@@ -291,7 +206,7 @@ fn next_segment(trees: &[TokenTree]) -> Result<Option<Segment<'_>>, &[TokenTree]
 fn angle_of(trees: &[TokenTree]) -> Result<Transition<'_>, &[TokenTree]>
     ensures { ReadsStep angle_rest HasAngle trees.now result }
 {
-    match past_arguments(trees) {
+    match past_list(Element::Argument, trees) {
         Ok(from_close) => match first_sign(from_close) {
             Some((class, rest)) => {
                 if is(SignClass::Greater, class) {

@@ -57,7 +57,7 @@ pub fn parse_variant(trees: &[TokenTree]) -> Result<(Variant<'_>, &[TokenTree]),
 
 /// Reads a variant. Returns it and the trees after it, or the trees from the error on.
 #[tactic(auto, using(crate::proofs::VariantLemmas::variants_of))]
-fn variant_of(trees: &[TokenTree]) -> Result<(Variant<'_>, &[TokenTree]), &[TokenTree]>
+pub(crate) fn variant_of(trees: &[TokenTree]) -> Result<(Variant<'_>, &[TokenTree]), &[TokenTree]>
     ensures { MatchResult result (λ found. Finds variant trees.now found.1.now
         × IsVariantAt trees.now found.0 found.1.now) (λ left. Sticks variant trees.now left.now) }
 {

@@ -1,77 +1,15 @@
 //! The walk over the signs of trees by the tables of the grammar.
-ghost use Rattle.std.specs.Prelude.{◌≡◌, ◌≢◌, ◌+◌, ◌≤◌, ◌<◌, ◌^◌, IfErr, IfNone, IfOk, IfSome, MatchResult, OnOk, cond};
+ghost use Rattle.std.specs.Prelude.{◌≡◌, ◌+◌, ◌≤◌, ◌<◌, ◌^◌, IfNone, IfSome, MatchResult, cond};
 ghost use Rattle.std.specs.Prelude.{false, length, true};
-ghost use Rattle.declarations.specs.Expected.{Expects};
-ghost use Rattle.declarations.specs.Fault.{extent_at};
-ghost use Rattle.declarations.specs.Forms.{IsFrom};
 ghost use Rattle.item_tables.specs.Grammar.{names, step};
-ghost use Rattle.declarations.specs.Reading.{FaultAt, IsOnly, Reads, StopsAt, Walked, first_name};
+ghost use Rattle.declarations.specs.Reading.{StopsAt, Walked, first_name};
 ghost use Rattle.declarations.specs.Signs.{BeginsWith, classes_of, signs};
 ghost use Rattle.declarations.specs.Walk.{Stops};
-ghost use Rattle.declarations.specs.Whole.{IsWhole, ReadsAll};
 ghost use Rattle.item_tables.specs.declared.class.SignClass.{SignClass as ClassValue};
-ghost use Rattle.item_tables.specs.declared.walk_state.WalkState.{WalkState as PlaceValue};
 
-use crate::expected::steps_from;
-use crate::fault::Fault;
 use crate::signs::first_sign;
-use item_tables::walk_state::{Item, WalkState};
+use item_tables::walk_state::WalkState;
 use pm_stream::TokenTree;
-
-/// The part that the walk read, and what the walk found out about it.
-#[derive(Clone, Copy)]
-pub(crate) struct Split<'a> {
-    pub part: &'a [TokenTree],
-    pub rest: &'a [TokenTree],
-    /// The item that the walk was in at its end.
-    pub last: Item,
-    /// The trees from the item's name on, or no trees if it has no name.
-    pub named: &'a [TokenTree],
-}
-
-/// Reads a part from a state on. Returns the part and the trees after it.
-pub(crate) fn split_from<'a>(trees: &'a [TokenTree], start: WalkState) -> Result<Split<'a>, Fault>
-    requires { start.depth ≡ 0 }
-    ensures ok { IfOk result (λ found. Reads (IsFrom start) trees.now found.part.now found.rest.now) }
-    ensures only { IfOk result (λ found. IsOnly (IsFrom start) trees.now found.part.now found.rest.now) }
-    ensures kind_and_name { IfOk result (λ found. (last : PlaceValue)
-        × Walked start trees.now found.rest.now last (first_name found.named.now) × (found.last ≡ last.item)) }
-    ensures fault { IfErr result (λ fault. FaultAt (IsFrom start) trees.now fault.at) }
-    ensures span { IfErr result (λ fault. fault.span ≡ extent_at trees.now fault.at) }
-    ensures expected { IfErr result (λ fault. Expects (IsFrom start) trees.now fault.at fault.expected) }
-{
-    let stop = walk_from(trees, start);
-    let at = trees.len() - stop.left.len();
-    if stop.place.may_end() {
-        let (part, rest) = trees.split_at(at);
-        Ok(Split {
-            part,
-            rest,
-            last: stop.place.item,
-            named: stop.named,
-        })
-    } else {
-        let fault = Fault::ahead_of(at, stop.left);
-        Err(fault.expecting(steps_from(stop.place)))
-    }
-}
-
-/// Reads all of the trees from a state on.
-pub(crate) fn read_whole(trees: &[TokenTree], start: WalkState) -> Result<(), Fault>
-    requires { start.depth ≡ 0 }
-    ensures ok { OnOk result (ReadsAll (IsFrom start) trees.now) }
-    ensures fault { IfErr result (λ fault. FaultAt (IsWhole (IsFrom start)) trees.now fault.at) }
-    ensures span { IfErr result (λ fault. fault.span ≡ extent_at trees.now fault.at) }
-    ensures expected { IfErr result (λ fault. Expects (IsFrom start) trees.now fault.at fault.expected) }
-{
-    let stop = walk_from(trees, start);
-    if stop.left.is_empty() && stop.place.may_end() {
-        Ok(())
-    } else {
-        let fault = Fault::ahead_of(trees.len() - stop.left.len(), stop.left);
-        Err(fault.expecting(steps_from(stop.place)))
-    }
-}
 
 /// Skips what can be read from a state on. At an error it returns the trees after the longest prefix that can go on.
 pub(crate) fn walk_past<'a>(

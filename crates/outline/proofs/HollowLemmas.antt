@@ -1,8 +1,10 @@
 -- Reading hollow trees gives the hollow trees of what is read.
 use Rattle.std.proofs.Common.{◌≡◌, refl, sym, ◌∙◌, ap, ap₂, subst, ℕ, Bool, true, false, ◌&&◌, ◌||◌, List, [], ◌∷◌}
-use Rattle.std.proofs.Common.{◌++◌, Option, Some, None, cond, map, codes, option_map, is_some, if◌then◌else◌}
+use Rattle.std.proofs.Common.{◌++◌, Option, Some, None, map, codes, option_map, is_some, if◌then◌else◌, append_assoc}
+use Rattle.std.proofs.Common.{drop, length, arith}
 use Rattle.std.proofs.lemmas.Bool.{false_from_ne_true}
-use Rattle.std.proofs.lemmas.List.{append_cancel_right, map-append}
+use Rattle.std.proofs.lemmas.List.{length-append, length-map, map-append}
+use Rattle.std.proofs.Math.Seq.{drop-append_seam}
 use Rattle.std.proofs.lemmas.Slice.Eq.{bytes_eq-Decides}
 use Rattle.std.specs.Str.{bytes_eq, encode_utf8_all}
 use Rattle.lexical.specs.Token as tokens
@@ -21,17 +23,17 @@ use Rattle.token_buffer.specs.Outer.{kept_inside}
 use Rattle.declarations.proofs.ReadingLemmas.{trees-append}
 use Rattle.declarations.proofs.SignLemmas.{after_first_sign, trees_of-signs}
 use Rattle.declarations.specs.File.{body_of, braces, in_braces, last_braces}
-use Rattle.declarations.specs.Forms.{any_item}
-use Rattle.item_tables.specs.Grammar.{names, step}
-use Rattle.declarations.specs.Kind.{Tells}
-use Rattle.declarations.specs.Reading.{Reads, first_name, name_of, name_so_far}
+use Rattle.declarations.specs.Kind.{AreQualifiers, HasKind, ReadsUpTo, is_qualifier, keyword_rule, name_at, named_rule}
+use Rattle.declarations.specs.Reading.{Reads, first_name}
 use Rattle.declarations.specs.Signs.{Sign, classes_of, group_class, is_restriction, is_written, pair_class, restricts}
 use Rattle.declarations.specs.Signs.{parentheses_class, signs, signs_after, tree_class, trees_of}
-use Rattle.declarations.specs.Walk.{walk}
 use Rattle.declarations.specs.declared.any_item.ItemKind.{ItemKind}
 use Rattle.declarations.specs.declared.any_item.ItemKind.TheVariants as kinds
+use Rattle.declarations.specs.rules.Names.{G}
+use Rattle.declarations.specs.rules.Parts.{attributes, visibility}
+use Rattle.declarations.specs.rules.Pieces.{ByRule}
+use Rattle.item_tables.specs.Classes.{all_of}
 use Rattle.item_tables.specs.declared.class.SignClass.{SignClass}
-use Rattle.item_tables.specs.declared.walk_state.WalkState.{WalkState}
 use Rattle.outline.specs.Hollow.{hollow, hollow_group}
 use Rattle.outline.specs.Outline.{first_of, last_of}
 
@@ -144,22 +146,13 @@ hollow_first_name (Ident i ∷ trees) = refl
 hollow_first_name (Punct p ∷ trees) = refl
 hollow_first_name (Literal l ∷ trees) = refl
 
-hollow_name : (place : WalkState) (name : Option Name) (ss : List Sign)
-    → name_of place name (map hollow_sign ss) ≡ name_of place name ss
-hollow_name place name [] = refl
-hollow_name place name (sign ∷ ss) =
-    elim (step place sign.class) as (λ o. (elim o as (λ x. Option Name) [
-      | None ↦ name
-      | Some next ↦ name_of next (name_so_far place sign.class (map hollow sign.trees) name) (map hollow_sign ss)
-    ]) ≡ (elim o as (λ x. Option Name) [
-      | None ↦ name
-      | Some next ↦ name_of next (name_so_far place sign.class sign.trees name) ss
-    ])) [
-      | None ↦ refl
-      | Some next ↦ ap (λ n. name_of next (cond (names place sign.class) n name) (map hollow_sign ss))
-          (hollow_first_name sign.trees)
-          ∙ hollow_name next (name_so_far place sign.class sign.trees name) ss
-    ]
+hollow_name_at : (kind : ItemKind) (trees : List TokenTree) → name_at kind (map hollow trees) ≡ name_at kind trees
+hollow_name_at kinds.ExternBlock trees = refl
+hollow_name_at kinds.Group trees = refl
+hollow_name_at kinds.Impl trees = refl
+hollow_name_at kinds.Use trees = refl
+hollow_name_at kinds.Constant trees = hollow_first_name trees
+hollow_name_at _ trees = hollow_first_name trees
 
 -- ---- what is read
 
@@ -244,27 +237,100 @@ reads_hollow form trees part rest reads =
           (subst (form (classes_of reads.piece)) rest_classes reads.stands);
     }
 
--- the walk over hollow trees finds the same kind and name as the walk over the trees
-pub real_tells : (form : List SignClass → List SignClass → Type 0) (trees part rest : List TokenTree) (kind : ItemKind)
-    (name : Option Name) → Reads form trees part rest → Tells (map hollow trees) (map hollow rest) kind name
-    → Tells trees rest kind name
-unfolding reads_hollow
-real_tells form trees part rest kind name reads kind_and_name =
-    let walked = kind_and_name.walked in
-    let fronts : walked.front ≡ map hollow_sign reads.piece =
-    append_cancel_right walked.front (map hollow_sign reads.piece) (signs (map hollow rest))
-    (sym walked.read ∙ (reads_hollow form trees part rest reads).read) in
+-- ---- the kind and the name
+
+-- the trees end with the rest
+abbrev GoesTo : List TokenTree → List TokenTree → Type 0
+GoesTo trees rest = (before : List TokenTree) × (trees ≡ before ++ rest)
+
+ends_on : (trees mid rest : List TokenTree) → GoesTo trees mid → GoesTo mid rest → GoesTo trees rest
+ends_on trees mid rest (a, h) (b, j) = (a ++ b, h ∙ (ap (λ ts. a ++ ts) j ∙ sym (append_assoc a b rest)))
+
+-- trees end with others of the same length in one way
+same_end : (trees a b : List TokenTree) → GoesTo trees a → GoesTo trees b → length a ≡ length b → a ≡ b
+same_end trees a b (before, h) (before2, j) e =
+    let size = ap length h ∙ length-append before a in
+    let size2 = ap length j ∙ length-append before2 b in
+    let same : length before ≡ length before2 = omega arith in
+    sym (drop-append_seam before a)
+    ∙ (ap (λ ts. drop (length before) ts) (sym h ∙ j)
+    ∙ (ap (λ n. drop n (before2 ++ b)) same ∙ drop-append_seam before2 b))
+
+-- what is read up to hollow trees is made from what is read up to trees
+record RealUpTo (ReadsTo : List TokenTree → List TokenTree → Type 0) (trees rest : List TokenTree) : Type 0 where
+  after : List TokenTree
+  after_is : rest ≡ map hollow after
+  read : ReadsTo trees after
+  ends : GoesTo trees after
+
+real_up_to : (g : G) (trees from rest : List TokenTree) → from ≡ map hollow trees → ReadsUpTo g from rest
+    → RealUpTo (ReadsUpTo g) trees rest
+real_up_to g trees from rest is (part, reads) =
+    let r = real (ByRule g) trees part rest (subst (λ ts. Reads (ByRule g) ts part rest) is reads) in
     record {
-      last = kind_and_name.last;
-      walked = record {
-        front = reads.piece;
-        read = reads.read;
-        whole = reads.whole ∙ ap (λ ts. ts ++ rest) reads.taken;
-        walks = ap (walk step any_item) (sym (hollow_classes reads.piece) ∙ ap classes_of (sym fronts))
-            ∙ walked.walks;
-        takes = walked.takes ∙ ap (name_of any_item None) fronts ∙ hollow_name any_item None reads.piece;
+      after = r.after;
+      after_is = r.after_is;
+      read = (r.front, r.read);
+      ends = (r.front, r.read.whole);
+    }
+
+-- signs that are qualifiers
+abbrev Qualify : List SignClass → List SignClass → Type 0
+Qualify piece rest = all_of is_qualifier piece ≡ true
+
+real_qualifiers : (trees from rest : List TokenTree) → from ≡ map hollow trees → AreQualifiers from rest
+    → RealUpTo AreQualifiers trees rest
+real_qualifiers trees from rest is q =
+    let reads : Reads Qualify from (trees_of q.remains.front) rest = record {
+      piece = q.remains.front;
+      read = q.remains.read;
+      taken = refl;
+      whole = q.remains.whole;
+      stands = q.are;
+    } in
+    let r = real Qualify trees (trees_of q.remains.front) rest
+    (subst (λ ts. Reads Qualify ts (trees_of q.remains.front) rest) is reads) in
+    record {
+      after = r.after;
+      after_is = r.after_is;
+      read = record {
+        remains = record {
+          front = r.read.piece;
+          read = r.read.read;
+          whole = r.read.whole ∙ ap (λ ts. ts ++ r.after) r.read.taken;
+        };
+        are = r.read.stands;
       };
-      is = kind_and_name.is;
+      ends = (r.front, r.read.whole);
+    }
+
+-- an item of hollow trees has the kind and the name of the item that they are made from
+pub real_kind : (form : List SignClass → List SignClass → Type 0) (trees part rest : List TokenTree) (kind : ItemKind)
+    (name : Option Name) → Reads form trees part rest → HasKind (map hollow trees) (map hollow rest) kind name
+    → HasKind trees rest kind name
+real_kind form trees part rest kind name reads h =
+    let a = real_up_to attributes trees (map hollow trees) h.from_visibility refl h.attributes in
+    let v = real_up_to visibility a.after h.from_visibility h.from_qualifiers a.after_is h.visibility in
+    let q = real_qualifiers v.after h.from_qualifiers h.from_keyword v.after_is h.qualifiers in
+    let k = real_up_to (keyword_rule kind) q.after h.from_keyword h.from_name q.after_is h.keyword in
+    let i = real_up_to (named_rule kind) k.after h.from_name (map hollow rest) k.after_is h.item in
+    let ends = ends_on trees a.after i.after a.ends (ends_on a.after v.after i.after v.ends
+    (ends_on v.after q.after i.after q.ends (ends_on q.after k.after i.after k.ends i.ends))) in
+    let hollow_size : length (map hollow i.after) ≡ length (map hollow rest) = ap length (sym i.after_is) in
+    let size : length i.after ≡ length rest =
+    sym (length-map i.after hollow) ∙ (hollow_size ∙ length-map rest hollow) in
+    let same : i.after ≡ rest = same_end trees i.after rest ends (part, reads.whole) size in
+    record {
+      from_visibility = a.after;
+      from_qualifiers = v.after;
+      from_keyword = q.after;
+      from_name = k.after;
+      attributes = a.read;
+      visibility = v.read;
+      qualifiers = q.read;
+      keyword = k.read;
+      item = subst (ReadsUpTo (named_rule kind) k.after) same i.read;
+      is_name = h.is_name ∙ (ap (name_at kind) k.after_is ∙ hollow_name_at kind k.after);
     }
 
 -- ---- the braces that hold items

@@ -25,9 +25,9 @@ use Rattle.token_buffer.specs.declared.cursor.Cursor.{Cursor}
 use Rattle.token_buffer.specs.declared.cursor.TokenText.{TokenText}
 use Rattle.token_buffer.specs.declared.cursor.TokenText.TheVariants as texts
 use Rattle.declarations.proofs.ListLemmas.{reads_fewer}
-use Rattle.declarations.specs.File.{TellsOf, body_of}
+use Rattle.declarations.specs.File.{HasKindOf, body_of}
 use Rattle.declarations.specs.Forms.{AreAttributes, AreInnerAttributes, IsAnyItem, any_item}
-use Rattle.declarations.specs.Kind.{Tells}
+use Rattle.declarations.specs.Kind.{HasKind}
 use Rattle.declarations.specs.Reading.{Reads}
 use Rattle.declarations.specs.declared.any_item.AnyItem.{AnyItem}
 use Rattle.declarations.specs.declared.any_item.ItemKind.{ItemKind}
@@ -41,7 +41,7 @@ use Rattle.outline.specs.declared.entries.Entry.{Entry as Given}
 use Rattle.outline.specs.declared.level.Level.{Level}
 use Rattle.outline.specs.declared.levels.ReadItem.{ReadItem}
 use Rattle.outline.specs.declared.options.Form.{Form}
-use Rattle.outline.proofs.HollowLemmas.{body_is_last, has_body, hollow_first_of, hollow_last_of, real, real_tells}
+use Rattle.outline.proofs.HollowLemmas.{body_is_last, has_body, hollow_first_of, hollow_last_of, real, real_kind}
 use Rattle.outline.proofs.HollowLemmas.{reads_hollow}
 use Rattle.outline.proofs.OnlyLemmas.{Requires, closed_stops, item_stops, same_trees, trees_in-forest}
 use Rattle.outline.proofs.OutlineLemmas.{Completes, completes_all, completes_alone, completes_item, stack}
@@ -219,7 +219,7 @@ hollow_line form path text false depth kind name header = refl
 
 pub takes : (files : Files) (form : Form) (path : List ℕ) (depth : ℕ) (items rest all : List TokenTree) (it : AnyItem)
     (entry : Given) (step : ReadItem) → items ≡ map hollow all → Reads IsAnyItem items it.trees.now rest
-    → TellsOf items rest it
+    → HasKindOf items rest it
     → ((attributes : List TokenTree) × Reads AreAttributes it.trees.now attributes entry.header.now
     × (entry_of_value entry ≡ entry_of depth it.kind (option_copied it.name) entry.header.now))
     → ((text : List ℕ) → files ≡ with_file new_map text → option_to_list (option_map string_bytes step.line)
@@ -232,9 +232,9 @@ takes files form path depth items rest all it entry step are reads kind_and_name
     let found = real IsAnyItem all it.trees.now rest (subst (λ ts. Reads IsAnyItem ts it.trees.now rest) are reads) in
     let head = real AreAttributes found.front attributes entry.header.now
     (subst (λ ts. Reads AreAttributes ts attributes entry.header.now) found.front_is front) in
-    let tells : Tells (map hollow all) (map hollow found.after) it.kind name =
-    subst (λ ts. Tells (map hollow all) ts it.kind name) found.after_is
-    (subst (λ ts. Tells ts rest it.kind name) are (kind_and_name_copied items rest it kind_and_name)) in
+    let tells : HasKind (map hollow all) (map hollow found.after) it.kind name =
+    subst (λ ts. HasKind (map hollow all) ts it.kind name) found.after_is
+    (subst (λ ts. HasKind ts rest it.kind name) are (kind_and_name_copied items rest it kind_and_name)) in
     let size : step.count ≡ length found.front =
     counted ∙ ap length found.front_is ∙ length-map found.front hollow in
     let entry_is : entry_of_value entry ≡ entry_of depth it.kind name (map hollow head.after) =
@@ -250,7 +250,7 @@ takes files form path depth items rest all it entry step are reads kind_and_name
       attributes = head.front;
       header = head.after;
       read = found.read;
-      kind_and_name = real_tells IsAnyItem all found.front found.after it.kind name found.read tells;
+      kind_and_name = real_kind IsAnyItem all found.front found.after it.kind name found.read tells;
       front = head.read;
       counted = size;
       some = omega (arith, size, sizes, fewer);
@@ -268,22 +268,22 @@ stops_reading items all are never = inl (λ part rest reads.
     (reads_hollow IsAnyItem all part rest reads)))
 
 pub stops_entry : (items rest all : List TokenTree) (it : AnyItem) → items ≡ map hollow all
-    → Reads IsAnyItem items it.trees.now rest → TellsOf items rest it
+    → Reads IsAnyItem items it.trees.now rest → HasKindOf items rest it
     → ((attributes header : List TokenTree) → Reads AreAttributes it.trees.now attributes header → ⊥)
     → IsStopped all
 stops_entry items rest all it are reads kind_and_name never =
     let name = option_copied it.name in
     let found = real IsAnyItem all it.trees.now rest (subst (λ ts. Reads IsAnyItem ts it.trees.now rest) are reads) in
-    let tells : Tells (map hollow all) (map hollow found.after) it.kind name =
-    subst (λ ts. Tells (map hollow all) ts it.kind name) found.after_is
-    (subst (λ ts. Tells ts rest it.kind name) are (kind_and_name_copied items rest it kind_and_name)) in
+    let tells : HasKind (map hollow all) (map hollow found.after) it.kind name =
+    subst (λ ts. HasKind (map hollow all) ts it.kind name) found.after_is
+    (subst (λ ts. HasKind ts rest it.kind name) are (kind_and_name_copied items rest it kind_and_name)) in
     inr (record {
       part = found.front;
       rest = found.after;
       kind = it.kind;
       name = name;
       read = found.read;
-      kind_and_name = real_tells IsAnyItem all found.front found.after it.kind name found.read tells;
+      kind_and_name = real_kind IsAnyItem all found.front found.after it.kind name found.read tells;
       never = λ attributes header inside front holds.
           never (map hollow attributes) (map hollow header)
           (subst (λ ts. Reads AreAttributes ts (map hollow attributes) (map hollow header)) (sym found.front_is)
@@ -312,7 +312,7 @@ begins_taken files form path depth all items after step takes inside is =
       part = takes.part;
       attributes = takes.attributes;
       read = subst (Reads IsAnyItem all takes.part) same takes.read;
-      kind_and_name = subst (λ ts. Tells all ts takes.kind takes.name) same takes.kind_and_name;
+      kind_and_name = subst (λ ts. HasKind all ts takes.kind takes.name) same takes.kind_and_name;
       front = takes.front;
       inside = inside;
     }

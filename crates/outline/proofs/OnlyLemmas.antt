@@ -1,7 +1,6 @@
 -- Trees have no outline except the one that is found.
 use Rattle.std.proofs.Common.{◌≡◌, refl, sym, ◌∙◌, ap, ap₂, subst, List, [], ◌∷◌, ◌++◌, length, arith}
 use Rattle.std.proofs.Common.{Option, Some, None, Result, Ok, Err, IfErr, true, false, ◌==◌, ne_eqb}
-use Rattle.std.proofs.lemmas.List.{append_cancel_right}
 use Rattle.pm_token.specs.Leaf.{Name, is_joint}
 use Rattle.pm_token.specs.declared.marks.Spacing.{Spacing}
 use Rattle.pm_token.specs.declared.marks.Spacing.TheVariants.{Alone, Joint}
@@ -10,17 +9,14 @@ use Rattle.pm_stream.specs.Trees.{forest}
 use Rattle.pm_stream.specs.declared.stream.Group.{Group as Grouped}
 use Rattle.pm_stream.specs.declared.stream.TokenTree.{TokenTree}
 use Rattle.pm_stream.specs.declared.stream.TokenTree.TheVariants.{Group, Ident, Punct, Literal}
+use Rattle.declarations.proofs.KindLemmas.{one_kind}
 use Rattle.declarations.proofs.ListLemmas.{reads_fewer}
 use Rattle.declarations.proofs.ReadingLemmas.{split_only}
 use Rattle.declarations.specs.File.{body_of}
 use Rattle.declarations.specs.Forms.{AreAttributes, AreInnerAttributes, IsAnyItem, any_item, start}
-use Rattle.item_tables.specs.Grammar.{step}
-use Rattle.declarations.specs.Kind.{Tells, kind_of}
+use Rattle.declarations.specs.Kind.{HasKind}
 use Rattle.declarations.specs.Reading.{Reads}
-use Rattle.declarations.specs.Signs.{Sign, classes_of, signs}
-use Rattle.declarations.specs.Walk.{walk}
 use Rattle.declarations.specs.declared.any_item.ItemKind.{ItemKind}
-use Rattle.item_tables.specs.declared.walk_state.WalkState.{WalkState}
 use Rattle.item_tables.specs.declared.walk_state.Continuation.TheVariants as rules
 use Rattle.item_tables.specs.declared.walk_state.State.TheVariants as states
 use Rattle.item_tables.specs.declared.walk_state.Spot.TheVariants as spots
@@ -82,15 +78,8 @@ inside_never (Err fault) body g trees is held never = inside-never body g trees 
 -- ---- the kind and the name of an item
 
 pub kind_only : (trees rest : List TokenTree) (kind kind2 : ItemKind) (name name2 : Option Name)
-    → Tells trees rest kind name → Tells trees rest kind2 name2 → kind2 ≡ kind
-kind_only trees rest kind kind2 name name2 one other =
-    let fronts : other.walked.front ≡ one.walked.front =
-    append_cancel_right other.walked.front one.walked.front (signs rest)
-    (sym other.walked.read ∙ one.walked.read) in
-    let walks : Some other.last ≡ Some one.last =
-    sym other.walked.walks ∙ ap (λ (f : List Sign). walk step any_item (classes_of f)) fronts ∙ one.walked.walks in
-    let last : other.last ≡ one.last = cc in
-    other.is ∙ ap (λ (p : WalkState). kind_of p.item) last ∙ sym one.is
+    → HasKind trees rest kind name → HasKind trees rest kind2 name2 → kind2 ≡ kind
+kind_only trees rest kind kind2 name name2 one other = (one_kind trees rest kind kind2 name name2 one other).0
 
 -- ---- an outline of all trees gives outlines of the trees that are left
 
@@ -135,8 +124,8 @@ requires-item old new inside kind name header nothing found is =
 requires-item old new inside kind name header (item kind2 name2 header2 within after) found
     (items, rest, begins, is_within, is_after) =
     let only = split_only any_item old found.part new found.read begins.part rest begins.read in
-    let kind_and_name2 : Tells old new kind2 name2 =
-    subst (λ ts. Tells old ts kind2 name2) only.1 begins.kind_and_name in
+    let kind_and_name2 : HasKind old new kind2 name2 =
+    subst (λ ts. HasKind old ts kind2 name2) only.1 begins.kind_and_name in
     let kinds : kind2 ≡ kind = kind_only old new kind kind2 name name2 found.kind_and_name kind_and_name2 in
     let holds : AreInside (body_of kind found.part) items =
     subst (λ k. AreInside (body_of k found.part) items) kinds
@@ -199,7 +188,7 @@ item_stops of trees old levels less h split some never whole is =
 
 -- trees that begin with an item that has no outline have none
 first-closed : (old new part : List TokenTree) (outer : List (List TokenTree)) (kind : ItemKind) (name : Option Name)
-    → Reads IsAnyItem old part new → Tells old new kind name → NeverIs kind part
+    → Reads IsAnyItem old part new → HasKind old new kind name → NeverIs kind part
     → (os : List Outline) × AreOutlines (old ∷ outer) os → ⊥
 first-closed old new part outer kind name reads kind_and_name never ([], are) = are
 first-closed old new part outer kind name reads kind_and_name never (nothing ∷ os, are) =
@@ -207,8 +196,8 @@ first-closed old new part outer kind name reads kind_and_name never (nothing ∷
 first-closed old new part outer kind name reads kind_and_name never
     (item kind2 name2 header within after ∷ os, ((items, rest, begins, is, also), more)) =
     let only = split_only any_item old part new reads begins.part rest begins.read in
-    let kind_and_name2 : Tells old new kind2 name2 =
-    subst (λ ts. Tells old ts kind2 name2) only.1 begins.kind_and_name in
+    let kind_and_name2 : HasKind old new kind2 name2 =
+    subst (λ ts. HasKind old ts kind2 name2) only.1 begins.kind_and_name in
     let kinds : kind2 ≡ kind = kind_only old new kind kind2 name name2 kind_and_name kind_and_name2 in
     never begins.attributes header items
     (subst (λ ts. Reads AreAttributes ts begins.attributes header) only.0 begins.front)
@@ -218,7 +207,7 @@ first-closed old new part outer kind name reads kind_and_name never
 pub closed_stops : {T : Type 0} (of : T → List TokenTree) (trees : List TokenTree) (old : T) (levels less : List T)
     (part new : List TokenTree) (kind : ItemKind) (name : Option Name)
     → Requires trees (stack of levels) → levels ≡ less ++ old ∷ []
-    → Reads IsAnyItem (of old) part new → Tells (of old) new kind name → NeverIs kind part
+    → Reads IsAnyItem (of old) part new → HasKind (of old) new kind name → NeverIs kind part
     → (whole : Outline) → IsTreesOutline trees whole → ⊥
 closed_stops of trees old levels less part new kind name h split reads kind_and_name never whole is =
     first-closed (of old) new part (stack of less) kind name reads kind_and_name never

@@ -7,9 +7,9 @@ use Rattle.std.specs.Prelude.{option_copied}
 use Rattle.pm_token.specs.Leaf.{Name}
 use Rattle.pm_stream.specs.TreeSpan.{extent_of}
 use Rattle.pm_stream.specs.declared.stream.TokenTree.{TokenTree}
-use Rattle.declarations.specs.File.{TellsOf}
+use Rattle.declarations.specs.File.{HasKindOf}
 use Rattle.declarations.specs.Forms.{AreInnerAttributes, IsAnyItem}
-use Rattle.declarations.specs.Kind.{Tells}
+use Rattle.declarations.specs.Kind.{HasKind}
 use Rattle.declarations.specs.Reading.{Reads}
 use Rattle.declarations.specs.declared.any_item.AnyItem.{AnyItem}
 use Rattle.declarations.specs.declared.any_item.ItemKind.{ItemKind}
@@ -99,13 +99,13 @@ same_name : (name : Option Name) (given : Option (Bor Name))
 same_name name None is = is
 same_name name (Some ident) is = is
 
-pub kind_and_name_copied : (trees rest : List TokenTree) (it : AnyItem) → TellsOf trees rest it
-    → Tells trees rest it.kind (option_copied it.name)
+pub kind_and_name_copied : (trees rest : List TokenTree) (it : AnyItem) → HasKindOf trees rest it
+    → HasKind trees rest it.kind (option_copied it.name)
 kind_and_name_copied trees rest it kind_and_name =
-    subst (λ name. Tells trees rest it.kind name) (same_name kind_and_name.0 it.name kind_and_name.2) kind_and_name.1
+    subst (λ name. HasKind trees rest it.kind name) (same_name kind_and_name.0 it.name kind_and_name.2) kind_and_name.1
 
 pub begins_with : (trees rest : List TokenTree) (depth : ℕ) (it : AnyItem) (entry : Given) (inside : Items)
-    → Reads IsAnyItem trees it.trees.now rest → TellsOf trees rest it → Opens depth it entry inside
+    → Reads IsAnyItem trees it.trees.now rest → HasKindOf trees rest it → Opens depth it entry inside
     → BeginsWithItem trees it.kind (option_copied it.name) entry.header.now inside.left.now rest
 begins_with trees rest depth it entry inside reads kind_and_name opens = record {
   part = it.trees.now;

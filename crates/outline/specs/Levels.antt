@@ -10,7 +10,7 @@ use Rattle.token_buffer.specs.Reads.{left}
 use Rattle.token_buffer.specs.declared.cursor.Cursor.{Cursor}
 use Rattle.declarations.specs.File.{body_of}
 use Rattle.declarations.specs.Forms.{AreAttributes, IsAnyItem}
-use Rattle.declarations.specs.Kind.{Tells}
+use Rattle.declarations.specs.Kind.{HasKind}
 use Rattle.declarations.specs.Reading.{Reads}
 use Rattle.declarations.specs.declared.any_item.ItemKind.{ItemKind}
 use Rattle.outline.specs.Answer.{lines_of}
@@ -42,7 +42,7 @@ pub record Takes (files : Files) (form : Form) (path : List ℕ) (depth : ℕ) (
   pub attributes : List TokenTree
   pub header : List TokenTree
   pub read : Reads IsAnyItem trees part rest
-  pub kind_and_name : Tells trees rest kind name
+  pub kind_and_name : HasKind trees rest kind name
   pub front : Reads AreAttributes part attributes header
   pub counted : step.count ≡ length part
   pub some : 0 < step.count
@@ -57,7 +57,7 @@ pub record IsClosed (trees : List TokenTree) : Type 0 where
   pub kind : ItemKind
   pub name : Option Name
   pub read : Reads IsAnyItem trees part rest
-  pub kind_and_name : Tells trees rest kind name
+  pub kind_and_name : HasKind trees rest kind name
   pub never : NeverIs kind part
 
 -- the trees begin with no item, or with one that has no outline

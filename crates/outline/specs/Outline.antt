@@ -10,7 +10,7 @@ use Rattle.pm_stream.specs.declared.stream.Group.{Group as Grouped}
 use Rattle.pm_stream.specs.declared.stream.TokenTree.{TokenTree}
 use Rattle.declarations.specs.File.{body_of}
 use Rattle.declarations.specs.Forms.{AreAttributes, AreInnerAttributes, IsAnyItem}
-use Rattle.declarations.specs.Kind.{Tells}
+use Rattle.declarations.specs.Kind.{HasKind}
 use Rattle.declarations.specs.Reading.{Reads}
 use Rattle.declarations.specs.declared.any_item.AnyItem.{AnyItem}
 use Rattle.declarations.specs.declared.any_item.ItemKind.{ItemKind}
@@ -44,7 +44,7 @@ pub record BeginsWithItem (trees : List TokenTree) (kind : ItemKind) (name : Opt
   pub part : List TokenTree
   pub attributes : List TokenTree
   pub read : Reads IsAnyItem trees part rest
-  pub kind_and_name : Tells trees rest kind name
+  pub kind_and_name : HasKind trees rest kind name
   pub front : Reads AreAttributes part attributes header
   pub inside : AreInside (body_of kind part) items
 

@@ -7,7 +7,7 @@ use Rattle.proc_macro2.specs.Leaf.{Name}
 use Rattle.proc_macro2.specs.declared.Group.{Group as Grouped}
 use Rattle.proc_macro2.specs.declared.TokenTree.{TokenTree}
 use Rattle.declarations.specs.Forms.{IsAnyItem}
-use Rattle.declarations.specs.Kind.{Tells}
+use Rattle.declarations.specs.Kind.{HasKind}
 use Rattle.declarations.specs.Reading.{Reads}
 use Rattle.declarations.specs.declared.any_item.ItemKind.{ItemKind}
 use Rattle.declarations.specs.declared.any_item.ItemKind.TheVariants as kinds
@@ -27,7 +27,7 @@ Goes templates items old left now =
 
 pub goes_on : (templates : Templates) (items left part rest : List TokenTree) (kind : ItemKind) (name : Option Name)
     (written : List Forest) (old now next : Option (List ℕ)) → Goes templates items old left now
-    → Reads IsAnyItem left part rest → Tells left rest kind name → IsItemCode templates kind part written
+    → Reads IsAnyItem left part rest → HasKind left rest kind name → IsItemCode templates kind part written
     → Appends now next (flat_map line_of written) → Goes templates items old rest next
 goes_on templates items left part rest kind name written old now next goes reads tells code puts = λ new more.
     goes new (

@@ -13,7 +13,7 @@ use Rattle.proc_macro2.specs.declared.TokenTree.{TokenTree}
 use Rattle.proc_macro2.specs.Leaf.{Name}
 use Rattle.declarations.specs.Forms.{AreInnerAttributes, IsAnyItem}
 use Rattle.declarations.specs.Item.{IsTypeItem}
-use Rattle.declarations.specs.Kind.{Tells}
+use Rattle.declarations.specs.Kind.{HasKind}
 use Rattle.declarations.specs.List.{AreInside}
 use Rattle.declarations.specs.Reading.{Reads}
 use Rattle.declarations.specs.declared.any_item.ItemKind.{ItemKind}
@@ -69,7 +69,7 @@ pub record IsFirstItem (templates : Templates) (trees : List TokenTree) (written
   pub reads : Reads IsAnyItem trees part rest
   pub kind : ItemKind
   pub name : Option Name
-  pub tells : Tells trees rest kind name
+  pub tells : HasKind trees rest kind name
   pub code : IsItemCode templates kind part written
 
 -- the trees are items, each of which has its code

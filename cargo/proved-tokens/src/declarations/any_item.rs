@@ -1,9 +1,11 @@
 // Made from crates/declarations/src/any_item.rt by dev/erase: change that file, not this one.
 //! The item at the start of trees, with its kind and name.
 
+use crate::declarations::explore::fault_by;
 use crate::declarations::fault::Fault;
-use crate::declarations::walk::split_from;
-use crate::item_tables::walk_state::{Continuation, Item, Part, Spot, State, WalkState};
+use crate::declarations::item_kinds::past_any_item;
+use crate::declarations::reader::part;
+use crate::declarations::syntax::ANY_ITEM;
 use crate::pm_stream::TokenTree;
 use crate::pm_token::Ident;
 
@@ -73,7 +75,7 @@ pub struct AnyItem<'a> {
 /// - `ensures only`: <code>[IfOk] result (λ found. [IsOnly] [IsAnyItem] trees.now found.0.trees.now
 ///   found.1.now)</code>
 /// - `ensures fewer`: <code>[IfOk] result (λ found. [length] found.1.now &lt; [length] trees.now)</code>
-/// - `ensures kind_and_name`: <code>[IfOk] result (λ found. (name : [Option] [Name]) × [Tells] trees.now
+/// - `ensures kind_and_name`: <code>[IfOk] result (λ found. (name : [Option] [Name]) × [HasKind] trees.now
 ///   found.1.now found.0.kind name × [MatchOption] found.0.name (name ≡ [None]) (λ ident. name ≡ [Some]
 ///   ident.now))</code>
 /// - `ensures fault`: <code>[IfErr] result (λ fault. [FaultAt] [IsAnyItem] trees.now fault.at)</code>
@@ -88,7 +90,7 @@ pub struct AnyItem<'a> {
 /// [length]: crate::contracts#std.length
 /// [Option]: crate::contracts#std.Option
 /// [Name]: crate::contracts#pm_token.Leaf.Name
-/// [Tells]: crate::contracts#declarations.Kind.Tells
+/// [HasKind]: crate::contracts#declarations.Kind.HasKind
 /// [MatchOption]: crate::contracts#std.MatchOption
 /// [None]: crate::contracts#std.None
 /// [Some]: crate::contracts#std.Some
@@ -97,21 +99,32 @@ pub struct AnyItem<'a> {
 /// [extent_at]: crate::contracts#declarations.Fault.extent_at
 /// [Expects]: crate::contracts#declarations.Expected.Expects
 pub fn split_any_item<'a>(trees: &'a [TokenTree]) -> Result<(AnyItem<'a>, &'a [TokenTree]), Fault>
-    // The kind and the name are those that the walk over the item's signs finds.
+    // The item has the keyword of its kind, and reads from its name on by the rule of its kind.
 {
-    let start = WalkState {
-        item: Item::Alone,
-        rule: Continuation::Alone,
-        state: State::At(Spot::Before(Part::AnyItem)),
-        depth: 0,
-    };
-    let split = split_from(trees, start)?;
-    let item = AnyItem {
-        kind: kind_of(split.last),
-        name: first_name(split.named),
-        trees: split.part,
-    };
-    Ok((item, split.rest))
+    match past_any_item(trees) {
+        Ok(found) => {
+            let name = name_of(found.kind, found.named);
+            let item = part(trees, found.rest);
+            Ok((
+                AnyItem {
+                    kind: found.kind,
+                    name,
+                    trees: item,
+                },
+                found.rest,
+            ))
+        }
+        Err(left) => Err(fault_by(&ANY_ITEM, trees, left)),
+    }
+}
+
+/// The name of an item of this kind, where these are the trees from its name on.
+pub(crate) fn name_of<'a>(kind: ItemKind, trees: &'a [TokenTree]) -> Option<&'a Ident>
+{
+    match kind {
+        ItemKind::ExternBlock | ItemKind::Group | ItemKind::Impl | ItemKind::Use => None,
+        _ => first_name(trees),
+    }
 }
 
 /// The identifier that is the first tree, if it is one.
@@ -120,28 +133,5 @@ fn first_name<'a>(trees: &'a [TokenTree]) -> Option<&'a Ident>
     match trees.first()? {
         TokenTree::Ident(ident) => Some(ident),
         TokenTree::Group(_) | TokenTree::Punct(_) | TokenTree::Literal(_) => None,
-    }
-}
-
-fn kind_of(item: Item) -> ItemKind
-{
-    match item {
-        Item::Struct | Item::Tuple => ItemKind::Struct,
-        Item::Enum => ItemKind::Enum,
-        Item::Union => ItemKind::Union,
-        Item::Function | Item::Returning => ItemKind::Function,
-        Item::Constant => ItemKind::Constant,
-        Item::Static => ItemKind::Static,
-        Item::Alias | Item::Aliased => ItemKind::TypeAlias,
-        Item::Trait => ItemKind::Trait,
-        Item::TraitAlias => ItemKind::TraitAlias,
-        Item::Impl => ItemKind::Impl,
-        Item::Module => ItemKind::Module,
-        Item::Use => ItemKind::Use,
-        Item::ExternCrate => ItemKind::ExternCrate,
-        Item::ExternBlock => ItemKind::ExternBlock,
-        Item::Macro => ItemKind::Macro,
-        Item::Call => ItemKind::MacroCall,
-        Item::Group | Item::Alone | Item::Variants => ItemKind::Group,
     }
 }

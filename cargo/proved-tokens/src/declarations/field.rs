@@ -87,7 +87,7 @@ pub fn parse_tuple_field(trees: &[TokenTree]) -> Result<(Field<'_>, &[TokenTree]
 }
 
 /// Reads a named field. Returns it and the trees after it, or the trees from the error on.
-fn field_of(trees: &[TokenTree]) -> Result<(Field<'_>, &[TokenTree]), &[TokenTree]>
+pub(crate) fn field_of(trees: &[TokenTree]) -> Result<(Field<'_>, &[TokenTree]), &[TokenTree]>
 {
     match front_of(trees) {
         Ok((front, from_name)) => match named_type_of(from_name) {
@@ -139,7 +139,7 @@ fn colon_type_of(trees: &[TokenTree]) -> Result<(&[TokenTree], &[TokenTree]), &[
 /// Reads a field without a name. Returns it and the trees after it, or the trees from the error on.
 ///
 /// Parentheses after `pub` that can be a restriction are one, as the rule `tuple-field` says.
-fn tuple_field_of(trees: &[TokenTree]) -> Result<(Field<'_>, &[TokenTree]), &[TokenTree]>
+pub(crate) fn tuple_field_of(trees: &[TokenTree]) -> Result<(Field<'_>, &[TokenTree]), &[TokenTree]>
 {
     match front_of(trees) {
         Ok((front, from_type)) => match past_type(from_type) {

@@ -1,11 +1,12 @@
 // Made from crates/declarations/src/file.rt by dev/erase: change that file, not this one.
 //! Files, and the bodies of modules, traits, `impl`s and `extern` blocks: inner attributes, and then items.
 
-use crate::declarations::any_item::{AnyItem, ItemKind, split_any_item};
+use crate::declarations::any_item::{AnyItem, ItemKind, name_of, split_any_item};
+use crate::declarations::explore::fault_by;
 use crate::declarations::fault::Fault;
+use crate::declarations::item_kinds::past_any_item;
 use crate::declarations::part_splitting::split_inner_attributes;
-use crate::declarations::walk::read_whole;
-use crate::item_tables::walk_state::{Continuation, Item, Part, Spot, State, WalkState};
+use crate::declarations::syntax::ANY_ITEM;
 use crate::pm_stream::{Group, TokenTree};
 use crate::pm_token::Delimiter;
 
@@ -80,7 +81,7 @@ pub fn parse_file(trees: &[TokenTree]) -> Result<File<'_>, Fault>
 ///
 /// - `ensures ok`: <code>[IfOk] result (λ item. [ReadsAll] [IsAnyItem] trees.now × (item.trees.now ≡
 ///   trees.now))</code>
-/// - `ensures kind_and_name`: <code>[IfOk] result (λ item. (name : [Option] [Name]) × [Tells] trees.now \[\]
+/// - `ensures kind_and_name`: <code>[IfOk] result (λ item. (name : [Option] [Name]) × [HasKind] trees.now \[\]
 ///   item.kind name × [MatchOption] item.name (name ≡ [None]) (λ ident. name ≡ [Some] ident.now))</code>
 /// - `ensures fault`: <code>[IfErr] result (λ fault. [FaultAt] ([IsWhole] [IsAnyItem]) trees.now
 ///   fault.at)</code>
@@ -93,7 +94,7 @@ pub fn parse_file(trees: &[TokenTree]) -> Result<File<'_>, Fault>
 /// [IsAnyItem]: crate::contracts#declarations.Forms.IsAnyItem
 /// [Option]: crate::contracts#std.Option
 /// [Name]: crate::contracts#pm_token.Leaf.Name
-/// [Tells]: crate::contracts#declarations.Kind.Tells
+/// [HasKind]: crate::contracts#declarations.Kind.HasKind
 /// [MatchOption]: crate::contracts#std.MatchOption
 /// [None]: crate::contracts#std.None
 /// [Some]: crate::contracts#std.Some
@@ -103,17 +104,23 @@ pub fn parse_file(trees: &[TokenTree]) -> Result<File<'_>, Fault>
 /// [extent_at]: crate::contracts#declarations.Fault.extent_at
 /// [Expects]: crate::contracts#declarations.Expected.Expects
 pub fn parse_item(trees: &[TokenTree]) -> Result<AnyItem<'_>, Fault>
-    // The kind and the name are those that the walk over the item's signs finds.
+    // The item has the keyword of its kind, and reads from its name on by the rule of its kind.
 {
-    let start = WalkState {
-        item: Item::Alone,
-        rule: Continuation::Alone,
-        state: State::At(Spot::Before(Part::AnyItem)),
-        depth: 0,
-    };
-    read_whole(trees, start)?;
-    let (item, _) = split_any_item(trees)?;
-    Ok(item)
+    match past_any_item(trees) {
+        Ok(found) => {
+            if found.rest.is_empty() {
+                let name = name_of(found.kind, found.named);
+                Ok(AnyItem {
+                    kind: found.kind,
+                    name,
+                    trees,
+                })
+            } else {
+                Err(fault_by(&ANY_ITEM, trees, found.rest))
+            }
+        }
+        Err(left) => Err(fault_by(&ANY_ITEM, trees, left)),
+    }
 }
 
 impl<'a> Iterator for Items<'a> {

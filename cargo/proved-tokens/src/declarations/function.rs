@@ -6,12 +6,12 @@ use crate::declarations::fault::Fault;
 use crate::declarations::front::past_visibility;
 use crate::declarations::item::{split_group, split_name, split_parentheses};
 use crate::declarations::parameter::{past_attributes, past_type};
+use crate::declarations::part_list::{Element, past_list};
 use crate::declarations::reader::{begins_identifier, begins_mark, is, part, past};
 use crate::declarations::signs::{first_sign, group_class, name_class};
 use crate::declarations::syntax::FUNCTION;
-use crate::declarations::walk::walk_past;
+use crate::declarations::type_path::opens;
 use crate::item_tables::class::{Keyword, SignClass, Word};
-use crate::item_tables::walk_state::{Continuation, Item, Spot, State, WalkState};
 use crate::pm_stream::{Group, TokenTree};
 use crate::pm_token::Ident;
 
@@ -111,48 +111,62 @@ fn function_of(trees: &[TokenTree]) -> Result<(Function<'_>, &[TokenTree]), &[To
     Ok((function, rest))
 }
 
-// ---- parts that are read by the tables
+// ---- generic parameters and where clauses
 
 /// Skips generic parameters, if they are next.
 pub(crate) fn past_generics(trees: &[TokenTree]) -> Result<&[TokenTree], &[TokenTree]>
 {
     if begins_mark(trees) {
-        walk_generics(trees)
+        past_brackets(trees)
     } else {
         Ok(trees)
     }
 }
 
-fn walk_generics(trees: &[TokenTree]) -> Result<&[TokenTree], &[TokenTree]>
+/// Skips generic parameters in angle brackets, if they are next.
+fn past_brackets(trees: &[TokenTree]) -> Result<&[TokenTree], &[TokenTree]>
 {
-    let start = WalkState {
-        item: Item::Alone,
-        rule: Continuation::Alone,
-        state: State::At(Spot::Generics),
-        depth: 0,
-    };
-    walk_past(trees, start)
+    match first_sign(trees) {
+        Some((class, rest)) => {
+            if opens(class) {
+                past_parameters(rest)
+            } else {
+                Ok(trees)
+            }
+        }
+        None => Ok(trees),
+    }
+}
+
+/// Skips generic parameters and the `>` after them.
+fn past_parameters(trees: &[TokenTree]) -> Result<&[TokenTree], &[TokenTree]>
+{
+    past(past_list(Element::Parameter, trees)?, SignClass::Greater)
 }
 
 /// Skips a where clause, if one is next.
 pub(crate) fn past_where(trees: &[TokenTree]) -> Result<&[TokenTree], &[TokenTree]>
 {
     if begins_identifier(trees) {
-        walk_where(trees)
+        past_clause(trees)
     } else {
         Ok(trees)
     }
 }
 
-fn walk_where(trees: &[TokenTree]) -> Result<&[TokenTree], &[TokenTree]>
+/// Skips a where clause, if one is next.
+fn past_clause(trees: &[TokenTree]) -> Result<&[TokenTree], &[TokenTree]>
 {
-    let start = WalkState {
-        item: Item::Alone,
-        rule: Continuation::Alone,
-        state: State::At(Spot::Where),
-        depth: 0,
-    };
-    walk_past(trees, start)
+    match first_sign(trees) {
+        Some((class, rest)) => {
+            if is(SignClass::Keyword(Keyword::Where), class) {
+                past_list(Element::Predicate, rest)
+            } else {
+                Ok(trees)
+            }
+        }
+        None => Ok(trees),
+    }
 }
 
 // ---- qualifiers
@@ -267,6 +281,15 @@ fn end_of(trees: &[TokenTree]) -> Result<(End<'_>, &[TokenTree]), &[TokenTree]>
         body,
     };
     Ok((end, rest))
+}
+
+/// Skips the parts after the parameters.
+pub(crate) fn past_returning(trees: &[TokenTree]) -> Result<&[TokenTree], &[TokenTree]>
+{
+    match end_of(trees) {
+        Ok((_, rest)) => Ok(rest),
+        Err(left) => Err(left),
+    }
 }
 
 /// Reads `->` and a type, if `->` is next. Returns the type, or no trees, and the trees after it.

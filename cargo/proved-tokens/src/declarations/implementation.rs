@@ -6,6 +6,7 @@ use crate::declarations::fault::Fault;
 use crate::declarations::front::past_visibility;
 use crate::declarations::function::{is_name, may, past_generics, past_where};
 use crate::declarations::item::split_braces;
+use crate::declarations::item_rest::past_where_and_body;
 use crate::declarations::parameter::{past_attributes, past_type};
 use crate::declarations::reader::{is, part};
 use crate::declarations::signs::first_sign;
@@ -210,6 +211,15 @@ fn header_of(trees: &[TokenTree]) -> Result<(Header<'_>, &[TokenTree]), &[TokenT
                 Err(left) => Err(left),
             }
         }
+        Err(left) => Err(left),
+    }
+}
+
+/// Skips what an `impl` has after the keyword.
+pub(crate) fn past_impl_rest(trees: &[TokenTree]) -> Result<&[TokenTree], &[TokenTree]>
+{
+    match header_of(trees) {
+        Ok((_, from_clause)) => past_where_and_body(from_clause),
         Err(left) => Err(left),
     }
 }

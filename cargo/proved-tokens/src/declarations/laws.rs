@@ -68,3 +68,18 @@
 /// [IsAnyItem]: crate::contracts#declarations.Forms.IsAnyItem
 pub fn tables_are_the_grammar()
 {}
+
+/// An item has one kind and one name.
+///
+/// They are those that [`split_any_item`](crate::declarations::split_any_item) gives, by `HasKind` of its contract.
+/// After the attributes, the visibility and the qualifiers of an item comes the keyword of its kind. From its name on
+/// it reads by the rule of its kind. This holds for one kind and one name only. In `const unsafe fn f() {}` the `const`
+/// is a qualifier, because a constant would go on with a name and `:`.
+///
+/// # Contract
+///
+/// - `ensures`: <code>[OneKind]</code>
+///
+/// [OneKind]: crate::contracts#declarations.Kind.OneKind
+pub fn items_have_one_kind()
+{}

@@ -1,45 +1,24 @@
 // Made from crates/declarations/src/part_splitting.rt by dev/erase: change that file, not this one.
 //! Calls that split a part of a declaration off the start of trees.
 
+use crate::declarations::entry::past_expression;
 use crate::declarations::explore::fault_by;
 use crate::declarations::fault::Fault;
 use crate::declarations::field::{parse_field, parse_tuple_field};
 use crate::declarations::front::past_visibility;
 use crate::declarations::function::{past_generics, past_where};
+use crate::declarations::generic_argument::past_bounds;
+use crate::declarations::inner::past_inner_attributes;
 use crate::declarations::item::item_of;
-use crate::declarations::parameter::past_attributes;
+use crate::declarations::parameter::{past_attributes, past_type};
+use crate::declarations::part_list::{Element, past_list};
 use crate::declarations::reader::part;
-use crate::declarations::syntax::TYPE_ITEM;
+use crate::declarations::syntax::{
+    ATTRIBUTES, BOUNDS, EXPRESSION, FIELDS, GENERICS, INNER_ATTRIBUTES, TUPLE_FIELDS, TYPE,
+    TYPE_ITEM, VARIANTS, WHERE,
+};
 use crate::declarations::variant::parse_variant;
-use crate::declarations::walk::split_from;
-use crate::item_tables::types::TypeState;
-use crate::item_tables::walk_state::{Continuation, Item, Part, Spot, State, WalkState};
 use crate::pm_stream::TokenTree;
-
-/// Reads a part that is in no item, from a state on.
-fn split_alone<'a>(
-    trees: &'a [TokenTree],
-    rule: Continuation,
-    state: State,
-) -> Result<(&'a [TokenTree], &'a [TokenTree]), Fault>
-{
-    let start = WalkState {
-        item: Item::Alone,
-        rule,
-        state,
-        depth: 0,
-    };
-    split_pair(trees, start)
-}
-
-fn split_pair<'a>(
-    trees: &'a [TokenTree],
-    start: WalkState,
-) -> Result<(&'a [TokenTree], &'a [TokenTree]), Fault>
-{
-    let split = split_from(trees, start)?;
-    Ok((split.part, split.rest))
-}
 
 /// Returns the type at the start of the trees, and the trees after it.
 ///
@@ -65,7 +44,10 @@ fn split_pair<'a>(
 /// [Expects]: crate::contracts#declarations.Expected.Expects
 pub fn split_type(trees: &[TokenTree]) -> Result<(&[TokenTree], &[TokenTree]), Fault>
 {
-    split_alone(trees, Continuation::Alone, State::Range(TypeState::Wanted))
+    match past_type(trees) {
+        Ok(rest) => Ok((part(trees, rest), rest)),
+        Err(left) => Err(fault_by(&TYPE, trees, left)),
+    }
 }
 
 /// Returns the bounds at the start of the trees, perhaps none, and the trees after them.
@@ -92,7 +74,10 @@ pub fn split_type(trees: &[TokenTree]) -> Result<(&[TokenTree], &[TokenTree]), F
 /// [Expects]: crate::contracts#declarations.Expected.Expects
 pub fn split_bounds(trees: &[TokenTree]) -> Result<(&[TokenTree], &[TokenTree]), Fault>
 {
-    split_alone(trees, Continuation::Alone, State::Range(TypeState::Bound))
+    match past_bounds(trees) {
+        Ok(rest) => Ok((part(trees, rest), rest)),
+        Err(left) => Err(fault_by(&BOUNDS, trees, left)),
+    }
 }
 
 /// Returns the outer attributes at the start of the trees, perhaps none, and the trees after them.
@@ -122,11 +107,7 @@ pub fn split_attributes(trees: &[TokenTree]) -> Result<(&[TokenTree], &[TokenTre
 {
     match past_attributes(trees) {
         Ok(rest) => Ok((part(trees, rest), rest)),
-        Err(_) => split_alone(
-            trees,
-            Continuation::Alone,
-            State::At(Spot::Before(Part::Attributes)),
-        ),
+        Err(left) => Err(fault_by(&ATTRIBUTES, trees, left)),
     }
 }
 
@@ -245,11 +226,10 @@ pub fn split_tuple_field(trees: &[TokenTree]) -> Result<(&[TokenTree], &[TokenTr
 /// [Expects]: crate::contracts#declarations.Expected.Expects
 pub fn split_fields(trees: &[TokenTree]) -> Result<(&[TokenTree], &[TokenTree]), Fault>
 {
-    split_alone(
-        trees,
-        Continuation::Fields,
-        State::At(Spot::Before(Part::Field)),
-    )
+    match past_list(Element::Field, trees) {
+        Ok(rest) => Ok((part(trees, rest), rest)),
+        Err(left) => Err(fault_by(&FIELDS, trees, left)),
+    }
 }
 
 /// Returns the fields without names at the start of the trees, perhaps none, and the trees after them.
@@ -277,11 +257,10 @@ pub fn split_fields(trees: &[TokenTree]) -> Result<(&[TokenTree], &[TokenTree]),
 /// [Expects]: crate::contracts#declarations.Expected.Expects
 pub fn split_tuple_fields(trees: &[TokenTree]) -> Result<(&[TokenTree], &[TokenTree]), Fault>
 {
-    split_alone(
-        trees,
-        Continuation::TupleFields,
-        State::At(Spot::Before(Part::TupleField)),
-    )
+    match past_list(Element::TupleField, trees) {
+        Ok(rest) => Ok((part(trees, rest), rest)),
+        Err(left) => Err(fault_by(&TUPLE_FIELDS, trees, left)),
+    }
 }
 
 /// Returns the variant at the start of the trees, and the trees after it.
@@ -341,13 +320,10 @@ pub fn split_variant(trees: &[TokenTree]) -> Result<(&[TokenTree], &[TokenTree])
 /// [Expects]: crate::contracts#declarations.Expected.Expects
 pub fn split_variants(trees: &[TokenTree]) -> Result<(&[TokenTree], &[TokenTree]), Fault>
 {
-    let start = WalkState {
-        item: Item::Variants,
-        rule: Continuation::Alone,
-        state: State::At(Spot::Before(Part::Variant)),
-        depth: 0,
-    };
-    split_pair(trees, start)
+    match past_list(Element::Variant, trees) {
+        Ok(rest) => Ok((part(trees, rest), rest)),
+        Err(left) => Err(fault_by(&VARIANTS, trees, left)),
+    }
 }
 
 /// Returns the expression at the start of the trees, and the trees after it.
@@ -377,7 +353,10 @@ pub fn split_variants(trees: &[TokenTree]) -> Result<(&[TokenTree], &[TokenTree]
 /// [Expects]: crate::contracts#declarations.Expected.Expects
 pub fn split_expression(trees: &[TokenTree]) -> Result<(&[TokenTree], &[TokenTree]), Fault>
 {
-    split_alone(trees, Continuation::Alone, State::At(Spot::Expression))
+    match past_expression(trees) {
+        Ok(rest) => Ok((part(trees, rest), rest)),
+        Err(left) => Err(fault_by(&EXPRESSION, trees, left)),
+    }
 }
 
 /// Returns the generic parameters at the start of the trees with their angle brackets, and the trees after them.
@@ -408,7 +387,7 @@ pub fn split_generics(trees: &[TokenTree]) -> Result<(&[TokenTree], &[TokenTree]
 {
     match past_generics(trees) {
         Ok(rest) => Ok((part(trees, rest), rest)),
-        Err(_) => split_alone(trees, Continuation::Alone, State::At(Spot::Generics)),
+        Err(left) => Err(fault_by(&GENERICS, trees, left)),
     }
 }
 
@@ -437,7 +416,7 @@ pub fn split_where(trees: &[TokenTree]) -> Result<(&[TokenTree], &[TokenTree]), 
 {
     match past_where(trees) {
         Ok(rest) => Ok((part(trees, rest), rest)),
-        Err(_) => split_alone(trees, Continuation::Alone, State::At(Spot::Where)),
+        Err(left) => Err(fault_by(&WHERE, trees, left)),
     }
 }
 
@@ -496,5 +475,8 @@ pub fn split_item(trees: &[TokenTree]) -> Result<(&[TokenTree], &[TokenTree]), F
 /// [Expects]: crate::contracts#declarations.Expected.Expects
 pub fn split_inner_attributes(trees: &[TokenTree]) -> Result<(&[TokenTree], &[TokenTree]), Fault>
 {
-    split_alone(trees, Continuation::Alone, State::At(Spot::Inner))
+    match past_inner_attributes(trees) {
+        Ok(rest) => Ok((part(trees, rest), rest)),
+        Err(left) => Err(fault_by(&INNER_ATTRIBUTES, trees, left)),
+    }
 }

@@ -5,11 +5,11 @@ use crate::declarations::bare::bare_trees;
 use crate::declarations::explore_path::fault_in_path;
 use crate::declarations::fault::Fault;
 use crate::declarations::function::return_of;
-use crate::declarations::generic_argument::argument_of;
 use crate::declarations::item::{split_name, split_parentheses};
+use crate::declarations::part_list::{Element, past_list};
 use crate::declarations::reader::{begins, is, part};
 use crate::declarations::signs::{first_sign, name_class};
-use crate::item_tables::class::{Keyword, SignClass};
+use crate::item_tables::class::SignClass;
 use crate::pm_stream::{Group, TokenTree};
 use crate::pm_token::Ident;
 
@@ -139,83 +139,6 @@ pub(crate) fn is_round(class: SignClass) -> bool
     }
 }
 
-/// Whether a generic argument can begin with the sign.
-fn begins_argument(class: SignClass) -> bool
-{
-    match class {
-        SignClass::Word(_) | SignClass::Lifetime => true,
-        SignClass::Minus
-        | SignClass::Literal
-        | SignClass::Braces
-        | SignClass::Block
-        | SignClass::Truth => true,
-        SignClass::SelfValue
-        | SignClass::SelfType
-        | SignClass::Super
-        | SignClass::Crate
-        | SignClass::Underscore => true,
-        SignClass::Restriction
-        | SignClass::Parentheses
-        | SignClass::Brackets
-        | SignClass::Invisible => true,
-        SignClass::Exclamation | SignClass::PathSeparator | SignClass::And | SignClass::Question =>
-            true,
-        SignClass::Star | SignClass::Tilde | SignClass::Less | SignClass::LessJoint => true,
-        SignClass::Keyword(Keyword::Async | Keyword::Dyn | Keyword::Fn | Keyword::Impl) => true,
-        SignClass::Keyword(Keyword::Mut | Keyword::Unsafe | Keyword::Use) => true,
-        SignClass::Keyword(Keyword::Extern | Keyword::For) => true,
-        _ => false,
-    }
-}
-
-/// Whether a generic argument is next.
-fn has_argument(trees: &[TokenTree]) -> bool
-{
-    match first_sign(trees) {
-        Some((class, _)) => begins_argument(class),
-        None => false,
-    }
-}
-
-/// Skips the next argument and its comma. Returns whether there was a comma, and the trees after it.
-fn element(trees: &[TokenTree]) -> Result<(bool, &[TokenTree]), &[TokenTree]>
-{
-    if has_argument(trees) {
-        match argument_of(trees) {
-            Ok((_, from_comma)) => match first_sign(from_comma) {
-                Some((class, rest)) => {
-                    if is(SignClass::Comma, class) {
-                        Ok((true, rest))
-                    } else {
-                        Ok((false, from_comma))
-                    }
-                }
-                None => Ok((false, from_comma)),
-            },
-            Err(left) => Err(left),
-        }
-    } else {
-        Ok((false, trees))
-    }
-}
-
-/// Skips generic arguments.
-fn past_arguments(trees: &[TokenTree]) -> Result<&[TokenTree], &[TokenTree]>
-{
-    let mut left = trees;
-    loop {
-        match element(left) {
-            Ok((more, rest)) => {
-                if !more {
-                    return Ok(rest);
-                }
-                left = rest;
-            }
-            Err(fault) => return Err(fault),
-        }
-    }
-}
-
 // ---- segments
 
 /// Whether the sign can be the name of a segment.
@@ -268,7 +191,7 @@ fn next_segment(trees: &[TokenTree]) -> Result<Option<Segment<'_>>, &[TokenTree]
 /// Reads the arguments after a `<`. Returns them as a step, which may lead to a next segment.
 fn angle_of(trees: &[TokenTree]) -> Result<Transition<'_>, &[TokenTree]>
 {
-    match past_arguments(trees) {
+    match past_list(Element::Argument, trees) {
         Ok(from_close) => match first_sign(from_close) {
             Some((class, rest)) => {
                 if is(SignClass::Greater, class) {

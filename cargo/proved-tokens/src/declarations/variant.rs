@@ -59,7 +59,7 @@ pub fn parse_variant(trees: &[TokenTree]) -> Result<(Variant<'_>, &[TokenTree]),
 }
 
 /// Reads a variant. Returns it and the trees after it, or the trees from the error on.
-fn variant_of(trees: &[TokenTree]) -> Result<(Variant<'_>, &[TokenTree]), &[TokenTree]>
+pub(crate) fn variant_of(trees: &[TokenTree]) -> Result<(Variant<'_>, &[TokenTree]), &[TokenTree]>
 {
     match front_of(trees) {
         Ok((front, from_name)) => match named_of(from_name) {

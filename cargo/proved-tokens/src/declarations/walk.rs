@@ -1,53 +1,9 @@
 // Made from crates/declarations/src/walk.rt by dev/erase: change that file, not this one.
 //! The walk over the signs of trees by the tables of the grammar.
 
-use crate::declarations::expected::steps_from;
-use crate::declarations::fault::Fault;
 use crate::declarations::signs::first_sign;
-use crate::item_tables::walk_state::{Item, WalkState};
+use crate::item_tables::walk_state::WalkState;
 use crate::pm_stream::TokenTree;
-
-/// The part that the walk read, and what the walk found out about it.
-#[derive(Clone, Copy)]
-pub(crate) struct Split<'a> {
-    pub part: &'a [TokenTree],
-    pub rest: &'a [TokenTree],
-    /// The item that the walk was in at its end.
-    pub last: Item,
-    /// The trees from the item's name on, or no trees if it has no name.
-    pub named: &'a [TokenTree],
-}
-
-/// Reads a part from a state on. Returns the part and the trees after it.
-pub(crate) fn split_from<'a>(trees: &'a [TokenTree], start: WalkState) -> Result<Split<'a>, Fault>
-{
-    let stop = walk_from(trees, start);
-    let at = trees.len() - stop.left.len();
-    if stop.place.may_end() {
-        let (part, rest) = trees.split_at(at);
-        Ok(Split {
-            part,
-            rest,
-            last: stop.place.item,
-            named: stop.named,
-        })
-    } else {
-        let fault = Fault::ahead_of(at, stop.left);
-        Err(fault.expecting(steps_from(stop.place)))
-    }
-}
-
-/// Reads all of the trees from a state on.
-pub(crate) fn read_whole(trees: &[TokenTree], start: WalkState) -> Result<(), Fault>
-{
-    let stop = walk_from(trees, start);
-    if stop.left.is_empty() && stop.place.may_end() {
-        Ok(())
-    } else {
-        let fault = Fault::ahead_of(trees.len() - stop.left.len(), stop.left);
-        Err(fault.expecting(steps_from(stop.place)))
-    }
-}
 
 /// Skips what can be read from a state on. At an error it returns the trees after the longest prefix that can go on.
 pub(crate) fn walk_past<'a>(

@@ -156,3 +156,39 @@ fn gen_is_a_name_where_no_function_follows(rt: HostRuntime) {
         ],
     );
 }
+
+#[test]
+fn what_comes_first_leads_to_the_kind(rt: HostRuntime) {
+    check(
+        &rt,
+        &[
+            ("default impl A for B {} x", 6, ItemKind::Impl, ""),
+            ("default type A = B; x", 6, ItemKind::TypeAlias, "A"),
+            ("default unsafe fn f() {}", 6, ItemKind::Function, "f"),
+            ("safe static A: B; x", 6, ItemKind::Static, "A"),
+            ("safe fn f(); x", 5, ItemKind::Function, "f"),
+            ("unsafe mod m {} x", 4, ItemKind::Module, "m"),
+            ("unsafe static mut A: B = c;", 9, ItemKind::Static, "A"),
+            ("unsafe trait T = A; x", 6, ItemKind::TraitAlias, "T"),
+            ("unsafe extern fn f(); x", 6, ItemKind::Function, "f"),
+            ("extern {} x", 2, ItemKind::ExternBlock, ""),
+            ("auto trait T {} x", 4, ItemKind::Trait, "T"),
+            ("use ::a::*; x", 8, ItemKind::Use, ""),
+            ("use {a, b}; x", 3, ItemKind::Use, ""),
+        ],
+    );
+}
+
+#[test]
+fn the_path_of_a_macro_call_may_begin_with_any_word(rt: HostRuntime) {
+    check(
+        &rt,
+        &[
+            ("auto!{} x", 3, ItemKind::MacroCall, ""),
+            ("default::a!(b); x", 7, ItemKind::MacroCall, ""),
+            ("safe!(x); x", 4, ItemKind::MacroCall, ""),
+            ("self::a!{} x", 6, ItemKind::MacroCall, ""),
+            ("::a::b! c {} x", 9, ItemKind::MacroCall, "c"),
+        ],
+    );
+}

@@ -1,6 +1,22 @@
+use Rattle.declarations.specs.Kind.{name_at}
+use Rattle.declarations.proofs.AnyItemLemmas.{item_expects, item_only, item_reads}
 use Rattle.declarations.proofs.FileLemmas.{item_fewer}
 use Rattle.declarations.proofs.any_item.split_any_item.Goals as goal
 
-pub returns-clause-fewer : goal.returns-clause-fewer
-returns-clause-fewer c =
-    item_fewer c.args.trees.now c.in_ok-split.split.part.now c.in_ok-split.split.rest.now c.in_ok-split.ensures.ok
+pub returns-in-Ok-clause-only : goal.returns-in-Ok-clause-only
+returns-in-Ok-clause-only c =
+    item_only c.args.trees.now c.part-item.result.now c.in-Ok.found.rest.now c.in-Ok.ensures.0 c.part-item.ensures
+
+pub returns-in-Ok-clause-fewer : goal.returns-in-Ok-clause-fewer
+returns-in-Ok-clause-fewer c =
+    item_fewer c.args.trees.now c.part-item.result.now c.in-Ok.found.rest.now
+    (item_reads c.args.trees.now c.part-item.result.now c.in-Ok.found.rest.now c.in-Ok.ensures.0 c.part-item.ensures)
+
+pub returns-in-Ok-clause-kind_and_name : goal.returns-in-Ok-clause-kind_and_name
+returns-in-Ok-clause-kind_and_name c =
+    (name_at c.in-Ok.found.kind c.in-Ok.found.named.now, c.in-Ok.ensures.1, c.name_of-name.ensures)
+
+pub returns-in-Err-clause-expected : goal.returns-in-Err-clause-expected
+returns-in-Err-clause-expected c =
+    item_expects c.args.trees.now c.in-Err.left.now c.fault_by.result.at c.fault_by.result.expected c.in-Err.ensures
+    c.fault_by.ensures.at c.fault_by.ensures.expected

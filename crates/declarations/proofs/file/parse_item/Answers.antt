@@ -1,23 +1,36 @@
-use Rattle.std.proofs.Common.{sym, subst}
-use Rattle.declarations.proofs.FileLemmas.{alone}
-use Rattle.declarations.specs.Kind.{Tells}
+use Rattle.std.proofs.Common.{◌≡◌, ◌∙◌, ◌==◌, ap, eqb-true, false, refl, sym}
+use Rattle.declarations.specs.Kind.{name_at}
+use Rattle.declarations.proofs.AnyItemLemmas.{all_kind, item_all, item_expects, item_left, left_over}
 use Rattle.declarations.proofs.file.parse_item.Goals as goal
 
-pub returns-in_err-item-clause-fault : goal.returns-in_err-item-clause-fault
-returns-in_err-item-clause-fault c =
-    absurd (c.in_err-item.ensures.fault.nothing c.args.trees.now _
-    (alone c.args.trees.now c.in_ok-read_whole.ensures.ok))
+pub returns-then-is_empty-clause-ok : goal.returns-then-is_empty-clause-ok
+returns-then-is_empty-clause-ok c = (
+  item_all c.args.trees.now c.in-Ok.found.rest.now c.in-Ok.ensures.0 (eqb-true _ _ (sym c.if-is_empty.ensures)),
+  refl,
+)
 
-pub returns-clause-ok : goal.returns-clause-ok
-returns-clause-ok c =
-    let only = c.in_ok-item.ensures.only c.args.trees.now _ (alone c.args.trees.now c.in_ok-read_whole.ensures.ok) in
-    (c.in_ok-read_whole.ensures.ok, sym only.0)
-
-pub returns-clause-kind_and_name : goal.returns-clause-kind_and_name
-returns-clause-kind_and_name c =
-    let only = c.in_ok-item.ensures.only c.args.trees.now _ (alone c.args.trees.now c.in_ok-read_whole.ensures.ok) in
-    let kind_and_name = c.in_ok-item.ensures.kind_and_name in (
-      kind_and_name.0,
-      subst (λ ts. Tells c.args.trees.now ts c.in_ok-item.item.kind kind_and_name.0) (sym only.1) kind_and_name.1,
-      kind_and_name.2,
+pub returns-then-is_empty-clause-kind_and_name : goal.returns-then-is_empty-clause-kind_and_name
+returns-then-is_empty-clause-kind_and_name c =
+    let kind = c.in-Ok.found.kind in
+    let name = name_at kind c.in-Ok.found.named.now in (
+      name,
+      all_kind c.args.trees.now c.in-Ok.found.rest.now kind name c.in-Ok.ensures.1
+          (eqb-true _ _ (sym c.if-is_empty.ensures)),
+      c.name_of-name.ensures,
     )
+
+pub returns-else-is_empty-clause-fault : goal.returns-else-is_empty-clause-fault
+returns-else-is_empty-clause-fault c =
+    item_left c.args.trees.now c.in-Ok.found.rest.now c.fault_by.result.at c.in-Ok.ensures.0
+    (λ none. let no : false ≡ (0 == 0) = c.if-is_empty.ensures ∙ ap (λ n. n == 0) none in cc) c.fault_by.ensures.at
+
+pub returns-else-is_empty-clause-expected : goal.returns-else-is_empty-clause-expected
+returns-else-is_empty-clause-expected c =
+    left_over c.args.trees.now c.in-Ok.found.rest.now c.fault_by.result.at c.fault_by.result.expected
+    c.in-Ok.ensures.0 (λ none. let no : false ≡ (0 == 0) = c.if-is_empty.ensures ∙ ap (λ n. n == 0) none in cc)
+    c.fault_by.ensures.at c.fault_by.ensures.expected
+
+pub returns-in-Err-clause-expected : goal.returns-in-Err-clause-expected
+returns-in-Err-clause-expected c =
+    item_expects c.args.trees.now c.in-Err.left.now c.fault_by-in-Err.result.at c.fault_by-in-Err.result.expected
+    c.in-Err.ensures c.fault_by-in-Err.ensures.at c.fault_by-in-Err.ensures.expected

@@ -1,0 +1,12 @@
+use Rattle.declarations.proofs.TraitLemmas.{trait_finds, trait_sticks}
+use Rattle.declarations.proofs.trait_rest.trait_of.Goals as goal
+
+pub returns-in-Ok : goal.returns-in-Ok
+returns-in-Ok c =
+    trait_finds c.args.trees.now c.args.rest.now c.requires.header c.requires.no_equals c.in-Ok.after.now
+    c.in-Ok.ensures
+
+pub returns-in-Err : goal.returns-in-Err
+returns-in-Err c =
+    trait_sticks c.args.trees.now c.args.rest.now c.requires.header c.requires.no_equals c.in-Err.left.now
+    c.in-Err.ensures
