@@ -1,5 +1,6 @@
 //! Macros as functions over proved streams.
 use crate::{from_proved, to_proved, NoToken, Spans};
+use proc_macro2::Span;
 use proved_tokens::error::CompileError;
 use proved_tokens::TokenStream;
 
@@ -85,12 +86,29 @@ fn read<S: Into<proc_macro2::TokenStream>>(stream: S, spans: &mut Spans) -> Resu
 
 /// The code, or the errors, as the caller's stream.
 fn answer<S: From<proc_macro2::TokenStream>>(code: Result<TokenStream, CompileError>, mut spans: Spans) -> S {
-    let code = code.unwrap_or_else(|error| error.to_compile_error());
-    let answer = from_proved(&code, &spans).or_else(|error| {
+    let answer = match code {
+        Ok(code) => from_proved(&code, &spans),
+        Err(error) => error_stream(&error, &spans),
+    };
+    let answer = answer.or_else(|error| {
         let note = note(error, &mut spans);
-        from_proved(&note.to_compile_error(), &spans)
+        error_stream(&note, &spans)
     });
     S::from(answer.expect("each crate has the tokens of an error"))
+}
+
+/// The errors as the caller's stream. Its paths `::core` are resolved at the call site, and only placed at the caller's
+/// tokens, since in edition 2015 a path with the caller's spans begins in the caller's crate.
+fn error_stream(error: &CompileError, spans: &Spans) -> Result<proc_macro2::TokenStream, NoToken> {
+    let code = from_proved(&error.to_compile_error(), spans)?;
+    let call_site = Span::call_site();
+    Ok(code
+        .into_iter()
+        .map(|mut tree| {
+            tree.set_span(call_site.located_at(tree.span()));
+            tree
+        })
+        .collect())
 }
 
 /// The error of a token, at its place.
