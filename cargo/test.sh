@@ -302,7 +302,9 @@ else
     skip "what would be published: no proc-macro2, unicode-ident or python3"
 fi
 try "the example of a lint" in_copy examples/arms test --offline --quiet
-neat arms
+try "the example of a lint with five rules, which also rewrites files" \
+    in_copy examples/lint_calls test --offline --quiet
+neat arms lint_calls
 if has proc-macro2-1 && has unicode-ident-1; then
     try "the bridge over the public crate" bridge test --offline --quiet --all-features
     # Macros over the bridge: their own tests, and the lines and columns at which they tell errors.
@@ -329,7 +331,8 @@ if has proc-macro2-1 && has unicode-ident-1; then
     try "its errors stand at its user's tokens" told examples/traced "$wanted" 5:1 "$wanted" 9:5
     try "the example of a builder over the bridge" in_copy examples/builder test --offline --quiet
     try "the example of a memoizing attribute over the bridge" in_copy examples/memoized test --offline --quiet
-    neat names traced builder memoized
+    try "the example of a derive that reports all errors at once" in_copy examples/describe test --offline --quiet
+    neat names traced builder memoized describe
 else
     skip "the bridge over the public crate, and its examples: no proc-macro2 or unicode-ident"
 fi

@@ -3,6 +3,9 @@
 use literal_escaper::EscapeError;
 
 /// Why a text doesn't parse. Each reason has its own definition in `specs/Reason.antt`.
+///
+/// [`Reason::message`] returns the reason in words, such as `this digit is too large for its number's base`. A table on
+/// the page `crates/explain/README.md` has the names and the messages of all reasons.
 #[derive(Debug, Drop, PartialEq, Eq)]
 pub enum Reason {
     /// A block comment that doesn't end: the `/*` of `/* a`.
