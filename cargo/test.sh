@@ -112,7 +112,8 @@ programs() {
             env "CARGO_BUILD=$built" ../dev/checks/programs tokens highlight find_calls pretty rust_check same indent \
             outline
         try "the commands that pages show print what they show" \
-            ../dev/checks/pages "$built" ../README.md ../docs/GUIDE.md tokens/README.md
+            ../dev/checks/pages "$built" ../README.md ../docs/GUIDE.md tokens/README.md \
+            ../crates/{rust_check,highlight,pretty}/README.md
     fi
     if command -v python3 > /dev/null && command -v valgrind > /dev/null; then
         try "twice the text takes at most 2.1 times the instructions, by the named shapes of bench/doubling.py" \
