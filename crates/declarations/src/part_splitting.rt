@@ -204,6 +204,9 @@ pub fn split_variants(trees: &[TokenTree]) -> Result<(&[TokenTree], &[TokenTree]
 /// Like the discriminant of a variant, it ends before a `,`, a `;` or a second operand, outside of angle brackets and
 /// a closure's bars, or with the trees. It is not parsed; only its end is found, so `a => b` is one expression. For
 /// `f::<X, Y>() as A<B, C>, D` it is everything before the last `,`.
+///
+/// A `<` opens angle brackets only where an operand must come, such as after `::`, and in the type of a cast. So
+/// `a < b, c > d` ends before the `,`. A `$` is in no expression.
 #[tactic(auto, using(crate::proofs::PartReaderLemmas::expression_parts))]
 pub fn split_expression(trees: &[TokenTree]) -> Result<(&[TokenTree], &[TokenTree]), Fault>
     ensures ok { IfOk result (λ found. Reads IsExpression trees.now found.0.now found.1.now) }

@@ -332,6 +332,9 @@ pub fn split_variants(trees: &[TokenTree]) -> Result<(&[TokenTree], &[TokenTree]
 /// a closure's bars, or with the trees. It is not parsed; only its end is found, so `a => b` is one expression. For
 /// `f::<X, Y>() as A<B, C>, D` it is everything before the last `,`.
 ///
+/// A `<` opens angle brackets only where an operand must come, such as after `::`, and in the type of a cast. So
+/// `a < b, c > d` ends before the `,`. A `$` is in no expression.
+///
 /// # Contract
 ///
 /// - `ensures ok`: <code>[IfOk] result (λ found. [Reads] [IsExpression] trees.now found.0.now
