@@ -5,7 +5,7 @@ use crate::options::plain;
 use proved_macros::proved_tokens::error::CompileError;
 use proved_macros::proved_tokens::items::{bare_trees, first_sign, parse_param, parse_type_path, within_generics};
 use proved_macros::proved_tokens::items::{ParamKind, SignClass, TypeItem};
-use proved_macros::proved_tokens::{quote, Delimiter, Ident, TokenStream, TokenTree};
+use proved_macros::proved_tokens::{quote, Delimiter, Group, Ident, TokenStream, TokenTree};
 
 /// The signs of a type or a path, each with the number of angle brackets that are open before it.
 fn signs(mut left: &[TokenTree]) -> impl Iterator<Item = (SignClass, usize)> + '_ {
@@ -36,13 +36,20 @@ pub fn is_path(trees: &[TokenTree]) -> bool {
 }
 
 /// The trees without the groups that have no delimiters. A type in such a group is put in parentheses if it has a `+`.
+/// The braces of a block are made anew, because rustc warns about the caller's braces in angle brackets.
 pub fn without_groups(trees: &[TokenTree]) -> TokenStream {
     let bare = |tree: &TokenTree| match tree {
         TokenTree::Group(group) if group.delimiter() == Delimiter::None => {
             let trees = bare_trees(group.stream_ref().trees());
             let inside = without_groups(trees);
             let has_plus = signs(trees).any(|sign| sign == (SignClass::Plus, 0));
-            if has_plus { quote! { (#inside) } } else { inside }
+            match trees {
+                [TokenTree::Group(block)] if block.delimiter() == Delimiter::Brace => {
+                    Group::new(Delimiter::Brace, block.stream_ref().clone()).into()
+                }
+                _ if has_plus => quote! { (#inside) },
+                _ => inside,
+            }
         }
         _ => tree.clone().into(),
     };

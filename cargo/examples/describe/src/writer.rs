@@ -14,16 +14,20 @@ type Result<T> = std::result::Result<T, CompileError>;
 
 /// The impl of `Describe` for a struct or an enum, or all errors in its attributes.
 pub fn describe_impl(item: &TokenStream, spans: &mut Spans) -> Result<TokenStream> {
-    let item = parse_type_item(item.trees())?;
+    let mut item = parse_type_item(item.trees())?;
     let mut errors = Vec::new();
     let options = Options::read(item.attributes, &["crate", "rename"], &mut errors);
     let trait_path = trait_path(options.path("crate"), spans);
     let mut writer = Writer { trait_path, types: Vec::new(), errors, spans };
     let arms = writer.arms(&item, &options)?;
-    let Writer { trait_path, types, errors, .. } = writer;
+    let Writer { trait_path, types, errors, spans } = writer;
     all_errors(errors).map_or(Ok(()), Err)?;
     let bounded = named_parameters(&item, &types)?;
     let clause = where_clause_with(&item, &quote! { #( #bounded: #trait_path ),* })?;
+    // The impl may use a deprecated name. With this span rustc does not warn.
+    let mut name = item.name.clone();
+    name.set_span(located_at(name.span(), spans));
+    item.name = &name;
     let header = without_groups(impl_header_where(&item, &trait_path, &clause)?.trees());
     let allowed = allowed_lints(item.attributes);
     let code = quote! { fn describe(&self) -> ::std::string::String { match *self { #arms } } };
@@ -58,7 +62,6 @@ fn located_at(place: Span, spans: &mut Spans) -> Span {
 fn allowed_lints(attributes: &[TokenTree]) -> TokenStream {
     let allowed = Attributes::new(attributes).map(|attribute| match attribute.args() {
         AttributeArgs::Group(lints) if attribute.is("allow") || attribute.is("expect") => quote! { #[allow #lints] },
-        _ if attribute.is("deprecated") => quote! { #[allow(deprecated)] },
         _ => TokenStream::new(),
     });
     allowed.collect()

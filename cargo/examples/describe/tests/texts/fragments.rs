@@ -132,6 +132,26 @@ fn expressions_in_types_and_discriminants() {
 }
 
 #[test]
+fn blocks_in_angle_brackets() {
+    struct Sized<const N: usize>;
+    impl<const N: usize> Describe for Sized<N> {
+        fn describe(&self) -> String {
+            N.to_string()
+        }
+    }
+    macro_rules! declare {
+        ($b:block) => {
+            #[derive(Describe)]
+            struct Holder<T>(Sized<$b>, T)
+            where
+                Sized<$b>: Describe;
+        };
+    }
+    declare!({ 3 });
+    assert_eq!(Holder(Sized, 1_u8).describe(), "Holder(3, 1)");
+}
+
+#[test]
 fn paths_as_fragments() {
     macro_rules! declare {
         ($p:path, $q:path, $m:path) => {
