@@ -13,8 +13,9 @@ use crate::shim::fmt::Display;
 /// `::` and `'a`. A group is one tree, and its span is that of the whole group with its delimiters.
 ///
 /// The text of the error says which signs were expected, with four names at most: "expected `:`" for the field `x u8`,
-/// and "the declaration ends too early, expected a type" for `x:`, where the span is `None`. If the part that was read
-/// could go on, the text says so by a few words: "expected `:` or more of the pattern" for the parameter `b` of
+/// and "the declaration ends too early, expected a type" for `x:`, where the span is `None`. Several names come in a
+/// fixed order, which is not that of the alphabet: for `struct S` they are "`;`, `{`, `where` or `(`, among others". If
+/// the part that was read could go on, the text says so: "expected `:` or more of the pattern" for the parameter `b` of
 /// `fn f(b);`.
 ///
 /// In `struct S { } x` the error is after 3 trees, at `x`. In `struct S` it is after 2 trees, and has no span.
