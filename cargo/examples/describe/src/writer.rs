@@ -24,9 +24,7 @@ pub fn describe_impl(item: &TokenStream, spans: &mut Spans) -> Result<TokenStrea
     all_errors(errors).map_or(Ok(()), Err)?;
     let bounded = named_parameters(&item, &types)?;
     let clause = where_clause_with(&item, &quote! { #( #bounded: #trait_path ),* })?;
-    // The impl may use a deprecated name. With this span rustc does not warn.
-    let mut name = item.name.clone();
-    name.set_span(located_at(name.span(), spans));
+    let name = quiet(item.name, spans);
     item.name = &name;
     let header = without_groups(impl_header_where(&item, &trait_path, &clause)?.trees());
     let allowed = allowed_lints(item.attributes);
@@ -56,6 +54,13 @@ fn trait_path(module: Option<&[TokenTree]>, spans: &mut Spans) -> TokenStream {
 fn located_at(place: Span, spans: &mut Spans) -> Span {
     let site = proc_macro2::Span::mixed_site().located_at(spans.span(place));
     spans.place(site)
+}
+
+/// The name with a span for which rustc does not warn if the name is deprecated.
+fn quiet(name: &Ident, spans: &mut Spans) -> Ident {
+    let mut name = name.clone();
+    name.set_span(located_at(name.span(), spans));
+    name
 }
 
 /// What allows the lints that the item allows or expects: its names have the caller's spans in the impl too.
@@ -139,7 +144,7 @@ impl<'a> Writer<'a, '_> {
         }
         let (local, call) = self.call(index, function, field.field_type);
         let Ok(position) = Literal::usize_unsuffixed(index);
-        let member = field.name.map_or(position.into(), |name| TokenTree::from(name.clone()));
+        let member: TokenTree = field.name.map_or(position.into(), |name| quiet(name, self.spans).into());
         let label = field.name.map_or(String::new(), |name| options.name(name) + ": ");
         let before = if arm.sum.is_empty() { label } else { format!(", {label}") };
         arm.patterns.extend([quote! { #member: ref #local, }]);

@@ -132,6 +132,24 @@ fn expressions_in_types_and_discriminants() {
 }
 
 #[test]
+fn deprecated_types_of_macros() {
+    macro_rules! declare {
+        ($m:meta, $n:ident) => {
+            #[$m]
+            #[derive(Describe)]
+            struct $n<T> {
+                #[$m]
+                field: T,
+            }
+        };
+    }
+    declare!(deprecated, Old);
+    #[allow(deprecated)]
+    let old = Old { field: 1_u8 };
+    assert_eq!(old.describe(), "Old { field: 1 }");
+}
+
+#[test]
 fn blocks_in_angle_brackets() {
     struct Sized<const N: usize>;
     impl<const N: usize> Describe for Sized<N> {
