@@ -14,13 +14,11 @@ pub const DEEPEST: usize = 60;
 pub enum LayStep {
     /// Lay out the node, which is not on one line.
     Lay,
-    /// Lay out the next child: after one on one line, after one that is not, with its block on its own line, and on its
-    /// own line.
+    /// Lay out the next child: after one on one line, after one that is not, and with its block on its own line.
     Next,
     Broken,
     Apart,
-    Line,
-    /// Lay out the next part of a list: on its own line, with as many as fit, and with as many names as fit.
+    /// Lay out the next part or child: on its own line, with as many as fit, and with as many names as fit.
     Part,
     Fill,
     Names,
@@ -93,7 +91,10 @@ impl Tree {
         match task.step {
             LayStep::Lay => return self.lay_node(task, &own),
             LayStep::Close => return self.close(self.node(task.child).until, task.indent),
-            LayStep::Shut => return self.put_mark(),
+            LayStep::Shut => {
+                self.column = self.column.saturating_add(1);
+                return;
+            }
             _ => {}
         }
         let child = *self.node(task.child);
@@ -165,11 +166,6 @@ impl Tree {
         self.is_shut = self.is_shut && only;
     }
 
-    /// Writes one character on this line.
-    pub fn put_mark(&mut self) {
-        self.column = self.column.saturating_add(1);
-    }
-
     /// Writes the space before an atom of a node that is not its first.
     pub fn lead(&mut self, own: &Node, index: usize) {
         if index > own.first && self.atom(index).is_spaced() {
@@ -207,7 +203,7 @@ impl Tree {
     /// Writes the closer of a group, whose list ends before this index, on its own line.
     pub fn close(&mut self, until: usize, column: usize) {
         self.begin_line(until, column);
-        self.put_mark();
+        self.column = self.column.saturating_add(1);
         self.is_shut = true;
     }
 }

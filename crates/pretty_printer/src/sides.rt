@@ -2,7 +2,7 @@
 use crate::atoms::{Lexeme, Role};
 use crate::limits::CALL;
 use crate::lines::{LayStep, TAB, Task, WIDTH, deeper};
-use crate::tree::{Form, NO_HEAD, Node, Tree};
+use crate::tree::{Form, NO_HEAD, NOWHERE, Node, Tree};
 
 /// The number of columns of ` => {`.
 const ARM: usize = 5;
@@ -27,21 +27,14 @@ impl Tree {
             self.put(own.first, call.first);
             return self.lay(own.last, task.indent, task.tail);
         }
-        // The calls of a short root that begins a line are on its line.
-        let mut joined = own.child;
-        for _ in own.first..own.end {
-            let next = self.node(joined).next;
-            let before = self.distance(own.first, self.node(next).first);
-            if self.column > task.indent || joined == own.last || before > TAB {
-                break;
-            }
-            joined = next;
-        }
+        // The first call of a short root that begins a line is on its line.
+        let next = self.node(own.child).next;
+        let short = self.distance(own.first, self.node(next).first) <= TAB;
+        let joined = if short && self.column <= task.indent { next } else { own.child };
         let root = *self.node(joined);
         self.put(own.first, root.first);
         self.leave(LayStep::Next, task, &root);
-        let tail = if joined == own.last { task.tail } else { 0 };
-        self.lay(joined, task.indent, tail);
+        self.lay(joined, task.indent, task.tail);
     }
 
     /// Writes the next call of a chain on its own line, which is deeper unless a line of closers ends the root.
@@ -51,7 +44,7 @@ impl Tree {
             rest.indent = deeper(task.indent);
         }
         self.begin_line(child.first, rest.indent);
-        self.leave(LayStep::Line, &rest, child);
+        self.leave(LayStep::Part, &rest, child);
         let tail = if child.end == own.end { task.tail } else { 0 };
         self.lay(task.child, rest.indent, tail);
     }
@@ -62,20 +55,22 @@ impl Tree {
         let tail = if cast { task.tail } else { ARM };
         let fills = (cast || task.step == LayStep::Fill)
             && self.fit(task.at, child.end, tail.saturating_add(1));
-        let pattern = matches!(task.step, LayStep::Line | LayStep::Fill);
+        let pattern = matches!(task.step, LayStep::Part | LayStep::Fill);
         let below = deeper(task.indent);
         let inner = if pattern { task.indent } else { below };
+        // No operand is alone on a line that is not longer than its indentation.
+        let orphan = !pattern && self.column <= below;
         self.leave(task.step, task, child);
         if child.first == own.first {
             return self.lay(task.child, task.indent, task.tail);
         }
-        match fills {
+        match fills || orphan {
             true => self.lead(own, task.at),
             false => self.begin_line(task.at, inner),
         }
         self.put(task.at, child.first);
         self.lead(own, child.first);
-        self.lay(task.child, inner, task.tail);
+        self.lay(task.child, if orphan { task.indent } else { inner }, task.tail);
     }
 
     /// Writes the next side of an assignment or a `let`, or the block after `else`.
@@ -97,11 +92,10 @@ impl Tree {
         if gives_up {
             return self.lay_lines(task, task.child);
         }
-        // The right side of `=`, or its first line, may fit only on the next line. Closures and blocks stay.
+        // The right side of `=`, or its first line, may fit only on the next line. Closures stay.
         let equals = before.role == Role::Between && child.first > own.first;
         let below = deeper(task.indent);
-        let block = child.form == Form::Closure || self.atom(child.first).is_word(Lexeme::Prefix);
-        let stays = child.must || block && child.head != NO_HEAD;
+        let stays = child.must || child.form == Form::Closure && child.head != NO_HEAD;
         let opens = self.column.saturating_add(child.head) <= WIDTH;
         let whole = self.width(child.first, child.end).saturating_add(tail);
         let width = if stays { NO_HEAD } else { whole };
@@ -121,7 +115,8 @@ impl Tree {
         let flat = block || self.fits(child, 2);
         let step = if flat { LayStep::Next } else { LayStep::Broken };
         self.leave(step, task, child);
-        if block {
+        let others = child.next != NOWHERE || task.child != own.from;
+        if block && (others || self.atom(child.first).is_full()) {
             return self.lay_lines(task, task.child);
         }
         self.lay(task.child, task.indent, 0);
@@ -133,15 +128,14 @@ impl Tree {
         let bar = self.node(pattern.child).end;
         let bars = pattern.form == Form::Operators && self.atom(bar).is_mark('|');
         if !bars || self.fits(&pattern, ARM) {
-            self.leave(LayStep::Next, task, &pattern);
-            return self.lay(own.child, task.indent, 3);
+            return self.push(LayStep::Next, task, own.child, own.first);
         }
         self.leave(LayStep::Broken, task, &pattern);
         let mut patterns = *task;
         patterns.node = own.child;
         patterns.tail = 3;
         let short = self.are_short(pattern.first, pattern.end, Role::Between, PATTERN);
-        let step = if short { LayStep::Fill } else { LayStep::Line };
+        let step = if short { LayStep::Fill } else { LayStep::Part };
         self.push(step, &patterns, pattern.child, pattern.first);
     }
 }

@@ -154,10 +154,7 @@ impl Tree {
         node.first = first;
         node.end = end;
         push_item(&mut self.nodes, node, &mut self.failure);
-        match self.failure {
-            Some(_) => NOWHERE,
-            None => index,
-        }
+        if self.failure.is_some() { NOWHERE } else { index }
     }
 
     /// Makes a finished node the last child of another, unless one of them is missing.

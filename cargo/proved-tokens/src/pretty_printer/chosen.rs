@@ -40,15 +40,11 @@ impl Chosen {
     /// Wants the mark to be joined that is before the next atom of a list in these lists.
     #[inline(never)]
     pub fn want(&mut self, outer: &[ListPosition], here: &ListPosition) -> Result<(), AllocError> {
-        for depth in self.entered..outer.len() {
-            if let Some(around) = outer.get(depth) {
-                let index = around.trees.saturating_sub(1);
-                self.visits.push_fallibly(Visit { depth, index })?;
-            }
+        for depth in self.entered..outer.len().saturating_add(1) {
+            let index = outer.get(depth).unwrap_or(here).trees.saturating_sub(1);
+            self.visits.push_fallibly(Visit { depth, index })?;
         }
         self.entered = outer.len();
-        let (depth, index) = (outer.len(), here.trees.saturating_sub(1));
-        self.visits.push_fallibly(Visit { depth, index })?;
         Ok(())
     }
 }

@@ -22,11 +22,21 @@ impl Tree {
         self.read_unread(own.last);
         let inside = atom.role == Role::Attribute || self.is_doubled(&own);
         let head = self.head_inside(&own);
-        if !inside && self.column.saturating_add(head) >= WIDTH {
+        let last = *self.node(own.last);
+        // A call that is too long as the only argument breaks its lines, and so do its own arguments.
+        let tall = last.must || self.is_tall(own.from, own.until);
+        let forced = own.must && !tall && atom.role == Role::Plain && own.child == own.last;
+        let group = if last.form == Form::Group { own.last } else { last.last };
+        let opens = !forced || self.node(group).form == Form::Group;
+        if !opens || !inside && self.column.saturating_add(head) >= WIDTH {
             return self.lay_lines(task, task.node);
         }
+        for node in [own.last, group] {
+            if let Some(node) = self.nodes.get_mut(node) {
+                node.must = node.must || forced;
+            }
+        }
         // The last part goes on over the next lines, as if there were no delimiters.
-        let last = *self.node(own.last);
         self.open_group(LayStep::Shut, task, task.node);
         self.put(own.from, last.first);
         self.lead(&own, last.first);
@@ -35,7 +45,7 @@ impl Tree {
 
     /// Writes the opener of a group, and leaves its closer to this step.
     fn open_group(&mut self, step: LayStep, task: &Task, group: usize) {
-        self.put_mark();
+        self.column = self.column.saturating_add(1);
         self.is_shut = false;
         self.push(step, task, group, NOWHERE);
     }
@@ -44,9 +54,6 @@ impl Tree {
     pub fn lay_lines(&mut self, task: &Task, group: usize) {
         self.read_parts(group);
         let own = *self.node(group);
-        if own.child == NOWHERE {
-            return self.put(own.first, own.end);
-        }
         self.open_group(LayStep::Close, task, group);
         self.push_parts(self.step_of(&own, task.tail), task, group);
     }
@@ -67,9 +74,12 @@ impl Tree {
         let comma = atom.is_round() && self.previous(until).role == Role::Comma;
         let fits = comma && self.width(from, until) <= CALL + 1 && self.fit(from, until, tail);
         let list = atom.is_list() && !fits && !matches!(atom.role, Role::Params | Role::Repeated);
-        let short = list && self.are_short(from, until, Role::Comma, SHORT);
+        let format = self.atom(own.first.saturating_sub(2)).is_word(Lexeme::Format);
+        let most = if format { usize::MAX } else { SHORT };
+        let short = list && self.are_short(from, until, Role::Comma, most);
         match atom.role {
             Role::Use if self.find_role(from, until, Role::Use) < until => LayStep::Names,
+            _ if format && short => LayStep::Names,
             role if role == Role::Use || short => LayStep::Fill,
             _ => LayStep::Part,
         }
@@ -81,8 +91,9 @@ impl Tree {
         for index in from..end {
             let atom = self.atom(index);
             let mark = matches!(atom.role, Role::Dot | Role::Before | Role::After);
-            let short = !atom.tall && self.width(start, index.saturating_add(1)) <= most;
-            match atom.role == between {
+            let width = self.width(start, index.saturating_add(1));
+            let short = width <= most && !(atom.tall && most < usize::MAX);
+            match atom.role == between || atom.role == Role::Separator {
                 true => start = index.saturating_add(1),
                 false if short && (mark || atom.is_any_word()) => {}
                 false => return false,
@@ -99,8 +110,12 @@ impl Tree {
             self.put(last.end, part.first);
         }
         let fills = match task.step {
-            // A path in imports with inner lists has its own line.
-            LayStep::Names => self.find_role(last.first, part.end, Role::Path) == part.end,
+            // A path in imports with inner lists has its own line, and so has the format string of a macro's call.
+            LayStep::Names => {
+                let text = self.atom(last.first).is_word(Lexeme::String)
+                    || self.atom(part.first).is_word(Lexeme::String);
+                !text && self.find_role(last.first, part.end, Role::Path) == part.end
+            }
             step => step == LayStep::Fill,
         };
         if !first && fills && self.fits(part, 2) {
@@ -119,11 +134,8 @@ impl Tree {
     /// Returns whether an empty line is between two parts: between two items, if one of them has several lines or the
     /// second has an attribute.
     pub fn parts_items(&self, last: &Node, next: &Node) -> bool {
-        if !self.is_item(last) {
-            return false;
-        }
         let tall = self.is_tall(last.first, last.end) || self.is_tall(next.first, next.end);
-        self.atom(next.first).is_mark('#') || tall && self.is_item(next)
+        self.is_item(last) && (self.atom(next.first).is_mark('#') || tall && self.is_item(next))
     }
 
     /// Returns whether the part is an item.
@@ -152,6 +164,12 @@ impl Tree {
         if !child.must && self.fit(task.at, own.until, tail.saturating_add(space)) {
             return self.push(task.step, task, child.next, task.at);
         }
+        if self.previous(child.first).role == Role::Colon || atom.role == Role::Target {
+            self.write(own, task.at, child.first);
+            self.begin_line(child.first, deeper(task.indent));
+            self.leave(LayStep::Apart, task, child);
+            return self.lay(task.child, task.indent, 0);
+        }
         let result = atom.role != Role::Less && !atom.is_round();
         if result && self.fit(task.at, own.until, space) {
             // Only the brace is on the next line.
@@ -159,7 +177,7 @@ impl Tree {
         }
         self.reach(task, own, child, false);
         self.leave(LayStep::Broken, task, child);
-        if atom.is_round() {
+        if atom.is_round() && atom.is_full() {
             return self.lay_lines(task, task.child);
         }
         let tail = self.tail_of(task, own, child);
@@ -182,8 +200,7 @@ impl Tree {
         self.reach(task, own, child, task.step == LayStep::Apart);
         self.leave(LayStep::Next, task, child);
         if task.step != LayStep::Next && !brace.is_full() {
-            self.put_mark();
-            return self.close(child.until, task.indent);
+            return self.lay_lines(task, task.child);
         }
         self.lay(task.child, task.indent, 0);
     }

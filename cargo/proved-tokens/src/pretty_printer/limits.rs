@@ -13,7 +13,6 @@ const META: usize = 70;
 const BRANCHES: usize = 50;
 /// The largest widths of the fields of a struct literal, and of a variant.
 const FIELDS: usize = 18;
-
 const VARIANT: usize = 35;
 /// The width from which the name of a call is long: a chain as its only argument begins on the next line.
 const NAME: usize = 4;
@@ -143,7 +142,13 @@ impl Tree {
             Role::Plain | Role::Tuple if !(single || pattern || index) => CALL,
             _ => usize::MAX,
         };
-        comma && !loose && !lone || inner.saturating_sub(comma as usize) > limit
+        // A call that is the only argument of a call has its limit too.
+        let value = self.node(own.last);
+        let call = self.atom(self.node(value.last).first);
+        let nested = single && value.form == Form::Plain && call.is_list() && inner > CALL;
+        let plain = nested && call.role == Role::Plain && atom.role == Role::Plain;
+        let opens = plain && value.head.saturating_add(2) <= CALL;
+        comma && !loose && !lone || opens || inner.saturating_sub(comma as usize) > limit
     }
 
     /// Returns the width of the first line inside a group if its last part goes on over the next lines, or `NO_HEAD`.
@@ -164,8 +169,9 @@ impl Tree {
         }
         let tuple = atom.role == Role::Tuple && !several;
         let name = self.previous(own.first);
-        let path = self.previous(own.first.saturating_sub(1)).role == Role::Path;
-        let short = bang || name.is_name() && name.width < NAME && !path;
+        let earlier = self.previous(own.first.saturating_sub(1)).role;
+        let room = NAME.saturating_sub((earlier == Role::Dot) as usize);
+        let short = bang || name.is_name() && name.width < room && earlier != Role::Path;
         let root = self.node(value.child);
         let long = root.must || self.node(root.next).next != NOWHERE;
         let parted = !several && short && atom.is_round();

@@ -7,7 +7,7 @@ use crate::pretty_printer::atoms::{Lexeme, Role, White};
 use crate::pretty_printer::chosen::{Chosen, ListPosition};
 use crate::pretty_printer::reading::{Unread, push_list};
 use crate::pretty_printer::roles::assign_roles;
-use crate::pretty_printer::tree::{NOWHERE, Tree, push_item};
+use crate::pretty_printer::tree::{Form, NOWHERE, Tree, push_item};
 use crate::proc_macro2::TokenStream;
 use crate::shim::alloc::AllocError;
 
@@ -16,11 +16,9 @@ pub struct Printer<'a> {
     /// The stream's own list, and after it the lists inside the groups of the part that is read.
     tree: Tree,
     groups: Vec<Unread<'a>>,
-    /// The numbers of nodes and of groups of the stream's own list, whose parts are the last nodes.
+    /// The numbers of nodes and of groups of the stream's own list, whose parts and its end are the last nodes.
     nodes: usize,
     top_groups: usize,
-    /// The index after the last atom of that list.
-    end: usize,
     /// The next part, and the first group of it.
     part: usize,
     next_group: usize,
@@ -41,12 +39,12 @@ impl<'a> Printer<'a> {
         assign_roles(&mut tree, 1, end, true, Role::Block);
         let part = tree.nodes.len();
         tree.add_parts(NOWHERE, 1, end, true, false);
+        tree.push_node(Form::Unread, end, end);
         Ok(Printer {
             nodes: tree.nodes.len(),
             tree,
             top_groups: groups.len(),
             groups,
-            end,
             part,
             next_group: 0,
             here: ListPosition {
@@ -69,14 +67,12 @@ impl<'a> Printer<'a> {
     pub fn choose(mut self) -> Result<Chosen, AllocError> {
         for _ in 0..usize::MAX {
             if self.pass_atoms()? {
-                continue;
-            }
-            if let Some(around) = self.outer.pop() {
+            } else if let Some(around) = self.outer.pop() {
                 let gap = self.tree.atom(self.here.end).gap;
                 self.chosen.entered = self.chosen.entered.min(self.outer.len());
                 self.chosen.add(gap)?;
                 self.here = around;
-            } else if self.part < self.nodes {
+            } else if self.part.saturating_add(1) < self.nodes {
                 self.lay_part();
             } else {
                 break;
@@ -133,32 +129,27 @@ impl<'a> Printer<'a> {
         };
         self.tree.set_gap(part.first, gap);
         self.part = self.part.saturating_add(1);
-        self.here.end = match self.part < self.nodes {
-            true => self.tree.node(self.part).first,
-            false => self.end,
-        };
+        self.here.end = self.tree.node(self.part).first;
     }
 
     /// Reads and measures the groups of the part that ends here.
     fn read_groups(&mut self, end: usize) {
         let top = self.top_groups;
-        self.tree.atoms.truncate(self.end.saturating_add(1));
+        let last = self.tree.node(self.nodes.saturating_sub(1)).first;
+        self.tree.atoms.truncate(last.saturating_add(1));
         self.tree.nodes.truncate(self.nodes);
         self.groups.truncate(top);
         for next in self.next_group..top {
-            match self.groups.get(next).copied() {
-                Some(group) if self.tree.node(group.node).first < end => {
-                    push_item(&mut self.groups, group, &mut self.tree.failure);
-                    self.next_group = next.saturating_add(1);
-                }
-                _ => break,
+            let Some(group) = self.groups.get(next).copied() else { break };
+            if self.tree.node(group.node).first >= end {
+                break;
             }
+            push_item(&mut self.groups, group, &mut self.tree.failure);
+            self.next_group = next.saturating_add(1);
         }
         for next in top..usize::MAX {
-            match self.groups.get(next).copied() {
-                Some(group) => self.read_group(group),
-                None => break,
-            }
+            let Some(group) = self.groups.get(next).copied() else { break };
+            self.read_group(group);
         }
         // Groups are before the groups inside them, and are measured after them.
         for _ in top..self.groups.len() {
