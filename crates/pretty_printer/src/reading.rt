@@ -44,7 +44,8 @@ pub fn push_list<'a>(
             TokenTree::Literal(literal) => literal_atom(literal.text()),
             TokenTree::Punct(mark) => mark_atom(mark, after),
         };
-        left = after.get(atom.tokens().saturating_sub(1)..after.len()).unwrap_or(&[]);
+        let more = atom.tokens().saturating_sub(1);
+        left = if more == 0 { after } else { after.get(more..after.len()).unwrap_or(&[]) };
         tree.atoms.push(atom)?;
     }
     tree.atoms.push(NOTHING)?;

@@ -142,7 +142,6 @@ impl Tree {
             Role::Plain | Role::Tuple if !(single || pattern || index) => CALL,
             _ => usize::MAX,
         };
-        // A call that is the only argument of a call has its limit too.
         let value = self.node(own.last);
         let call = self.atom(self.node(value.last).first);
         let nested = single && value.form == Form::Plain && call.is_list() && inner > CALL;
