@@ -67,7 +67,7 @@ impl State {
         match own.kind {
             Kind::Lexeme(word) => {
                 if let Some(head) = head_of(word) {
-                    role = if word == Lexeme::For && self.head == Head::Impl { Role::Target } else { role };
+                    role = if self.head == Head::Impl && word == Lexeme::For { Role::Target } else { role };
                     self.take_head(word, head, previous, tree.next(index));
                 } else if word == Lexeme::Where && is_item(self.head) {
                     role = Role::Where;
