@@ -17,8 +17,6 @@ pub enum Lexeme {
     Name,
     /// The name of a kind of fragment in a macro's matcher, such as `expr`.
     Fragment,
-    /// The name of a macro that takes a format string.
-    Format,
     Literal,
     String,
     Lifetime,
@@ -92,8 +90,6 @@ pub enum Role {
     Colon,
     Dot,
     Where,
-    /// The `for` before the type of an `impl`.
-    Target,
     /// The `|` that begins and ends a closure's parameters. `||` ends them.
     BarOpen,
     BarClose,
@@ -249,8 +245,8 @@ impl Atom {
     /// Whether it is a word, but not a keyword.
     pub fn is_name(&self) -> bool {
         match self.kind {
-            Kind::Lexeme(Lexeme::Name | Lexeme::Fragment | Lexeme::Format | Lexeme::Derive) => true,
-            Kind::Lexeme(Lexeme::Literal | Lexeme::String | Lexeme::Lifetime) => true,
+            Kind::Lexeme(Lexeme::Name | Lexeme::Fragment | Lexeme::Literal) => true,
+            Kind::Lexeme(Lexeme::String | Lexeme::Lifetime | Lexeme::Derive) => true,
             _ => false,
         }
     }
@@ -290,9 +286,6 @@ pub fn word_of(text: &str) -> Lexeme {
         b"continue" | b"dyn" | b"ref" | b"type" | b"use" => Lexeme::Keyword,
         b"block" | b"expr" | b"ident" | b"item" | b"lifetime" | b"literal" => Lexeme::Fragment,
         b"meta" | b"pat" | b"path" | b"stmt" | b"tt" | b"ty" | b"vis" => Lexeme::Fragment,
-        b"assert" | b"assert_eq" | b"assert_ne" | b"debug_assert" | b"panic" => Lexeme::Format,
-        b"format" | b"print" | b"println" | b"eprint" | b"eprintln" => Lexeme::Format,
-        b"write" | b"writeln" | b"debug" | b"error" | b"info" | b"warn" => Lexeme::Format,
         _ => Lexeme::Name,
     }
 }

@@ -63,8 +63,7 @@ impl<'a> Printer<'a> {
     #[inline(always)]
     pub fn choose(mut self) -> Result<Chosen, AllocError> {
         for _ in 0..usize::MAX {
-            if self.pass_atoms()? {
-            } else if let Some(around) = self.outer.pop() {
+            if self.pass_atoms()? {} else if let Some(around) = self.outer.pop() {
                 let gap = self.tree.atom(self.here.end).gap;
                 self.chosen.entered = self.chosen.entered.min(self.outer.len());
                 self.chosen.add(gap)?;
@@ -137,7 +136,9 @@ impl<'a> Printer<'a> {
         self.tree.nodes.truncate(self.nodes);
         self.groups.truncate(top);
         for next in self.next_group..top {
-            let Some(group) = self.groups.get(next).copied() else { break };
+            let Some(group) = self.groups.get(next).copied() else {
+                break
+            };
             if self.tree.node(group.node).first >= end {
                 break;
             }
@@ -145,7 +146,9 @@ impl<'a> Printer<'a> {
             self.next_group = next.saturating_add(1);
         }
         for next in top..usize::MAX {
-            let Some(group) = self.groups.get(next).copied() else { break };
+            let Some(group) = self.groups.get(next).copied() else {
+                break
+            };
             self.read_group(group);
         }
         // Groups are before the groups inside them, and are measured after them.

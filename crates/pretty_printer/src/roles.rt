@@ -67,7 +67,6 @@ impl State {
         match own.kind {
             Kind::Lexeme(word) => {
                 if let Some(head) = head_of(word) {
-                    role = if self.head == Head::Impl && word == Lexeme::For { Role::Target } else { role };
                     self.take_head(word, head, previous, tree.next(index));
                 } else if word == Lexeme::Where && is_item(self.head) {
                     role = Role::Where;
@@ -111,15 +110,18 @@ impl State {
         let item = is_item(self.head);
         let role = self.brace_role(own, previous, next);
         let value = awaits_operand(previous) && !(passed == 1 && previous.is_word(Lexeme::Prefix));
-        let sign = matches!(next.kind, Kind::Sign(Sign::Arm | Sign::One(';' | ',' | '.' | '?')));
-        let goes_on = sign || next.is_word(Lexeme::Else);
+        let goes_on = match next.kind {
+            Kind::Lexeme(word) => word == Lexeme::Else,
+            Kind::Sign(sign) => matches!(sign, Sign::Arm | Sign::One(';' | ',' | '.' | '?')),
+            _ => false,
+        };
         let second = tree.next(self.start);
         let statement = match tree.atom(self.start).kind {
             Kind::Group(_) => passed == 0,
             Kind::Lexeme(Lexeme::Lifetime) => true,
             // For example `unsafe` and `async move`.
             Kind::Lexeme(Lexeme::Prefix) => passed < 3,
-            Kind::Lexeme(Lexeme::Name | Lexeme::Derive | Lexeme::MacroRules | Lexeme::Format) => {
+            Kind::Lexeme(Lexeme::Name | Lexeme::Derive | Lexeme::MacroRules) => {
                 // For example `m! {}` and `union U {}`.
                 matches!(second.role, Role::Bang | Role::Path) || second.is_any_word()
             }
@@ -188,7 +190,8 @@ impl State {
             _ if self.inside == Role::Attribute && previous.is_word(Lexeme::Derive) =>
                 Role::Repeated,
             _ if matches!(self.inside, Role::Attribute | Role::Meta) => Role::Meta,
-            _ if previous.is_value() && !previous.ends || previous.role == Role::Bang => Role::Plain,
+            _ if previous.is_value() && !previous.ends || previous.role == Role::Bang =>
+                Role::Plain,
             _ => Role::Tuple,
         }
     }

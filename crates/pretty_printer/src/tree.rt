@@ -154,7 +154,10 @@ impl Tree {
         node.first = first;
         node.end = end;
         push_item(&mut self.nodes, node, &mut self.failure);
-        if self.failure.is_some() { NOWHERE } else { index }
+        match self.failure {
+            Some(_) => NOWHERE,
+            None => index,
+        }
     }
 
     /// Makes a finished node the last child of another, unless one of them is missing.

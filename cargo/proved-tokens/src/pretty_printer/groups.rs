@@ -26,7 +26,10 @@ impl Tree {
         // A call that is too long as the only argument breaks its lines, and so do its own arguments.
         let tall = last.must || self.is_tall(own.from, own.until);
         let forced = own.must && !tall && atom.role == Role::Plain && own.child == own.last;
-        let group = if last.form == Form::Group { own.last } else { last.last };
+        let group = match last.form {
+            Form::Group => own.last,
+            _ => last.last,
+        };
         let opens = !forced || self.node(group).form == Form::Group;
         if !opens || !inside && self.column.saturating_add(head) >= WIDTH {
             return self.lay_lines(task, task.node);
@@ -74,12 +77,9 @@ impl Tree {
         let comma = atom.is_round() && self.previous(until).role == Role::Comma;
         let fits = comma && self.width(from, until) <= CALL + 1 && self.fit(from, until, tail);
         let list = atom.is_list() && !fits && !matches!(atom.role, Role::Params | Role::Repeated);
-        let format = self.atom(own.first.saturating_sub(2)).is_word(Lexeme::Format);
-        let most = if format { usize::MAX } else { SHORT };
-        let short = list && self.are_short(from, until, Role::Comma, most);
+        let short = list && self.are_short(from, until, Role::Comma, SHORT);
         match atom.role {
             Role::Use if self.find_role(from, until, Role::Use) < until => LayStep::Names,
-            _ if format && short => LayStep::Names,
             role if role == Role::Use || short => LayStep::Fill,
             _ => LayStep::Part,
         }
@@ -91,9 +91,8 @@ impl Tree {
         for index in from..end {
             let atom = self.atom(index);
             let mark = matches!(atom.role, Role::Dot | Role::Before | Role::After);
-            let width = self.width(start, index.saturating_add(1));
-            let short = width <= most && !(atom.tall && most < usize::MAX);
-            match atom.role == between || atom.role == Role::Separator {
+            let short = !atom.tall && self.width(start, index.saturating_add(1)) <= most;
+            match atom.role == between {
                 true => start = index.saturating_add(1),
                 false if short && (mark || atom.is_any_word()) => {}
                 false => return false,
@@ -110,12 +109,8 @@ impl Tree {
             self.put(last.end, part.first);
         }
         let fills = match task.step {
-            // A path in imports with inner lists has its own line, and so has the format string of a macro's call.
-            LayStep::Names => {
-                let text = self.atom(last.first).is_word(Lexeme::String)
-                    || self.atom(part.first).is_word(Lexeme::String);
-                !text && self.find_role(last.first, part.end, Role::Path) == part.end
-            }
+            // A path in imports with inner lists has its own line.
+            LayStep::Names => self.find_role(last.first, part.end, Role::Path) == part.end,
             step => step == LayStep::Fill,
         };
         if !first && fills && self.fits(part, 2) {
@@ -163,12 +158,6 @@ impl Tree {
         let space = (task.at > own.first && self.atom(task.at).is_spaced()) as usize;
         if !child.must && self.fit(task.at, own.until, tail.saturating_add(space)) {
             return self.push(task.step, task, child.next, task.at);
-        }
-        if self.previous(child.first).role == Role::Colon || atom.role == Role::Target {
-            self.write(own, task.at, child.first);
-            self.begin_line(child.first, deeper(task.indent));
-            self.leave(LayStep::Apart, task, child);
-            return self.lay(task.child, task.indent, 0);
         }
         let result = atom.role != Role::Less && !atom.is_round();
         if result && self.fit(task.at, own.until, space) {

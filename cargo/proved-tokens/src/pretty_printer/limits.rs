@@ -13,6 +13,7 @@ const META: usize = 70;
 const BRANCHES: usize = 50;
 /// The largest widths of the fields of a struct literal, and of a variant.
 const FIELDS: usize = 18;
+
 const VARIANT: usize = 35;
 /// The width from which the name of a call is long: a chain as its only argument begins on the next line.
 const NAME: usize = 4;

@@ -108,11 +108,7 @@ impl Tree {
             self.append(node, self.atom(from).node);
             from = from.saturating_add(1);
         }
-        let target = if impls { self.find_role(from, head, Role::Target) } else { head };
-        if target < head {
-            let result = self.push_node(Form::Plain, target, head);
-            self.append(node, result);
-        } else if !impls && (self.width(from, head) > SHORT || self.is_tall(from, head)) {
+        if !impls && (self.width(from, head) > SHORT || self.is_tall(from, head)) {
             let result = self.read_expression(from.saturating_add(1), head);
             self.append(node, result);
         }

@@ -48,8 +48,10 @@ pub fn push_list<'a>(
             TokenTree::Literal(literal) => literal_atom(literal.text()),
             TokenTree::Punct(mark) => mark_atom(mark, after),
         };
-        let more = atom.tokens().saturating_sub(1);
-        left = if more == 0 { after } else { after.get(more..after.len()).unwrap_or(&[]) };
+        left = match atom.tokens().saturating_sub(1) {
+            0 => after,
+            more => after.get(more..after.len()).unwrap_or(&[]),
+        };
         tree.atoms.push_fallibly(atom)?;
     }
     tree.atoms.push_fallibly(NOTHING)?;
@@ -85,8 +87,10 @@ fn ident_atom(ident: &Ident) -> Atom {
 /// Returns the atom of a literal with this text. It needs several lines if its text has several.
 fn literal_atom(text: &str) -> Atom {
     // A raw string begins with `r`.
-    let string = text.starts_with("\"") || text.starts_with("r");
-    let word = if string { Lexeme::String } else { Lexeme::Literal };
+    let word = match text.starts_with("\"") || text.starts_with("r") {
+        true => Lexeme::String,
+        false => Lexeme::Literal,
+    };
     let (line, _) = text.split_once('\n').unwrap_or((text, ""));
     let mut atom = Atom::new(Kind::Lexeme(word), char_count(line));
     atom.tall = line.len() < text.len();

@@ -32,7 +32,10 @@ impl Tree {
         // The first call of a short root that begins a line is on its line.
         let next = self.node(own.child).next;
         let short = self.distance(own.first, self.node(next).first) <= TAB;
-        let joined = if short && self.column <= task.indent { next } else { own.child };
+        let joined = match short && self.column <= task.indent {
+            true => next,
+            false => own.child,
+        };
         let root = *self.node(joined);
         self.put(own.first, root.first);
         self.leave(LayStep::Next, task, &root);
@@ -72,7 +75,11 @@ impl Tree {
         }
         self.put(task.at, child.first);
         self.lead(own, child.first);
-        self.lay(task.child, if orphan { task.indent } else { inner }, task.tail);
+        self.lay(
+            task.child,
+            if orphan { task.indent } else { inner },
+            task.tail,
+        );
     }
 
     /// Writes the next side of an assignment or a `let`, or the block after `else`.
