@@ -18,9 +18,10 @@ pub fn describe_impl(item: &TokenStream, spans: &mut Spans) -> Result<TokenStrea
     let mut errors = Vec::new();
     let options = Options::read(item.attributes, &["crate", "rename"], &mut errors);
     let trait_path = trait_path(options.path("crate"), spans);
-    let mut writer = Writer { trait_path, types: Vec::new(), errors, spans };
+    let is_deprecated = Attributes::new(item.attributes).any(|attribute| attribute.is("deprecated"));
+    let mut writer = Writer { trait_path, is_deprecated, types: Vec::new(), errors, spans };
     let arms = writer.arms(&item, &options)?;
-    let Writer { trait_path, types, errors, spans } = writer;
+    let Writer { trait_path, types, errors, spans, .. } = writer;
     all_errors(errors).map_or(Ok(()), Err)?;
     let bounded = named_parameters(&item, &types)?;
     let clause = where_clause_with(&item, &quote! { #( #bounded: #trait_path ),* })?;
@@ -75,6 +76,8 @@ fn allowed_lints(attributes: &[TokenTree]) -> TokenStream {
 /// What the arms are written with, and what is found on the way.
 struct Writer<'a, 's> {
     trait_path: TokenStream,
+    /// Whether the item has the attribute `deprecated`. Types that are written may then have a deprecated name in them.
+    is_deprecated: bool,
     /// The types of the fields that the trait describes.
     types: Vec<&'a [TokenTree]>,
     errors: Vec<CompileError>,
@@ -161,6 +164,7 @@ impl<'a> Writer<'a, '_> {
         let called = without_groups(function.unwrap_or(field_type));
         let call = match function {
             Some(_) => quote_spanned! {place=> #called(#local) },
+            None if self.is_deprecated => quote_spanned! {place=> #trait_path::describe(#local) },
             None => quote_spanned! {place=> <#called as #trait_path>::describe(#local) },
         };
         (local, call)

@@ -128,6 +128,18 @@ fn deprecated_types() {
     assert_eq!(old.describe(), "Old { field: 1 }");
 }
 
+#[test]
+fn deprecated_types_with_themselves_inside() {
+    #[derive(Describe)]
+    #[deprecated]
+    struct List {
+        next: Option<Box<List>>,
+    }
+    #[allow(deprecated)]
+    let list = List { next: Some(Box::new(List { next: None })) };
+    assert_eq!(list.describe(), "List { next: List { next: nothing } }");
+}
+
 mod without_prelude {
     #![no_implicit_prelude]
 
