@@ -179,6 +179,9 @@ fn calls_in_place_of_syns_on_attributes_parameters_and_errors() -> Outcome {
     let list: TokenStream = "clippy::all".parse()?;
     let (entry, _) = parse_entry(list.trees())?;
     assert_eq!(TokenStream::from(entry.path).to_string(), "clippy :: all");
+    let list: TokenStream = "crate = a::b".parse()?;
+    let (entry, _) = parse_entry(list.trees())?;
+    assert!(entry.is("crate"));
     let checked = || -> Result<(), CompileError> { Ok(check_entries(trees, known)?) };
     let mut error = checked().err().ok_or("it is known")?;
     assert_eq!(error.to_string(), "unknown entry `c`; known are `skip`, `d`");
