@@ -177,8 +177,7 @@
 //!   these parts: a type, and bounds after `:`. Then comes a `,`, or nothing
 //! - <a id="declarations.Forms.IsTupleField"></a>**IsTupleField**: a field without a name: attributes, a
 //!   visibility and a type
-//! - <a id="declarations.Forms.IsType"></a>**IsType**: a type. It begins where an operand must come, and ends
-//!   where none must come and no angle bracket is open
+//! - <a id="declarations.Forms.IsType"></a>**IsType**: a type
 //! - <a id="declarations.Item.IsTypeItem"></a>**IsTypeItem**: the trees are an item with these parts. In order
 //!   the parts are the trees, and each part is what its rule reads from there on
 //! - <a id="declarations.TypePath.IsTypePath"></a>**IsTypePath**: the trees are a path, and these are its parts
@@ -207,22 +206,17 @@
 //! - <a id="declarations.Reading.Reads"></a>**Reads**: the trees are the part and then the rest, and the part
 //!   has this form if the rest comes after it
 //! - <a id="declarations.Whole.ReadsAll"></a>**ReadsAll**: all of the trees are one part of the form
-//! - <a id="declarations.rules.Pieces.ReadsBy"></a>**ReadsBy**: the form has exactly the pieces of the rule, at
-//!   the start of any signs
 //! - <a id="declarations.Param.ReadsElement"></a>**ReadsElement**: the trees begin with what the rule reads.
 //!   Then comes a `,` and the rest, or nothing
+//! - <a id="declarations.Syntax.TablesRead"></a>**TablesRead**: each table reads exactly the pieces of its rule
 //! - <a id="declarations.Attribute.after_path"></a>**after_path**: the trees after the path that the trees
 //!   begin with
-//! - <a id="declarations.rules.Items.any_item"></a>**any_item**: an item of any kind, or a group without
-//!   delimiters
-//! - <a id="declarations.rules.Parts.attributes"></a>**attributes**: any number of attributes
 //! - <a id="declarations.Attribute.attributes_in"></a>**attributes_in**: the attributes at the start of the
 //!   trees, up to the first trees that are no attribute
 //! - <a id="declarations.Bare.bare_trees"></a>**bare_trees**: the trees; or if they are one group without
 //!   delimiters, the trees in the innermost of such groups
 //! - <a id="declarations.File.body_of"></a>**body_of**: the braces with the items of an item of this kind, if
 //!   it has such braces
-//! - <a id="declarations.rules.Types.bounds"></a>**bounds**: bounds, with `+` between two
 //! - <a id="declarations.Ending.closing_of"></a>**closing_of**: the span of the group's closing delimiter
 //! - <a id="declarations.CompileError.compile_error"></a>**compile_error**: the trees of
 //!   `::core::compile_error! { "text" }`, each with this span
@@ -231,15 +225,9 @@
 //! - <a id="declarations.Ending.ending_at"></a>**ending_at**: the error with this span, if it has none
 //! - <a id="declarations.Entry.entry_extent"></a>**entry_extent**: the span of the first tree of an entry that
 //!   has this kind and this path
-//! - <a id="declarations.rules.Expressions.expression"></a>**expression**: an expression, from where an operand
-//!   must come
 //! - <a id="declarations.Fault.extent_at"></a>**extent_at**: the span of the tree with this index, or nothing
 //!   if there are not so many trees
 //! - <a id="declarations.Fault.fault_text"></a>**fault_text**: the message of an error
-//! - <a id="declarations.rules.Parts.field"></a>**field**: a field: attributes, a visibility, a name, `:` and a
-//!   type
-//! - <a id="declarations.rules.Parts.fields"></a>**fields**: fields, with `,` between two and perhaps after the
-//!   last
 //! - <a id="declarations.rules.Rules.follows"></a>**follows**: whether a sign of this class may follow the rule
 //! - <a id="declarations.rules.Functions.function_item"></a>**function_item**: a function: attributes, a
 //!   visibility, qualifiers, `fn`, a name, generic parameters, parameters and the rest
@@ -247,13 +235,10 @@
 //!   function: attributes, and then a receiver, a pattern and its type, or `...`
 //! - <a id="declarations.rules.Paths.generic_argument"></a>**generic_argument**: a generic argument: a
 //!   lifetime, a constant, a type, a name with `=` and a type, or a name with `:` and bounds
-//! - <a id="declarations.rules.Parts.generics"></a>**generics**: generic parameters in angle brackets, or
-//!   nothing
 //! - <a id="declarations.Expected.holds"></a>**holds**: whether the class is in the set
 //! - <a id="declarations.Expected.holds_end"></a>**holds_end**: whether the end is in the set
 //! - <a id="declarations.rules.ImplItems.impl_item"></a>**impl_item**: an `impl`: attributes, a visibility,
 //!   qualifiers, `impl` and the rest
-//! - <a id="declarations.rules.Parts.inner_attributes"></a>**inner_attributes**: any number of inner attributes
 //! - <a id="declarations.Attribute.inside"></a>**inside**: the trees in the attribute's brackets; or if these
 //!   are one group without delimiters, the trees in it
 //! - <a id="declarations.Item.is_keyword"></a>**is_keyword**: whether an identifier is a keyword, and so cannot
@@ -277,19 +262,7 @@
 //!   groups without delimiters
 //! - <a id="declarations.CompileError.span_or_call_site"></a>**span_or_call_site**: the span at which an error
 //!   is reported: that of the tree, or the call site if trees are missing
-//! - <a id="declarations.rules.Parts.tuple_field"></a>**tuple_field**: a field without a name: attributes, a
-//!   visibility and a type
-//! - <a id="declarations.rules.Parts.tuple_fields"></a>**tuple_fields**: fields without names
-//! - <a id="declarations.rules.Types.type"></a>**type**: a type
-//! - <a id="declarations.rules.Items.type_item"></a>**type_item**: a struct, an enum or a union, with its
-//!   attributes and its visibility
 //! - <a id="declarations.rules.Paths.type_path"></a>**type_path**: a path of a type
-//! - <a id="declarations.rules.Parts.variant"></a>**variant**: a variant: attributes, a visibility, a name,
-//!   perhaps fields, perhaps a discriminant
-//! - <a id="declarations.rules.Parts.variants"></a>**variants**: variants, with `,` between two and perhaps
-//!   after the last
-//! - <a id="declarations.rules.Parts.visibility"></a>**visibility**: a visibility, or nothing
-//! - <a id="declarations.rules.Parts.where_clause"></a>**where_clause**: a where clause, or nothing
 //!
 //! # Words of `explain`
 //!

@@ -1,7 +1,7 @@
 -- Items of any kind, from their attributes on.
 use Rattle.std.proofs.Common.{◌≡◌, refl, sym, ◌∙◌, ap, ℕ, ◌-◌, Bool, true, false, ◌||◌, List, [], ◌∷◌, ◌++◌, length}
 use Rattle.std.proofs.Common.{Option, arith, ◌≤◌}
-use Rattle.std.specs.Prelude.{◌↔◌, Result, Ok, Err}
+use Rattle.std.specs.Prelude.{Result, Ok, Err}
 use Rattle.std.specs.Borrow.{Bor}
 use Rattle.grammars.specs.Deterministic.{IsStart}
 use Rattle.grammars.specs.Find.{Past, Stuck}
@@ -19,9 +19,8 @@ use Rattle.declarations.specs.Forms.{IsAnyItem}
 use Rattle.declarations.specs.ItemFront.{IsKindAt, ReadsAny, ReadsItem, ReadsKind}
 use Rattle.declarations.specs.Kind.{HasKind, ReadsUpTo, keyword_rule, name_at, named_rule}
 use Rattle.declarations.specs.Reader.{Finds, Sticks, classes_in}
-use Rattle.declarations.specs.Reading.{FaultAt, IsOnly, Reads, StopsBefore}
-use Rattle.declarations.specs.Signs.{BeginsWith, classes_of, signs, trees_of}
-use Rattle.declarations.specs.Walk.{IsFront}
+use Rattle.declarations.specs.Reading.{FaultAt, IsOnly, Reads}
+use Rattle.declarations.specs.Signs.{BeginsWith, trees_of}
 use Rattle.declarations.specs.Whole.{IsWhole, ReadsAll}
 use Rattle.declarations.specs.declared.any_item.ItemKind.{ItemKind}
 use Rattle.declarations.specs.declared.any_item.ItemKind.TheVariants as kinds
@@ -34,20 +33,18 @@ use Rattle.item_tables.specs.declared.class.Keyword.TheVariants as keywords
 use Rattle.declarations.specs.rules.Items.{any_item, any_rest, declaration, private_item}
 use Rattle.declarations.specs.rules.Names.{Front, G, Visible, key, one}
 use Rattle.declarations.specs.rules.Parts.{attributes, restriction, visibility, visible}
-use Rattle.declarations.specs.rules.Pieces.{ByRule}
 use Rattle.declarations.specs.rules.Rules.{follows, rules}
-use Rattle.declarations.proofs.FormLemmas.{any_items}
-use Rattle.declarations.proofs.PartReaderLemmas.{part_only, part_reads}
 use Rattle.declarations.proofs.ReaderLemmas.{first_finds, first_sticks, heads_none, heads_sign, mark_finds, mark_sticks}
 use Rattle.declarations.proofs.ReaderLemmas.{other_finds, other_sticks, perhaps_stays, remains_span, remains_within}
 use Rattle.declarations.proofs.ReaderLemmas.{sign_finds}
 use Rattle.declarations.proofs.ReaderLemmas.{then_fails, then_finds, then_sticks}
 use Rattle.declarations.proofs.RuleExpectsLemmas.{left_expects, stuck_expects}
-use Rattle.declarations.proofs.RuleFormLemmas.{found_reads, stuck_fault}
 use Rattle.declarations.proofs.RuleLemmas.{starts}
-use Rattle.declarations.proofs.RuleWholeLemmas.{left_whole, stuck_whole, whole_read}
-use Rattle.declarations.proofs.TransferLemmas.{expects_to, reads_back, reads_to}
 use Rattle.declarations.proofs.TreeLemmas.{or_nothing}
+use Rattle.declarations.proofs.StartLemmas as begin
+use Rattle.declarations.proofs.RuleWholeLemmas.{whole_read}
+use Rattle.declarations.proofs.RuleFaultLemmas.{rule_fault, rule_left, rule_stuck}
+use Rattle.declarations.proofs.RuleFormLemmas.{found_only, found_reads}
 
 -- what functions return
 abbrev Found : Type 0
@@ -198,8 +195,8 @@ has_kind trees from_visibility from_qualifiers kind named rest a v i = record {
   from_qualifiers = from_qualifiers;
   from_keyword = i.from_keyword;
   from_name = named;
-  attributes = up_to attributes (starts attributes refl refl) trees from_visibility a;
-  visibility = up_to visibility (starts visibility refl refl) from_visibility from_qualifiers v;
+  attributes = up_to attributes begin.attributes_starts trees from_visibility a;
+  visibility = up_to visibility begin.visibility_starts from_visibility from_qualifiers v;
   qualifiers = i.qualifiers;
   keyword = up_to (keyword_rule kind) (keyword_start kind) i.from_keyword named i.keyword;
   item = up_to (named_rule kind) (named_start kind) named rest i.item;
@@ -223,73 +220,25 @@ pub ruleset any_items_read = (any_reads, any_attributes)
 -- ---- what is promised
 
 starts_any : IsStart rules follows (any_item ∷ [])
-starts_any = starts any_item refl refl
-
--- forms with the same pieces have the same errors
-module _ (A B : List SignClass → List SignClass → Type 0)
-    (by : (piece rest : List SignClass) → B piece rest ↔ A piece rest) where
-  goes_to : (front : List SignClass) → IsFront A front → IsFront B front
-  goes_to front f = record {
-    more = f.more;
-    piece = f.piece;
-    rest = f.rest;
-    whole = f.whole;
-    stands = (by f.piece f.rest).1 f.stands;
-  }
-
-  goes_back : (front : List SignClass) → IsFront B front → IsFront A front
-  goes_back front f = record {
-    more = f.more;
-    piece = f.piece;
-    rest = f.rest;
-    whole = f.whole;
-    stands = (by f.piece f.rest).0 f.stands;
-  }
-
-  stops_to : (front left : List SignClass) → StopsBefore A front left → StopsBefore B front left
-  stops_to front [] s = s
-  stops_to front (c ∷ left) s = λ goes. s (goes_back (front ++ c ∷ []) goes)
-
-  pub fault_to : (trees : List TokenTree) (at : ℕ) → FaultAt A trees at → FaultAt B trees at
-  fault_to trees at f = record {
-    front = f.front;
-    left = f.left;
-    read = f.read;
-    whole = f.whole;
-    counted = f.counted;
-    goes_on = goes_to (classes_of f.front) f.goes_on;
-    longest = stops_to (classes_of f.front) (classes_of (signs f.left)) f.longest;
-    nothing = λ part rest reads. f.nothing part rest (reads_back A B by trees part rest reads);
-  }
-
-whole_by : (piece rest : List SignClass) → IsWhole IsAnyItem piece rest ↔ IsWhole (ByRule any_item) piece rest
-whole_by piece rest = (
-  λ w. ((any_items piece rest).0 w.0, w.1),
-  λ w. ((any_items piece rest).1 w.0, w.1),
-)
+starts_any = begin.any_item_starts
 
 pub item_reads : (trees part rest : List TokenTree) → Finds any_item trees rest → trees ≡ part ++ rest
     → Reads IsAnyItem trees part rest
-item_reads = part_reads any_item IsAnyItem any_items starts_any
+item_reads = found_reads any_item starts_any
 
 pub item_only : (trees part rest : List TokenTree) → Finds any_item trees rest → trees ≡ part ++ rest
     → IsOnly IsAnyItem trees part rest
-item_only = part_only any_item IsAnyItem any_items starts_any
+item_only = found_only any_item starts_any
 
 pub item_fault : (trees left : List TokenTree) (at : ℕ) → Sticks any_item trees left
     → at ≡ length trees - length left
     → FaultAt IsAnyItem trees at
-item_fault trees left at f counted =
-    let within = remains_within trees left f.remains in
-    fault_to (ByRule any_item) IsAnyItem any_items trees at
-    (stuck_fault any_item starts_any trees left at f (omega arith))
+item_fault = rule_fault any_item starts_any
 
 pub item_expects : (trees left : List TokenTree) (at : ℕ) (set : Expected) → Sticks any_item trees left
     → at ≡ length trees - length left → ExpectsWhole any_item trees set
     → Expects IsAnyItem trees at set
-item_expects trees left at set f counted e =
-    expects_to (ByRule any_item) IsAnyItem any_items trees at set
-    (stuck_expects any_item starts_any trees left at set f counted e)
+item_expects = stuck_expects any_item starts_any
 
 -- the tree of an error
 pub stuck_span : (trees left : List TokenTree) (at : ℕ) (span : Option Extent) → Sticks any_item trees left
@@ -313,32 +262,22 @@ pub ruleset promises = (item_reads, item_only, item_fault, item_expects, stuck_s
 -- ---- all of the trees
 
 pub item_all : (trees rest : List TokenTree) → Finds any_item trees rest → length rest ≡ 0 → ReadsAll IsAnyItem trees
-item_all trees rest f none =
-    reads_to (IsWhole (ByRule any_item)) (IsWhole IsAnyItem) whole_by trees trees []
-    (whole_read any_item starts_any trees rest f none)
+item_all = whole_read any_item starts_any
 
 pub item_left : (trees rest : List TokenTree) (at : ℕ) → Finds any_item trees rest → (length rest ≡ 0 → ⊥)
     → at ≡ length trees - length rest
     → FaultAt (IsWhole IsAnyItem) trees at
-item_left trees rest at f some counted =
-    let within = remains_within trees rest f.remains in
-    fault_to (IsWhole (ByRule any_item)) (IsWhole IsAnyItem) whole_by trees at
-    (left_whole any_item starts_any trees rest at f some (omega arith))
+item_left = rule_left any_item starts_any
 
 pub item_stuck : (trees left : List TokenTree) (at : ℕ) → Sticks any_item trees left
     → at ≡ length trees - length left
     → FaultAt (IsWhole IsAnyItem) trees at
-item_stuck trees left at f counted =
-    let within = remains_within trees left f.remains in
-    fault_to (IsWhole (ByRule any_item)) (IsWhole IsAnyItem) whole_by trees at
-    (stuck_whole any_item starts_any trees left at f (omega arith))
+item_stuck = rule_stuck any_item starts_any
 
 pub left_over : (trees rest : List TokenTree) (at : ℕ) (set : Expected) → Finds any_item trees rest
     → (length rest ≡ 0 → ⊥) → at ≡ length trees - length rest → ExpectsWhole any_item trees set
     → Expects IsAnyItem trees at set
-left_over trees rest at set f some counted e =
-    expects_to (ByRule any_item) IsAnyItem any_items trees at set
-    (left_expects any_item starts_any trees rest at set f some counted e)
+left_over = left_expects any_item starts_any
 
 -- no trees are left
 pub all_kind : (trees rest : List TokenTree) (kind : ItemKind) (name : Option Written) → HasKind trees rest kind name

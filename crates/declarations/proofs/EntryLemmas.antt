@@ -21,9 +21,10 @@ use Rattle.declarations.specs.Bare.{has_no_delimiters}
 use Rattle.declarations.specs.Entry.{HasArgs, HasLiteral, HasParts, IsListAt, IsOnlyRest, IsPlainEntryAt}
 use Rattle.declarations.specs.Entry.{ReadsEntry}
 use Rattle.declarations.specs.Fault.{extent_at, first_extent}
-use Rattle.declarations.specs.Forms.{start}
+use Rattle.declarations.specs.Syntax.{start}
 use Rattle.declarations.specs.Reader.{Finds, ReadsRule, Sticks, classes_in}
-use Rattle.declarations.specs.Reading.{FaultAt, Reads, StopsAt}
+use Rattle.declarations.specs.Reading.{FaultAt, Reads}
+use Rattle.declarations.specs.Tables.{StopsAt}
 use Rattle.declarations.specs.Signs as signs_in
 use Rattle.declarations.specs.Signs.{BeginsWith, group_class, is_restriction, parentheses_class, trees_of}
 use Rattle.item_tables.specs.declared.class.SignClass.{SignClass}

@@ -14,23 +14,15 @@ use Rattle.declarations.specs.Explore.{ExpectsWhole}
 use Rattle.declarations.specs.Fault.{extent_at, first_extent}
 use Rattle.declarations.specs.Field.{HasColonType, HasFieldParts, HasFront, HasNameType, IsFieldAt, IsNamed}
 use Rattle.declarations.specs.Field.{ReadsFront, field_rest}
-use Rattle.declarations.specs.Forms.{AreAttributes, IsField, IsFrom, IsType, start}
+use Rattle.declarations.specs.Forms.{AreAttributes, IsField, IsType}
 use Rattle.declarations.specs.Function.{IsNameAt}
 use Rattle.declarations.specs.Reader.{Finds, Remains, Sticks}
 use Rattle.declarations.specs.Reading.{FaultAt, Reads}
 use Rattle.declarations.specs.Signs.{BeginsWith, Sign, classes_of, pair_class, signs, tree_class, trees_of}
-use Rattle.declarations.specs.Walk.{Stops}
 use Rattle.declarations.specs.Whole.{ReadsAll}
 use Rattle.item_tables.specs.Classes.{is}
-use Rattle.item_tables.specs.Grammar.{step}
 use Rattle.item_tables.specs.declared.class.SignClass.{SignClass}
 use Rattle.item_tables.specs.declared.class.SignClass.TheVariants as classes
-use Rattle.item_tables.specs.declared.walk_state.Continuation.TheVariants as places
-use Rattle.item_tables.specs.declared.walk_state.Part.TheVariants as parts
-use Rattle.item_tables.specs.declared.walk_state.Spot.TheVariants as spots
-use Rattle.item_tables.specs.declared.walk_state.State.TheVariants as states
-use Rattle.item_tables.specs.declared.walk_state.WalkState.{WalkState}
-use Rattle.item_tables.specs.declared.types.TypeState.TheVariants as types
 use Rattle.declarations.specs.declared.expected.Expected.{Expected}
 use Rattle.declarations.specs.declared.field.Field.{Field}
 use Rattle.declarations.specs.rules.Names.{G, Named, OfType, Rest, one, word}
@@ -39,20 +31,19 @@ use Rattle.declarations.specs.rules.Parts as rule
 use Rattle.declarations.specs.rules.Pieces.{ByRule}
 use Rattle.declarations.specs.rules.Rules.{follows, rules}
 use Rattle.declarations.specs.rules.Types.{type}
-use Rattle.declarations.proofs.FormLemmas as forms
 use Rattle.declarations.proofs.FunctionPartLemmas.{name_finds}
 use Rattle.declarations.proofs.PartReaderLemmas as parts_read
 use Rattle.declarations.proofs.ReaderLemmas.{heads_none, heads_sign, lacks, mark_finds, mark_sticks}
 use Rattle.declarations.proofs.ReaderLemmas.{remains_span, sign_finds, then_fails, then_finds, then_sticks}
 use Rattle.declarations.proofs.ReadingLemmas.{classes-append, trees-append}
-use Rattle.declarations.proofs.RuleFaultLemmas as faults
+use Rattle.declarations.proofs.RuleExpectsLemmas.{stuck_expects}
+use Rattle.declarations.proofs.RuleFaultLemmas.{rule_fault}
 use Rattle.declarations.proofs.RuleFormLemmas.{found_reads}
-use Rattle.declarations.proofs.RuleLemmas.{starts}
 use Rattle.declarations.proofs.SignLemmas.{after_first_sign, pair_signs, signs-cons}
 use Rattle.declarations.proofs.SortLemmas.{marks, sort_of}
-use Rattle.declarations.proofs.TransferLemmas.{reads_to}
 use Rattle.declarations.proofs.ClassLemmas.{same_class}
 use Rattle.declarations.proofs.TreeLemmas.{is_mark_sign, or_nothing}
+use Rattle.declarations.proofs.StartLemmas as begin
 
 -- ---- a part without the trees after it
 
@@ -109,9 +100,9 @@ alone_signs (sign ∷ piece) trees rest read whole =
     first_alone trees (trees_of piece) rest sign (piece ++ signs rest) read all ∙ ap (λ ss. sign ∷ ss) here
 
 -- what is read before a rest is also read if there is no rest
-pub reads_alone : (place : WalkState) (trees part rest : List TokenTree) → Reads (IsFrom place) trees part rest
-    → ReadsAll (IsFrom place) part
-reads_alone place trees part rest reads =
+pub reads_alone : (g : G) (trees part rest : List TokenTree) → Reads (ByRule g) trees part rest
+    → ReadsAll (ByRule g) part
+reads_alone g trees part rest reads =
     let alone : signs part ≡ reads.piece =
     ap signs reads.taken
     ∙ alone_signs reads.piece trees rest reads.read (reads.whole ∙ ap (λ p. p ++ rest) reads.taken) in
@@ -121,26 +112,16 @@ reads_alone place trees part rest reads =
       taken = reads.taken;
       whole = sym (append-nil part);
       stands = (
-        record {
-          last = reads.stands.last;
-          walks = reads.stands.walks;
-          ended = reads.stands.ended;
-          stops = tt;
-        },
+        record { events = reads.stands.events; reading = reads.stands.reading; longest = λ c more e. cc },
         refl,
       );
     }
 
--- a walk that stops before some signs also stops before the first of them
-stops_before : (place : WalkState) (cs more : List SignClass) → Stops step place (cs ++ more) → Stops step place cs
-stops_before place [] more stops = tt
-stops_before place (c ∷ cs) more stops = stops
-
 -- what is read before other trees is also read if the last of these trees are left away
-pub reads_before : (place : WalkState) (trees part mid rest : List TokenTree) → Reads (IsFrom place) trees part mid
+pub reads_before : (g : G) (trees part mid rest : List TokenTree) → Reads (ByRule g) trees part mid
     → (b : Remains rest mid)
-    → Reads (IsFrom place) (part ++ trees_of b.front) part (trees_of b.front)
-reads_before place trees part mid rest reads b =
+    → Reads (ByRule g) (part ++ trees_of b.front) part (trees_of b.front)
+reads_before g trees part mid rest reads b =
     let all : signs trees ≡ (reads.piece ++ b.front) ++ signs rest =
     reads.read ∙ (ap (λ ss. reads.piece ++ ss) b.read ∙ sym (append_assoc reads.piece b.front (signs rest))) in
     let both : part ++ trees_of b.front ≡ trees_of (reads.piece ++ b.front) =
@@ -149,8 +130,9 @@ reads_before place trees part mid rest reads b =
     reads.whole ∙ (ap (λ ts. part ++ ts) b.whole
     ∙ (sym (append_assoc part (trees_of b.front) rest) ∙ ap (λ ts. ts ++ rest) both)) in
     let here : signs (trees_of b.front) ≡ b.front = alone_signs b.front mid rest b.read b.whole in
-    let classes : classes_of (signs mid) ≡ classes_of b.front ++ classes_of (signs rest) =
-    ap classes_of b.read ∙ classes-append b.front (signs rest) in
+    let classes : classes_of (signs mid) ≡ classes_of (signs (trees_of b.front)) ++ classes_of (signs rest) =
+    ap classes_of b.read
+    ∙ (classes-append b.front (signs rest) ∙ ap (λ ss. classes_of ss ++ classes_of (signs rest)) (sym here)) in
     record {
       piece = reads.piece;
       read = ap signs both ∙ (alone_signs (reads.piece ++ b.front) trees rest all whole
@@ -158,12 +140,10 @@ reads_before place trees part mid rest reads b =
       taken = reads.taken;
       whole = refl;
       stands = record {
-        last = reads.stands.last;
-        walks = reads.stands.walks;
-        ended = reads.stands.ended;
-        stops = subst (λ ss. Stops step reads.stands.last (classes_of ss)) (sym here)
-            (stops_before reads.stands.last (classes_of b.front) (classes_of (signs rest))
-            (subst (Stops step reads.stands.last) classes reads.stands.stops));
+        events = reads.stands.events;
+        reading = reads.stands.reading;
+        longest = λ c more e. reads.stands.longest c (more ++ classes_of (signs rest))
+            (classes ∙ ap (λ cs. cs ++ classes_of (signs rest)) e);
       };
     }
 
@@ -202,11 +182,8 @@ module _ (trees a v mid rest : List TokenTree) (f : ReadsFront trees a v mid) wh
       record {
         whole = refl;
         attributes_read = subst (λ r. Reads AreAttributes (a ++ r) a r) same
-            (reads_before (start places.Alone (states.At (spots.Before parts.Attributes))) trees a f.from_visibility
-            rest attributed more);
-        visibility_read =
-            reads_before (start places.Alone (states.At (spots.Before parts.Visibility))) f.from_visibility v mid rest
-            visible b;
+            (reads_before rule.attributes trees a f.from_visibility rest attributed more);
+        visibility_read = reads_before rule.visibility f.from_visibility v mid rest visible b;
       }
 
   -- attributes and a visibility before these trees, without the rest
@@ -244,7 +221,7 @@ module _ (g : G) where
 -- ---- `:` and a type
 
 pub starts_type : IsStart rules follows (type ∷ [])
-starts_type = starts type refl refl
+starts_type = begin.type_starts
 
 -- a sign that passes the test of a class has this class
 pub begins_as : (trees rest : List TokenTree) (x class : SignClass) → BeginsWith trees class rest → is x class ≡ true
@@ -323,13 +300,11 @@ pub ruleset named_types = (named_finds, named_has, named_fails, named_sticks)
 -- ---- a field
 
 pub starts_field : IsStart rules follows (rule.field ∷ [])
-starts_field = starts rule.field refl refl
+starts_field = begin.field_starts
 
 -- what is read as a type before a rest is a type by itself
 pub type_alone : (trees ty rest : List TokenTree) → Reads (ByRule type) trees ty rest → ReadsAll IsType ty
-type_alone trees ty rest reads =
-    reads_alone (start places.Alone (states.Range types.Wanted)) trees ty rest
-    (reads_to (ByRule type) IsType forms.types trees ty rest reads)
+type_alone = reads_alone type
 
 pub field_finds : (trees a v mid rest : List TokenTree) → ReadsFront trees a v mid → Finds field_rest mid rest
     → Finds rule.field trees rest
@@ -358,7 +333,7 @@ field_at trees mid rest n found f h typed named =
     typed.named.whole ∙ ap (λ r. Ident n ∷ r) (colon.1 ∙ ap (λ r. colon.0 ∷ r) typed.typed.type_read.whole) in
     record {
       part = a ++ (v ++ other);
-      reads = parts_read.part_reads rule.field IsField forms.one_field starts_field trees (a ++ (v ++ other)) rest
+      reads = found_reads rule.field starts_field trees (a ++ (v ++ other)) rest
           (field_finds trees a v mid rest f h) (front_whole trees a v mid rest f other whole);
       parts = record {
         ident = n;
@@ -378,7 +353,7 @@ pub ruleset fields_of = (field_finds, field_fails, field_sticks, field_at)
 pub field_fault : (trees left : List TokenTree) (at : ℕ) → Sticks rule.field trees left
     → at ≡ length trees - length left
     → FaultAt IsField trees at
-field_fault = faults.form_fault rule.field IsField forms.one_field starts_field
+field_fault = rule_fault rule.field starts_field
 
 pub field_span : (trees left : List TokenTree) (at : ℕ) (span : Option Extent) → Sticks rule.field trees left
     → at ≡ length trees - length left → span ≡ first_extent left
@@ -388,6 +363,6 @@ field_span trees left at span s counted first = remains_span trees left at span 
 pub field_expects : (trees left : List TokenTree) (at : ℕ) (set : Expected) → Sticks rule.field trees left
     → at ≡ length trees - length left → ExpectsWhole rule.field trees set
     → Expects IsField trees at set
-field_expects = faults.form_expects rule.field IsField forms.one_field starts_field
+field_expects = stuck_expects rule.field starts_field
 
 pub ruleset field_faults = (field_fault, field_span, field_expects)

@@ -5,19 +5,21 @@ use Rattle.std.proofs.Common.{◌∷◌, ◌++◌, length, drop, arith, append_a
 use Rattle.std.proofs.Math.Seq.{drop-append-add}
 use Rattle.std.proofs.lemmas.List.{length-append}
 use Rattle.pm_stream.specs.declared.stream.TokenTree.{TokenTree}
-use Rattle.declarations.proofs.ListLemmas.{reads_fewer}
-use Rattle.declarations.proofs.ReadingLemmas.{split_only}
 use Rattle.declarations.specs.Expected.{Expects}
 use Rattle.declarations.specs.Fault.{first_extent, extent_at}
 use Rattle.declarations.specs.File.{AreItems, AreItemsBefore, FileFaultAt, IsFile, braces, last_braces}
-use Rattle.declarations.specs.Forms.{AreInnerAttributes, IsAnyItem, any_item}
+use Rattle.declarations.specs.Forms.{AreInnerAttributes, IsAnyItem}
 use Rattle.declarations.specs.Reading.{FaultAt, Reads}
 use Rattle.declarations.specs.Whole.{ReadsAll}
 use Rattle.declarations.specs.declared.expected.Expected.{Expected}
+use Rattle.declarations.proofs.StartLemmas as begin
+use Rattle.declarations.proofs.RuleFormLemmas.{only_reading, rule_fewer}
+use Rattle.declarations.specs.rules.Parts.{inner_attributes}
+use Rattle.declarations.specs.rules.Items.{any_item}
 
 -- an item has at least one tree
 pub item_fewer : (trees part rest : List TokenTree) → Reads IsAnyItem trees part rest → length rest < length trees
-item_fewer trees part rest reads = reads_fewer any_item trees part rest refl reads
+item_fewer trees part rest reads = rule_fewer any_item begin.any_item_starts trees part rest refl reads
 
 -- ---- items one after the other
 
@@ -37,7 +39,7 @@ rest_items : (trees part rest : List TokenTree) (parts : List (List TokenTree)) 
     → AreItemsBefore parts trees [] → AreItems rest
 rest_items trees part rest [] reads none = ([], no_rest part rest (sym none ∙ reads.whole))
 rest_items trees part rest (first ∷ parts) reads before =
-    let only = split_only any_item trees part rest reads first before.0 before.1 in
+    let only = only_reading any_item begin.any_item_starts trees part rest reads first before.0 before.1 in
     (parts, subst (λ ts. AreItemsBefore parts ts []) only.1 before.2)
 
 -- if all trees are items, then so are the trees after the first item
@@ -136,7 +138,8 @@ pub not_file : (trees inner items left inner2 items2 : List TokenTree) (within :
     → Reads AreInnerAttributes trees inner items → ReadUpTo trees items left → 0 < length left
     → FaultAt IsAnyItem left within → IsFile trees inner2 items2 → ⊥
 not_file trees inner items left inner2 items2 within reads up more fault file =
-    let only = split_only _ trees inner items reads inner2 items2 file.inner_read in
+    let only = only_reading inner_attributes begin.inner_attributes_starts trees inner items reads inner2 items2
+    file.inner_read in
     item_stands left within (some_left left more) fault
     (items_left up.parts items left up.before (subst AreItems only.1 file.are_items))
 

@@ -37,6 +37,7 @@ use Rattle.declarations.proofs.RuleFormLemmas.{found_reads}
 use Rattle.declarations.proofs.RuleLemmas.{starts}
 use Rattle.declarations.proofs.RuleWholeLemmas.{left_whole, stuck_whole, whole_read}
 use Rattle.declarations.proofs.FunctionPartLemmas.{name_finds, parentheses_find}
+use Rattle.declarations.proofs.StartLemmas as begin
 
 -- ---- where a reading begins
 
@@ -44,10 +45,10 @@ pub starts_function : IsStart rules follows (rule.function_item ∷ [])
 starts_function = starts rule.function_item refl refl
 
 starts_attributes : IsStart rules follows (attributes ∷ [])
-starts_attributes = starts attributes refl refl
+starts_attributes = begin.attributes_starts
 
 starts_visibility : IsStart rules follows (visibility ∷ [])
-starts_visibility = starts visibility refl refl
+starts_visibility = begin.visibility_starts
 
 starts_qualifiers : IsStart rules follows (rule.qualifiers ∷ [])
 starts_qualifiers = starts rule.qualifiers refl refl
@@ -56,10 +57,10 @@ starts_fn : IsStart rules follows (key keywords.Fn ∷ [])
 starts_fn = starts (key keywords.Fn) refl refl
 
 starts_generics : IsStart rules follows (generics ∷ [])
-starts_generics = starts generics refl refl
+starts_generics = begin.generics_starts
 
 starts_where : IsStart rules follows (where_clause ∷ [])
-starts_where = starts where_clause refl refl
+starts_where = begin.where_clause_starts
 
 -- ---- what follows the parameters
 

@@ -44,15 +44,15 @@ use Rattle.declarations.proofs.ReaderLemmas.{perhaps_reads, perhaps_stays, then_
 use Rattle.declarations.proofs.ReaderLemmas.{sign_ends, sign_finds, sign_sticks}
 use Rattle.declarations.proofs.ReaderLemmas.{then_fails, then_finds}
 use Rattle.declarations.proofs.RuleFormLemmas.{found_reads}
-use Rattle.declarations.proofs.RuleLemmas.{starts}
 use Rattle.declarations.proofs.SignLemmas.{signs_group}
 use Rattle.declarations.proofs.TreeLemmas.{or_nothing}
 use Rattle.declarations.proofs.SortLemmas.{is_group_sign, groups, is_identifier_sign, names, sort_of, unseen}
+use Rattle.declarations.proofs.StartLemmas as begin
 
 -- ---- where a reading begins
 
 starts_type : IsStart rules follows (type ∷ [])
-starts_type = starts type refl refl
+starts_type = begin.type_starts
 
 -- ---- generic parameters
 

@@ -15,10 +15,11 @@ use Rattle.pm_span.specs.Extent.{Extent}
 use Rattle.pm_stream.specs.declared.stream.TokenTree.{TokenTree}
 use Rattle.declarations.specs.Entry.{IsOnlyRest}
 use Rattle.declarations.specs.Fault.{extent_at, first_extent}
-use Rattle.declarations.specs.Forms.{start}
+use Rattle.declarations.specs.Syntax.{start}
 use Rattle.declarations.specs.GenericArgument.{HasAfter, HasArgument, HasConstraint, IsArgumentAt, ReadsArgument}
 use Rattle.declarations.specs.Reader.{Finds, ReadsRule, Sticks, classes_in}
-use Rattle.declarations.specs.Reading.{FaultAt, Reads, StopsAt}
+use Rattle.declarations.specs.Reading.{FaultAt, Reads}
+use Rattle.declarations.specs.Tables.{StopsAt}
 use Rattle.declarations.specs.Signs.{BeginsWith, trees_of}
 use Rattle.item_tables.specs.declared.class.SignClass.{SignClass}
 use Rattle.item_tables.specs.declared.class.SignClass.TheVariants as signs
@@ -42,6 +43,7 @@ use Rattle.declarations.proofs.ReaderLemmas.{then_sticks}
 use Rattle.declarations.proofs.RuleFormLemmas.{found_reads, only_reading, rule_fewer, stuck_fault}
 use Rattle.declarations.proofs.RuleLemmas.{starts}
 use Rattle.declarations.proofs.TableReaderLemmas.{table_reads}
+use Rattle.declarations.proofs.StartLemmas as begin
 
 -- ---- where a reading begins
 
@@ -55,10 +57,10 @@ starts_constant : IsStart rules follows (rule.constant ∷ [])
 starts_constant = starts rule.constant refl refl
 
 starts_type : IsStart rules follows (type ∷ [])
-starts_type = starts type refl refl
+starts_type = begin.type_starts
 
 starts_bounds : IsStart rules follows (bounds ∷ [])
-starts_bounds = starts bounds refl refl
+starts_bounds = begin.bounds_starts
 
 pub bounds_read : (trees : List TokenTree) (result : Result (Bor (List TokenTree)) (Bor (List TokenTree)))
     → MatchResult result

@@ -50,6 +50,7 @@ use Rattle.declarations.proofs.ReaderLemmas.{then_sticks}
 use Rattle.declarations.proofs.RuleFormLemmas.{found_reads}
 use Rattle.declarations.proofs.RuleLemmas.{starts}
 use Rattle.declarations.proofs.RuleWholeLemmas.{left_whole, stuck_whole, whole_read}
+use Rattle.declarations.proofs.StartLemmas as begin
 
 -- ---- where a reading begins
 
@@ -57,16 +58,16 @@ pub starts_item : IsStart rules follows (rule.impl_item ∷ [])
 starts_item = starts rule.impl_item refl refl
 
 starts_attributes : IsStart rules follows (attributes ∷ [])
-starts_attributes = starts attributes refl refl
+starts_attributes = begin.attributes_starts
 
 starts_visibility : IsStart rules follows (visibility ∷ [])
-starts_visibility = starts visibility refl refl
+starts_visibility = begin.visibility_starts
 
 starts_qualifiers : IsStart rules follows (rule.impl_qualifiers ∷ [])
 starts_qualifiers = starts rule.impl_qualifiers refl refl
 
 starts_generics : IsStart rules follows (generics ∷ [])
-starts_generics = starts generics refl refl
+starts_generics = begin.generics_starts
 
 starts_const : IsStart rules follows (may_const ∷ [])
 starts_const = starts may_const refl refl
@@ -75,10 +76,10 @@ starts_not : IsStart rules follows (one signs.Exclamation ∷ [])
 starts_not = starts (one signs.Exclamation) refl refl
 
 starts_type : IsStart rules follows (type ∷ [])
-starts_type = starts type refl refl
+starts_type = begin.type_starts
 
 starts_where : IsStart rules follows (where_clause ∷ [])
-starts_where = starts where_clause refl refl
+starts_where = begin.where_clause_starts
 
 -- ---- rules that go on as other rules, without labels
 

@@ -1,5 +1,5 @@
 -- Inner attributes, read by their rule.
-use Rattle.std.proofs.Common.{◌≡◌, refl, sym, ◌∙◌, ℕ, ◌-◌, ◌≤◌, Bool, List, [], ◌∷◌, ◌++◌, length, arith}
+use Rattle.std.proofs.Common.{◌≡◌, refl, sym, ◌∙◌, ℕ, ◌-◌, ◌≤◌, Bool, List, [], ◌∷◌, ◌++◌, length}
 use Rattle.std.proofs.Common.{Option}
 use Rattle.grammars.specs.Deterministic.{IsStart}
 use Rattle.grammars.specs.First.{heads}
@@ -18,17 +18,13 @@ use Rattle.item_tables.specs.declared.class.SignClass.{SignClass}
 use Rattle.item_tables.specs.declared.class.SignClass.TheVariants as signs
 use Rattle.declarations.specs.rules.Names.{one}
 use Rattle.declarations.specs.rules.Parts.{inner_attributes}
-use Rattle.declarations.specs.rules.Pieces.{ByRule}
 use Rattle.declarations.specs.rules.Rules.{follows, rules}
-use Rattle.declarations.proofs.AnyItemLemmas.{fault_to}
-use Rattle.declarations.proofs.FormLemmas.{inner}
-use Rattle.declarations.proofs.PartReaderLemmas.{part_only, part_reads}
 use Rattle.declarations.proofs.ReaderLemmas.{remains_span, remains_within}
 use Rattle.declarations.proofs.RuleExpectsLemmas.{stuck_expects}
-use Rattle.declarations.proofs.RuleFormLemmas.{stuck_fault}
-use Rattle.declarations.proofs.RuleLemmas.{starts}
-use Rattle.declarations.proofs.TransferLemmas.{expects_to}
 use Rattle.declarations.proofs.TreeLemmas.{or_nothing}
+use Rattle.declarations.proofs.StartLemmas as begin
+use Rattle.declarations.proofs.RuleFaultLemmas.{rule_fault}
+use Rattle.declarations.proofs.RuleFormLemmas.{found_only, found_reads}
 
 inner_heads : (cs : List SignClass) → heads inner_attribute cs ≡ heads (one signs.HashBang) cs
 inner_heads [] = refl
@@ -39,30 +35,25 @@ pub begins : (trees : List TokenTree) (b : Bool) → b ≡ heads (one signs.Hash
 begins trees b h = h ∙ sym (inner_heads (classes_in trees))
 
 starts_inner : IsStart rules follows (inner_attributes ∷ [])
-starts_inner = starts inner_attributes refl refl
+starts_inner = begin.inner_attributes_starts
 
 pub inner_reads : (trees part rest : List TokenTree) → Finds inner_attributes trees rest → trees ≡ part ++ rest
     → Reads AreInnerAttributes trees part rest
-inner_reads = part_reads inner_attributes AreInnerAttributes inner starts_inner
+inner_reads = found_reads inner_attributes starts_inner
 
 pub inner_only : (trees part rest : List TokenTree) → Finds inner_attributes trees rest → trees ≡ part ++ rest
     → IsOnly AreInnerAttributes trees part rest
-inner_only = part_only inner_attributes AreInnerAttributes inner starts_inner
+inner_only = found_only inner_attributes starts_inner
 
 pub inner_fault : (trees left : List TokenTree) (at : ℕ) → Sticks inner_attributes trees left
     → at ≡ length trees - length left
     → FaultAt AreInnerAttributes trees at
-inner_fault trees left at f counted =
-    let within = remains_within trees left f.remains in
-    fault_to (ByRule inner_attributes) AreInnerAttributes inner trees at
-    (stuck_fault inner_attributes starts_inner trees left at f (omega arith))
+inner_fault = rule_fault inner_attributes starts_inner
 
 pub inner_expects : (trees left : List TokenTree) (at : ℕ) (set : Expected) → Sticks inner_attributes trees left
     → at ≡ length trees - length left → ExpectsWhole inner_attributes trees set
     → Expects AreInnerAttributes trees at set
-inner_expects trees left at set f counted e =
-    expects_to (ByRule inner_attributes) AreInnerAttributes inner trees at set
-    (stuck_expects inner_attributes starts_inner trees left at set f counted e)
+inner_expects = stuck_expects inner_attributes starts_inner
 
 pub inner_span : (trees left : List TokenTree) (at : ℕ) (span : Option Extent) → Sticks inner_attributes trees left
     → at ≡ length trees - length left → span ≡ first_extent left

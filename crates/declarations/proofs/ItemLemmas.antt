@@ -54,7 +54,6 @@ use Rattle.declarations.specs.rules.Parts.{attributes, generics, where_clause}
 use Rattle.declarations.specs.rules.Pieces.{ByRule}
 use Rattle.declarations.specs.rules.Rules.{follows, rules}
 use Rattle.declarations.proofs.FieldLemmas.{begins_as, front_fails, front_finds, front_sticks, mark_first}
-use Rattle.declarations.proofs.FormLemmas as forms
 use Rattle.declarations.proofs.FunctionPartLemmas.{are_parentheses, begins_group, begins_name, name_finds, no_braces}
 use Rattle.declarations.proofs.FunctionPartLemmas.{no_round, no_sign, parentheses_find}
 use Rattle.declarations.proofs.ParameterLemmas.{finds_heads, leads_finds, leads_sign, leads_sticks}
@@ -62,18 +61,19 @@ use Rattle.declarations.proofs.PartReaderLemmas as parts_read
 use Rattle.declarations.proofs.ReaderLemmas.{first_finds, first_sticks, heads_sign, lacks, mark_finds, mark_sticks}
 use Rattle.declarations.proofs.ReaderLemmas.{other_finds, other_sticks, remains_sign, remains_span, sign_ends}
 use Rattle.declarations.proofs.ReaderLemmas.{sign_finds, sign_sticks, then_fails, then_finds, then_sticks}
-use Rattle.declarations.proofs.RuleFaultLemmas as faults
 use Rattle.declarations.proofs.RuleFormLemmas.{found_reads}
-use Rattle.declarations.proofs.RuleLemmas.{starts}
 use Rattle.declarations.proofs.SortLemmas.{is_identifier_sign, names, sort_of}
-use Rattle.declarations.proofs.TransferLemmas.{reads_to}
 use Rattle.declarations.proofs.TreeLemmas.{or_nothing}
+use Rattle.declarations.proofs.StartLemmas as begin
+use Rattle.declarations.proofs.RuleWholeLemmas.{whole_read}
+use Rattle.declarations.proofs.RuleFaultLemmas.{rule_left, rule_stuck}
+use Rattle.declarations.proofs.RuleExpectsLemmas as rule_expects
 
 starts_where : IsStart rules follows (where_clause ∷ [])
-starts_where = starts where_clause refl refl
+starts_where = begin.where_clause_starts
 
 starts_generics : IsStart rules follows (generics ∷ [])
-starts_generics = starts generics refl refl
+starts_generics = begin.generics_starts
 
 -- ---- `;`
 
@@ -438,7 +438,7 @@ pub ruleset declarations = (declared_finds, declared_has, declared_fails, declar
 -- ---- the whole item
 
 pub starts_item : IsStart rules follows (type_item ∷ [])
-starts_item = starts type_item refl refl
+starts_item = begin.type_item_starts
 
 pub item_finds : (trees a v mid rest : List TokenTree) → ReadsFront trees a v mid → Finds item_rest mid rest
     → Finds type_item trees rest
@@ -459,12 +459,10 @@ end_alone keyword trees body clause part rest end none =
     let after = after_clause body part in
     let last : end.from_body ≡ after = end.last ∙ (ap (λ r. after ++ r) none ∙ append-nil after) in
     let whole : end.from_clause ≡ clause ++ after = end.clause_read.whole ∙ ap (λ r. clause ++ r) last in
-    let reads = reads_to (ByRule where_clause) IsWhere forms.where_clauses end.from_clause clause end.from_body
-    end.clause_read in
     record {
       whole = end.fields ∙ ap (with_tuple body) whole;
       clause_reads = subst (λ ts. Reads IsWhere ts clause after) whole
-          (subst (Reads IsWhere end.from_clause clause) last reads);
+          (subst (Reads IsWhere end.from_clause clause) last end.clause_read);
       shape = end.shape;
     }
 
@@ -495,18 +493,15 @@ item_parts trees mid rest item named f h has name_is generics_are body_is clause
     let e1 : f.from_visibility ≡ spec.after_attributes item = f.visibility_whole ∙ ap (λ r. v ++ r) e2 in
     let attributed = parts_read.attributes_reads trees a f.from_visibility f.attributes_found f.attributes_whole in
     let visible = parts_read.visibility_reads f.from_visibility v mid f.visibility_found f.visibility_whole in
-    let bracketed = reads_to (ByRule generics) AreGenerics forms.generic_parameters n.from_generics item.generics.now
-    n.from_end brackets in
     record {
-      all = faults.form_all type_item IsItem forms.type_items starts_item trees rest (item_finds trees a v mid rest f h)
-          (ap length none);
+      all = whole_read type_item starts_item trees rest (item_finds trees a v mid rest f h) (ap length none);
       whole = f.attributes_whole ∙ ap (λ r. a ++ r) e1;
       attributes = subst (Reads AreAttributes trees a) e1 attributed;
       visibility = subst (λ r. Reads IsVisibility r v (spec.after_visibility item)) e1
           (subst (Reads IsVisibility f.from_visibility v) e2 visible);
       name = read.is_name;
       generics = subst (λ r. Reads AreGenerics r item.generics.now (spec.after_generics item)) e4
-          (subst (Reads AreGenerics n.from_generics item.generics.now) e5 bracketed);
+          (subst (Reads AreGenerics n.from_generics item.generics.now) e5 brackets);
       end = subst (λ r. HasEnding (name_class item.keyword.now) r item.body item.where_clause.now item.semicolon.now) e5
           ending;
     }
@@ -524,12 +519,12 @@ item_all trees (tree ∷ rest) item f none = absurd (omega arith)
 pub item_left : (trees rest : List TokenTree) (at : ℕ) → Finds type_item trees rest → (length rest ≡ 0 → ⊥)
     → at ≡ length trees - length rest
     → FaultAt (IsWhole IsItem) trees at
-item_left = faults.form_left type_item IsItem forms.type_items starts_item
+item_left = rule_left type_item starts_item
 
 pub item_stuck : (trees left : List TokenTree) (at : ℕ) → Sticks type_item trees left
     → at ≡ length trees - length left
     → FaultAt (IsWhole IsItem) trees at
-item_stuck = faults.form_stuck type_item IsItem forms.type_items starts_item
+item_stuck = rule_stuck type_item starts_item
 
 pub left_span : (trees rest : List TokenTree) (at : ℕ) (span : Option Extent) → Finds type_item trees rest
     → at ≡ length trees - length rest → span ≡ first_extent rest
@@ -544,11 +539,11 @@ stuck_span trees left at span s counted first = remains_span trees left at span 
 pub left_expects : (trees rest : List TokenTree) (at : ℕ) (set : Expected) → Finds type_item trees rest
     → (length rest ≡ 0 → ⊥) → at ≡ length trees - length rest → ExpectsWhole type_item trees set
     → Expects IsItem trees at set
-left_expects = faults.form_left_expects type_item IsItem forms.type_items starts_item
+left_expects = rule_expects.left_expects type_item starts_item
 
 pub stuck_expects : (trees left : List TokenTree) (at : ℕ) (set : Expected) → Sticks type_item trees left
     → at ≡ length trees - length left → ExpectsWhole type_item trees set
     → Expects IsItem trees at set
-stuck_expects = faults.form_expects type_item IsItem forms.type_items starts_item
+stuck_expects = rule_expects.stuck_expects type_item starts_item
 
 pub ruleset promises = (item_all, item_left, item_stuck, left_span, stuck_span, left_expects, stuck_expects)

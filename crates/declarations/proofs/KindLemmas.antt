@@ -39,8 +39,8 @@ use Rattle.declarations.proofs.FoundLemmas.{finds_sign, finds_then}
 use Rattle.declarations.proofs.ReaderLemmas.{heads_either, heads_nothing, remains_on}
 use Rattle.declarations.proofs.ReadingLemmas.{classes-append, same_front}
 use Rattle.declarations.proofs.RuleFormLemmas.{only_reading, piece_found}
-use Rattle.declarations.proofs.RuleLemmas.{starts}
 use Rattle.declarations.proofs.TreeLemmas.{or_nothing}
+use Rattle.declarations.proofs.StartLemmas as begin
 
 -- ---- tests of classes
 
@@ -735,9 +735,9 @@ qualifiers_same : (trees rest : List TokenTree) (kind kind2 : ItemKind) (name na
     → j.from_qualifiers ≡ h.from_qualifiers
 qualifiers_same trees rest kind kind2 name name2 h j =
     let shown : j.from_visibility ≡ h.from_visibility =
-    (only_reading attributes (starts attributes refl refl) trees h.attributes.0 h.from_visibility h.attributes.1
+    (only_reading attributes begin.attributes_starts trees h.attributes.0 h.from_visibility h.attributes.1
     j.attributes.0 j.from_visibility j.attributes.1).1 in
-    (only_reading visibility (starts visibility refl refl) h.from_visibility h.visibility.0 h.from_qualifiers
+    (only_reading visibility begin.visibility_starts h.from_visibility h.visibility.0 h.from_qualifiers
     h.visibility.1 j.visibility.0 j.from_qualifiers
     (subst (λ ts. Reads (ByRule visibility) ts j.visibility.0 j.from_qualifiers) shown j.visibility.1)).1
 

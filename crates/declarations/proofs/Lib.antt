@@ -1,10 +1,8 @@
 pub mod SignLemmas
 pub mod BareLemmas
 pub mod WalkLemmas
-pub mod PlaceLemmas
 pub mod ReadingLemmas
-pub mod WholeLemmas
-pub mod PartLemmas
+pub mod WalkedLemmas
 pub mod SortLemmas
 pub mod ItemLemmas
 pub mod FieldLemmas
@@ -18,13 +16,13 @@ pub mod ListLemmas
 pub mod CompileErrorLemmas
 pub mod ClassLemmas
 pub mod ExpectedLemmas
-pub mod ExpectsLemmas
 pub mod ExpectedTextLemmas
 pub mod ExploreLemmas
 pub mod SyntaxLemmas
 pub mod RuleExpectsLemmas
 pub mod CommaLemmas
 pub mod RuleLemmas
+pub mod StartLemmas
 pub mod StackLemmas
 pub mod AgreeLemmas
 pub mod RangeLemmas
@@ -33,7 +31,6 @@ pub mod ItemSpotLemmas
 pub mod SpotLemmas
 pub mod EndLemmas
 pub mod TableLemmas
-pub mod FormLemmas
 pub mod ReaderLemmas
 pub mod LoopLemmas
 pub mod RuleFormLemmas
@@ -49,7 +46,6 @@ pub mod FunctionLemmas
 pub mod RangeStepLemmas
 pub mod FrontLemmas
 pub mod PublicLemmas
-pub mod TransferLemmas
 pub mod PartReaderLemmas
 pub mod RuleFaultLemmas
 pub mod TreeLemmas

@@ -1,33 +1,34 @@
 -- The parts of parameters and predicates: at most one can be read, and when none can.
 use Rattle.std.proofs.Common.{◌≡◌, refl, sym, ◌∙◌, ap, subst, ℕ, ◌+◌, ◌≤◌, ◌<◌, true, false, List, [], ◌∷◌}
 use Rattle.std.proofs.Common.{Result, Ok, Err, MatchResult}
-use Rattle.std.proofs.Common.{◌++◌, Some, None, append_assoc, arith, drop, length}
+use Rattle.std.proofs.Common.{◌++◌, append_assoc, arith, drop, length}
 use Rattle.std.proofs.lemmas.List.{append_cancel_left, append_cancel_right, length-append}
 use Rattle.std.proofs.Math.Seq.{drop-append_seam}
 use Rattle.pm_stream.specs.declared.stream.TokenTree.{TokenTree}
-use Rattle.declarations.proofs.ReadingLemmas.{split_only}
-use Rattle.declarations.proofs.WalkLemmas.{after, walk-cons}
 use Rattle.declarations.specs.Fault.{first_extent, extent_at}
-use Rattle.declarations.specs.Forms.{IsFrom, AreAttributes, AreBounds, IsType}
-use Rattle.item_tables.specs.Grammar.{step, ends}
+use Rattle.declarations.specs.Forms.{AreAttributes, AreBounds, IsType}
 use Rattle.declarations.specs.Param.{EndsElement, Fails, HasBounds, HasDefault, HasName, HasNo, HasParam, HasPredicate}
 use Rattle.declarations.specs.Param.{HasSign, IsBack}
 use Rattle.declarations.specs.Param.{is_constant, IsParamAt, IsPredicateAt, IsWord, MayHave, MustHave, ParamTrees}
 use Rattle.declarations.specs.Param.{PredicateTrees, ReadsConstant, stands, left_out, comma, last, one_sign}
 use Rattle.declarations.specs.Param.{negative, of_type}
 use Rattle.declarations.specs.Reading.{Reads, FaultAt}
-use Rattle.declarations.specs.Signs.{BeginsWith, Sign, signs, classes_of, trees_of}
-use Rattle.declarations.specs.Walk.{walk}
+use Rattle.declarations.specs.Signs.{BeginsWith, Sign, signs, trees_of}
 use Rattle.item_tables.specs.declared.class.SignClass.{SignClass}
 use Rattle.item_tables.specs.declared.class.SignClass.TheVariants as classes
 use Rattle.item_tables.specs.declared.class.Keyword.TheVariants as keywords
 use Rattle.declarations.specs.declared.generics.ParamKind.{ParamKind}
 use Rattle.declarations.specs.declared.generics.ParamKind.TheVariants as kinds
-use Rattle.item_tables.specs.declared.walk_state.Item.TheVariants as items
-use Rattle.item_tables.specs.declared.walk_state.WalkState.{WalkState}
-use Rattle.item_tables.specs.declared.walk_state.Continuation.TheVariants as rules
-use Rattle.item_tables.specs.declared.walk_state.State.TheVariants as states
-use Rattle.item_tables.specs.declared.types.TypeState.TheVariants as types
+use Rattle.declarations.proofs.StartLemmas as begin
+use Rattle.declarations.proofs.RuleFormLemmas.{none_sticks, only_reading}
+use Rattle.declarations.proofs.ReaderLemmas.{heads_sign, lacks}
+use Rattle.declarations.specs.rules.Types.{bounds, type}
+use Rattle.declarations.specs.rules.Rules.{follows, rules}
+use Rattle.declarations.specs.rules.Pieces.{ByRule}
+use Rattle.declarations.specs.rules.Names.{G}
+use Rattle.grammars.specs.First.{may_begin}
+use Rattle.grammars.specs.Deterministic.{IsStart}
+use Rattle.declarations.specs.rules.Parts as rule
 
 -- ---- at most one part can be read
 
@@ -37,8 +38,15 @@ IsOne form =
     (trees part rest part2 rest2 : List TokenTree) → form trees part rest → form trees part2 rest2
     → (part2 ≡ part) × (rest2 ≡ rest)
 
-pub one_reading : (start : WalkState) → IsOne (Reads (IsFrom start))
-one_reading start trees part rest part2 rest2 here there = split_only start trees part rest here part2 rest2 there
+pub one_reading : (g : G) → IsStart rules follows (g ∷ []) → IsOne (Reads (ByRule g))
+one_reading g start trees part rest part2 rest2 here there =
+    only_reading g start trees part rest here part2 rest2 there
+
+one_type : IsOne (Reads IsType)
+one_type = one_reading type begin.type_starts
+
+one_list_of_bounds : IsOne (Reads AreBounds)
+one_list_of_bounds = one_reading bounds begin.bounds_starts
 
 pub same_class : (trees : List TokenTree) (class class2 : SignClass) (rest rest2 : List TokenTree)
     → BeginsWith trees class rest → BeginsWith trees class2 rest2 → class2 ≡ class
@@ -114,9 +122,6 @@ one_end trees rest rest2 (last none left) (last none2 left2) = left2 ∙ sym lef
 
 -- ---- defaults of constants
 
-abbrev type_start : WalkState
-type_start = record { item = items.Alone; rule = rules.Alone; state = states.Range types.Wanted; depth = 0 }
-
 -- no type begins with this sign
 abbrev BeginsNone : SignClass → Type 0
 BeginsNone classes.Literal = Unit {0}
@@ -126,13 +131,13 @@ BeginsNone classes.Truth = Unit {0}
 BeginsNone classes.Minus = Unit {0}
 BeginsNone _ = ⊥
 
-no_step : (class : SignClass) → BeginsNone class → step type_start class ≡ None
-no_step classes.Literal none = refl
-no_step classes.Braces none = refl
-no_step classes.Block none = refl
-no_step classes.Truth none = refl
-no_step classes.Minus none = refl
-no_step class none = absurd none
+no_begin : (class : SignClass) → BeginsNone class → may_begin type class ≡ false
+no_begin classes.Literal none = refl
+no_begin classes.Braces none = refl
+no_begin classes.Block none = refl
+no_begin classes.Truth none = refl
+no_begin classes.Minus none = refl
+no_begin class none = absurd none
 
 constant_begins : (class : SignClass) → is_constant class ≡ true → BeginsNone class
 constant_begins classes.Literal is = tt
@@ -141,32 +146,11 @@ constant_begins classes.Block is = tt
 constant_begins classes.Truth is = tt
 constant_begins class is = cc
 
-no_walk : (class : SignClass) (piece : List SignClass) (end : WalkState) → BeginsNone class
-    → walk step type_start (class ∷ piece) ≡ Some end → ⊥
-no_walk class piece end none walks =
-    let here : walk step type_start (class ∷ piece) ≡ None =
-    walk-cons step type_start class piece ∙ ap (λ o. after step o piece) (no_step class none) in
-    cc
-
-no_type_by : (piece : List Sign) (class : SignClass) (front : List TokenTree) (left rest : List TokenTree)
-    (end : WalkState) → BeginsNone class
-    → record { class = class; trees = front } ∷ signs left ≡ piece ++ signs rest
-    → walk step type_start (classes_of piece) ≡ Some end → ends end ≡ true → ⊥
-no_type_by [] class front left rest end none read walks ended =
-    let same : type_start ≡ end = cc in
-    let wrong : ends type_start ≡ true = ap ends same ∙ ended in
-    cc
-no_type_by (sign ∷ piece) class front left rest end none read walks ended =
-    let first : record { class = class; trees = front } ≡ sign = cc in
-    let is : class ≡ sign.class = ap (λ s. s.class) first in
-    no_walk class (classes_of piece) end none
-    (ap (λ k. walk step type_start (k ∷ classes_of piece)) is ∙ walks)
-
 no_type : (trees part rest left : List TokenTree) (class : SignClass) → BeginsNone class
     → BeginsWith trees class left → Reads IsType trees part rest → ⊥
 no_type trees part rest left class none begins reads =
-    no_type_by reads.piece class begins.front left rest reads.stands.last none (sym begins.read ∙ reads.read)
-    reads.stands.walks reads.stands.ended
+    let stuck = lacks type trees (heads_sign type trees left class begins ∙ no_begin class none) refl in
+    none_sticks type begin.type_starts trees part rest trees stuck reads
 
 minus_alone : (class : SignClass) → is_constant class ≡ true → classes.Minus ≡ class → ⊥
 minus_alone class is same =
@@ -195,19 +179,19 @@ one_constant trees part rest part2 rest2 (of_type reads) (one_sign class is sign
 one_constant trees part rest part2 rest2 (of_type reads) (negative left begins number whole) =
     absurd (no_type trees part rest left classes.Minus tt begins reads)
 one_constant trees part rest part2 rest2 (of_type reads) (of_type reads2) =
-    one_reading type_start trees part rest part2 rest2 reads reads2
+    one_type trees part rest part2 rest2 reads reads2
 
 -- ---- parameters and predicates
 
 pub one_bounds : (kind : ParamKind) → IsOne (HasBounds kind)
-one_bounds kinds.Lifetime = one_may classes.Colon (Reads AreBounds) (one_reading _)
-one_bounds kinds.Type = one_may classes.Colon (Reads AreBounds) (one_reading _)
-one_bounds kinds.Const = one_must classes.Colon (Reads IsType) (one_reading _)
+one_bounds kinds.Lifetime = one_may classes.Colon (Reads AreBounds) one_list_of_bounds
+one_bounds kinds.Type = one_may classes.Colon (Reads AreBounds) one_list_of_bounds
+one_bounds kinds.Const = one_must classes.Colon (Reads IsType) one_type
 
 pub one_default : (kind : ParamKind) → IsOne (HasDefault kind)
 one_default kinds.Lifetime trees part rest part2 rest2 here there = (there.0 ∙ sym here.0, there.1 ∙ sym here.1)
 one_default kinds.Type trees part rest part2 rest2 here there =
-    one_may classes.Equals (Reads IsType) (one_reading _) trees part rest part2 rest2 here there
+    one_may classes.Equals (Reads IsType) one_type trees part rest part2 rest2 here there
 one_default kinds.Const trees part rest part2 rest2 here there =
     one_may classes.Equals ReadsConstant one_constant trees part rest part2 rest2 here there
 
@@ -255,7 +239,8 @@ pub from_name_same : (trees attributes from_name : List TokenTree) → Reads Are
     → (param : ParamTrees) (rest : List TokenTree) → (is : IsParamAt trees param rest)
     → (param.attributes ≡ attributes) × (is.from_name ≡ from_name)
 from_name_same trees attributes from_name reads param rest is =
-    one_reading _ trees attributes from_name param.attributes is.from_name reads is.attributes
+    one_reading rule.attributes begin.attributes_starts trees attributes from_name param.attributes is.from_name reads
+    is.attributes
 
 -- the attributes, the kind and the name of a parameter are read
 pub record Named (trees attributes : List TokenTree) (kind : ParamKind) (name from_bounds : List TokenTree)
@@ -401,9 +386,9 @@ pub one_predicate : (trees : List TokenTree) (predicate : PredicateTrees) (rest 
     → IsPredicateAt trees predicate rest → (predicate2 : PredicateTrees) (rest2 : List TokenTree)
     → IsPredicateAt trees predicate2 rest2 → (predicate2 ≡ predicate) × (rest2 ≡ rest)
 one_predicate trees predicate rest is predicate2 rest2 is2 =
-    let first = one_reading _ trees predicate.bounded is.from_colon predicate2.bounded is2.from_colon is.bounded
+    let first = one_type trees predicate.bounded is.from_colon predicate2.bounded is2.from_colon is.bounded
     is2.bounded in
-    let second = one_must classes.Colon (Reads AreBounds) (one_reading _) is.from_colon predicate.bounds is.from_end
+    let second = one_must classes.Colon (Reads AreBounds) one_list_of_bounds is.from_colon predicate.bounds is.from_end
     predicate2.bounds is2.from_end is.bounds
     (subst (λ t. MustHave classes.Colon (Reads AreBounds) t predicate2.bounds is2.from_end) first.1 is2.bounds) in
     let third = one_end is.from_end rest rest2 is.ends (subst (λ t. EndsElement t rest2) second.1 is2.ends) in
@@ -429,9 +414,10 @@ pub back_sign : (trees : List TokenTree) (class : SignClass) (rest : List TokenT
     → IsBack rest trees
 back_sign trees class rest begins = (begins.front, begins.whole)
 
-pub back_reads : (start : WalkState) (trees part rest : List TokenTree) → Reads (IsFrom start) trees part rest
+pub back_reads : (form : List SignClass → List SignClass → Type 0) (trees part rest : List TokenTree)
+    → Reads form trees part rest
     → IsBack rest trees
-back_reads start trees part rest reads = (part, reads.whole)
+back_reads form trees part rest reads = (part, reads.whole)
 
 pub back_name : (kind : ParamKind) (trees name rest : List TokenTree) → HasName kind trees name rest
     → IsBack rest trees
@@ -646,7 +632,7 @@ pub predicate_bounds_fail : (trees bounded from_colon left : List TokenTree) →
     → Fails (MustHave classes.Colon (Reads AreBounds)) from_colon left → (predicate : PredicateTrees)
     (rest : List TokenTree) → IsPredicateAt trees predicate rest → ⊥
 predicate_bounds_fail trees bounded from_colon left reads fails predicate rest is =
-    let same = one_reading _ trees bounded from_colon predicate.bounded is.from_colon reads is.bounded in
+    let same = one_type trees bounded from_colon predicate.bounded is.from_colon reads is.bounded in
     fails.nothing predicate.bounds is.from_end
     (subst (λ t. MustHave classes.Colon (Reads AreBounds) t predicate.bounds is.from_end) same.1 is.bounds)
 
@@ -656,8 +642,8 @@ pub predicate_end_fails : (trees bounded from_colon bounds from_end : List Token
     → ((rest : List TokenTree) → EndsElement from_end rest → ⊥) → (predicate : PredicateTrees)
     (rest : List TokenTree) → IsPredicateAt trees predicate rest → ⊥
 predicate_end_fails trees bounded from_colon bounds from_end first second fails predicate rest is =
-    let same = one_reading _ trees bounded from_colon predicate.bounded is.from_colon first is.bounded in
-    let both = one_must classes.Colon (Reads AreBounds) (one_reading _) from_colon bounds from_end predicate.bounds
+    let same = one_type trees bounded from_colon predicate.bounded is.from_colon first is.bounded in
+    let both = one_must classes.Colon (Reads AreBounds) one_list_of_bounds from_colon bounds from_end predicate.bounds
     is.from_end second
     (subst (λ t. MustHave classes.Colon (Reads AreBounds) t predicate.bounds is.from_end) same.1 is.bounds) in
     fails rest (subst (λ t. EndsElement t rest) both.1 is.ends)

@@ -1,7 +1,6 @@
 -- The parameters and the predicates that functions read are those of the rules.
 use Rattle.std.proofs.Common.{◌≡◌, refl, sym, ◌∙◌, ap, subst, ◌-◌, ◌==◌, Bool, true, false, ◌&&◌, ◌||◌, List, [], ◌∷◌}
 use Rattle.std.proofs.Common.{◌++◌, Some, None, append-nil, eq-eqb, if◌then◌else◌, inl, length, arith}
-use Rattle.std.proofs.lemmas.List.{length-append}
 use Rattle.std.specs.Prelude.{Ok, Err}
 use Rattle.grammars.specs.Deterministic.{IsStart}
 use Rattle.grammars.specs.Find.{Past, front}
@@ -35,72 +34,66 @@ use Rattle.declarations.specs.rules.Names.{Bounded, Bounds, Default, G, Label, N
 use Rattle.declarations.specs.rules.Names.{word}
 use Rattle.declarations.specs.rules.Parts as rule
 use Rattle.declarations.specs.rules.Paths.{colon_bounds}
-use Rattle.declarations.specs.rules.Pieces.{ByRule, ReadsBy}
+use Rattle.declarations.specs.rules.Pieces.{ByRule}
 use Rattle.declarations.specs.rules.Rules.{follows, rules}
 use Rattle.declarations.specs.rules.Types.{bounds, type}
 use Rattle.declarations.proofs.ClassLemmas.{same_class}
-use Rattle.declarations.proofs.CommaLemmas.{by_rule, lacks_comma}
-use Rattle.declarations.proofs.FormLemmas.{attribute_lists, bound_lists, types}
+use Rattle.declarations.proofs.CommaLemmas.{lacks_comma}
 use Rattle.declarations.proofs.ParamLemmas.{same_class as begin_same}
 use Rattle.declarations.proofs.ParameterLemmas.{finds_leads, leads_finds, leads_on, leads_sticks}
-use Rattle.declarations.proofs.PartReaderLemmas.{part_reads}
 use Rattle.declarations.proofs.ReaderLemmas.{first_finds, first_sticks, heads_none, heads_nothing, heads_sign, lacks}
 use Rattle.declarations.proofs.ReaderLemmas.{mark_finds, mark_finds_here, mark_sticks, other_finds, other_sticks}
 use Rattle.declarations.proofs.ReaderLemmas.{perhaps_stays, remains_span, remains_within, sign_ends, sign_finds}
 use Rattle.declarations.proofs.ReaderLemmas.{sign_sticks, stays, then_fails, then_finds, then_sticks}
 use Rattle.declarations.proofs.RuleExpectsLemmas.{stuck_expects}
-use Rattle.declarations.proofs.RuleFormLemmas.{found_reads, stuck_fault}
+use Rattle.declarations.proofs.RuleFormLemmas.{found_reads, none_sticks, stuck_fault}
 use Rattle.declarations.proofs.RuleLemmas.{starts}
 use Rattle.declarations.proofs.SignLemmas.{begins_one}
-use Rattle.declarations.proofs.TransferLemmas.{reads_back}
+use Rattle.declarations.proofs.StartLemmas as begin
 
--- ---- parts that the tables read
+-- ---- types, bounds and attributes
 
-module _ (g : G) (form : List SignClass → List SignClass → Type 0) (by : ReadsBy g form)
-    (start : IsStart rules follows (g ∷ [])) where
-  part_fails : (trees left : List TokenTree) → Sticks g trees left → Fails (Reads form) trees left
-  part_fails trees left s =
-      let sum = ap length s.remains.whole ∙ length-append (trees_of s.remains.front) left in
-      let f = stuck_fault g start trees left (length (trees_of s.remains.front)) s (omega arith) in
-      record {
-        back = (trees_of s.remains.front, s.remains.whole);
-        nothing = λ part rest r. f.nothing part rest (reads_back (ByRule g) form by trees part rest r);
-      }
+part_fails : (g : G) → IsStart rules follows (g ∷ []) → (trees left : List TokenTree) → Sticks g trees left
+    → Fails (Reads (ByRule g)) trees left
+part_fails g start trees left s = record {
+  back = (trees_of s.remains.front, s.remains.whole);
+  nothing = λ part rest r. none_sticks g start trees part rest left s r;
+}
 
 starts_type : IsStart rules follows (type ∷ [])
-starts_type = starts type refl refl
+starts_type = begin.type_starts
 
 starts_bounds : IsStart rules follows (bounds ∷ [])
-starts_bounds = starts bounds refl refl
+starts_bounds = begin.bounds_starts
 
 starts_attributes : IsStart rules follows (rule.attributes ∷ [])
-starts_attributes = starts rule.attributes refl refl
+starts_attributes = begin.attributes_starts
 
 pub type_is_read : (trees part rest : List TokenTree) → Finds type trees rest → trees ≡ part ++ rest
     → Reads IsType trees part rest
-type_is_read = part_reads type IsType types starts_type
+type_is_read = found_reads type starts_type
 
 pub type_fails : (trees left : List TokenTree) → Sticks type trees left → Fails (Reads IsType) trees left
-type_fails = part_fails type IsType types starts_type
+type_fails = part_fails type starts_type
 
 pub ruleset type_parts = (type_is_read, type_fails)
 
 pub bounds_are_read : (trees part rest : List TokenTree) → Finds bounds trees rest → trees ≡ part ++ rest
     → Reads AreBounds trees part rest
-bounds_are_read = part_reads bounds AreBounds bound_lists starts_bounds
+bounds_are_read = found_reads bounds starts_bounds
 
 pub bounds_fail : (trees left : List TokenTree) → Sticks bounds trees left → Fails (Reads AreBounds) trees left
-bounds_fail = part_fails bounds AreBounds bound_lists starts_bounds
+bounds_fail = part_fails bounds starts_bounds
 
 pub ruleset bound_parts = (bounds_are_read, bounds_fail)
 
 pub attributes_are_read : (trees part rest : List TokenTree) → Finds rule.attributes trees rest → trees ≡ part ++ rest
     → Reads AreAttributes trees part rest
-attributes_are_read = part_reads rule.attributes AreAttributes attribute_lists starts_attributes
+attributes_are_read = found_reads rule.attributes starts_attributes
 
 pub attributes_fail : (trees left : List TokenTree) → Sticks rule.attributes trees left
     → Fails (Reads AreAttributes) trees left
-attributes_fail = part_fails rule.attributes AreAttributes attribute_lists starts_attributes
+attributes_fail = part_fails rule.attributes starts_attributes
 
 pub ruleset attribute_parts = (attributes_are_read, attributes_fail)
 
@@ -210,7 +203,7 @@ module _ (g : G) (start : IsStart rules follows (g ∷ [])) (trees left : List T
   pub comma_lacks : Finds g trees left → ((rest : List TokenTree) → EndsElement left rest → ⊥)
       → ExpectsComma g trees fault.expected → IsListFault (ByRule g) trees fault
   comma_lacks f none e =
-      lacks_comma g start (ByRule g) (by_rule g) trees (trees_of f.remains.front) left fault
+      lacks_comma g start trees (trees_of f.remains.front) left fault
       (found_reads g start trees (trees_of f.remains.front) left f f.remains.whole) (no_past_comma left none) at span e
 
 pub element_reads : (g : G) → IsStart rules follows (g ∷ []) → (trees from_end rest : List TokenTree)

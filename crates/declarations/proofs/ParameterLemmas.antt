@@ -15,12 +15,13 @@ use Rattle.pm_span.specs.Extent.{Extent}
 use Rattle.pm_stream.specs.declared.stream.TokenTree.{TokenTree}
 use Rattle.declarations.specs.Entry.{IsOnlyRest}
 use Rattle.declarations.specs.Fault.{extent_at, first_extent}
-use Rattle.declarations.specs.Forms.{start}
+use Rattle.declarations.specs.Syntax.{start}
 use Rattle.declarations.specs.Parameter.{HasEnd, HasKind, HasPatternType, HasSelfType, HasType, IsParameterAt}
 use Rattle.declarations.specs.Parameter.{LeadsTo, ReadsEnd, ReadsFront, ReadsNamed, ReadsPattern, ReadsTyped}
 use Rattle.declarations.specs.Parameter.{front_of, left_of}
 use Rattle.declarations.specs.Reader.{Finds, ReadsRule, Sticks, classes_in}
-use Rattle.declarations.specs.Reading.{FaultAt, IsOnly, Reads, StopsAt}
+use Rattle.declarations.specs.Reading.{FaultAt, IsOnly, Reads}
+use Rattle.declarations.specs.Tables.{StopsAt}
 use Rattle.declarations.specs.Signs.{BeginsWith, trees_of}
 use Rattle.item_tables.specs.declared.class.SignClass.{SignClass}
 use Rattle.item_tables.specs.declared.class.SignClass.TheVariants as signs
@@ -54,6 +55,7 @@ use Rattle.declarations.proofs.ReaderLemmas.{sign_finds, then_fails, then_finds,
 use Rattle.declarations.proofs.RuleFormLemmas.{found_reads, only_reading, rule_fewer, stuck_fault}
 use Rattle.declarations.proofs.RuleLemmas.{starts}
 use Rattle.declarations.proofs.TableReaderLemmas.{table_reads}
+use Rattle.declarations.proofs.StartLemmas as begin
 
 -- ---- where a reading begins
 
@@ -61,7 +63,7 @@ pub starts_parameter : IsStart rules follows (rule.function_parameter ∷ [])
 starts_parameter = starts rule.function_parameter refl refl
 
 starts_attributes : IsStart rules follows (attributes ∷ [])
-starts_attributes = starts attributes refl refl
+starts_attributes = begin.attributes_starts
 
 starts_receiver : IsStart rules follows (rule.receiver ∷ [])
 starts_receiver = starts rule.receiver refl refl
@@ -73,7 +75,7 @@ starts_dots : IsStart rules follows (rule.dots ∷ [])
 starts_dots = starts rule.dots refl refl
 
 starts_type : IsStart rules follows (type ∷ [])
-starts_type = starts type refl refl
+starts_type = begin.type_starts
 
 starts_parameters : IsStart rules follows (rule.function_parameters ∷ [])
 starts_parameters = starts rule.function_parameters refl refl

@@ -1,7 +1,6 @@
 -- Calls that split off what a function read by a rule.
-use Rattle.std.proofs.Common.{◌≡◌, refl, sym, ◌∙◌, ap, subst, ℕ, ◌-◌, ◌≤◌, List, [], ◌∷◌, ◌++◌, Option, length}
+use Rattle.std.proofs.Common.{◌≡◌, sym, ◌∙◌, ap, subst, ℕ, ◌-◌, ◌≤◌, List, ◌++◌, Option, length}
 use Rattle.std.proofs.lemmas.List.{append_cancel_right}
-use Rattle.grammars.specs.Deterministic.{IsStart}
 use Rattle.pm_span.specs.Extent.{Extent}
 use Rattle.pm_stream.specs.declared.stream.TokenTree.{TokenTree}
 use Rattle.declarations.specs.Expected.{Expects}
@@ -22,49 +21,29 @@ use Rattle.declarations.specs.declared.part_list.Element.TheVariants as elements
 use Rattle.declarations.specs.declared.variant.Variant.{Variant}
 use Rattle.declarations.specs.rules.Expressions.{expression}
 use Rattle.declarations.specs.rules.Items.{type_item}
-use Rattle.declarations.specs.rules.Names.{G}
 use Rattle.declarations.specs.rules.Parts.{attributes, field, fields, generics, tuple_field, tuple_fields, variant}
 use Rattle.declarations.specs.rules.Parts.{variants, visibility, where_clause}
-use Rattle.declarations.specs.rules.Pieces.{ByRule, ReadsBy}
-use Rattle.declarations.specs.rules.Rules.{follows, rules}
 use Rattle.declarations.specs.rules.Types.{bounds, type}
-use Rattle.declarations.proofs.FormLemmas.{attribute_lists, bound_lists, expressions, field_lists, generic_parameters}
-use Rattle.declarations.proofs.FormLemmas.{one_field, one_tuple_field, one_variant, tuple_field_lists, type_items}
-use Rattle.declarations.proofs.FormLemmas.{types}
-use Rattle.declarations.proofs.FormLemmas.{variant_lists, visibilities, where_clauses}
 use Rattle.declarations.proofs.ReaderLemmas.{remains_span, remains_within}
-use Rattle.declarations.proofs.RuleFaultLemmas.{form_expects, form_fault, form_only}
-use Rattle.declarations.proofs.RuleFormLemmas.{found_reads, only_reading}
-use Rattle.declarations.proofs.RuleLemmas.{starts}
-use Rattle.declarations.proofs.TransferLemmas.{only_to, reads_to}
-
-module _ (g : G) (form : List SignClass → List SignClass → Type 0) (by : ReadsBy g form)
-    (start : IsStart rules follows (g ∷ [])) where
-  pub part_reads : (trees part rest : List TokenTree) → Finds g trees rest → trees ≡ part ++ rest
-      → Reads form trees part rest
-  part_reads trees part rest f whole =
-      reads_to (ByRule g) form by trees part rest (found_reads g start trees part rest f whole)
-
-  pub part_only : (trees part rest : List TokenTree) → Finds g trees rest → trees ≡ part ++ rest
-      → IsOnly form trees part rest
-  part_only trees part rest f whole =
-      only_to (ByRule g) form by trees part rest
-      (only_reading g start trees part rest (found_reads g start trees part rest f whole))
+use Rattle.declarations.proofs.RuleExpectsLemmas.{stuck_expects}
+use Rattle.declarations.proofs.RuleFaultLemmas.{rule_fault}
+use Rattle.declarations.proofs.RuleFormLemmas.{found_only, found_reads, only_reading}
+use Rattle.declarations.proofs.StartLemmas as begin
 
 -- ---- attributes
 
 pub attributes_reads : (trees part rest : List TokenTree) → Finds attributes trees rest → trees ≡ part ++ rest
     → Reads AreAttributes trees part rest
-attributes_reads = part_reads attributes AreAttributes attribute_lists (starts attributes refl refl)
+attributes_reads = found_reads attributes begin.attributes_starts
 
 pub attributes_only : (trees part rest : List TokenTree) → Finds attributes trees rest → trees ≡ part ++ rest
     → IsOnly AreAttributes trees part rest
-attributes_only = part_only attributes AreAttributes attribute_lists (starts attributes refl refl)
+attributes_only = found_only attributes begin.attributes_starts
 
 pub attributes_fault : (trees left : List TokenTree) (at : ℕ) → Sticks attributes trees left
     → at ≡ length trees - length left
     → FaultAt AreAttributes trees at
-attributes_fault = form_fault attributes AreAttributes attribute_lists (starts attributes refl refl)
+attributes_fault = rule_fault attributes begin.attributes_starts
 
 pub attributes_span : (trees left : List TokenTree) (at : ℕ) (span : Option Extent) → Sticks attributes trees left
     → at ≡ length trees - length left → span ≡ first_extent left
@@ -77,7 +56,7 @@ attributes_within trees left s = remains_within trees left s.remains
 pub attributes_expects : (trees left : List TokenTree) (at : ℕ) (set : Expected) → Sticks attributes trees left
     → at ≡ length trees - length left → ExpectsWhole attributes trees set
     → Expects AreAttributes trees at set
-attributes_expects = form_expects attributes AreAttributes attribute_lists (starts attributes refl refl)
+attributes_expects = stuck_expects attributes begin.attributes_starts
 
 pub ruleset attribute_parts =
     (attributes_reads, attributes_only, attributes_fault, attributes_span, attributes_within, attributes_expects)
@@ -86,11 +65,11 @@ pub ruleset attribute_parts =
 
 pub visibility_reads : (trees part rest : List TokenTree) → Finds visibility trees rest → trees ≡ part ++ rest
     → Reads IsVisibility trees part rest
-visibility_reads = part_reads visibility IsVisibility visibilities (starts visibility refl refl)
+visibility_reads = found_reads visibility begin.visibility_starts
 
 pub visibility_only : (trees part rest : List TokenTree) → Finds visibility trees rest → trees ≡ part ++ rest
     → IsOnly IsVisibility trees part rest
-visibility_only = part_only visibility IsVisibility visibilities (starts visibility refl refl)
+visibility_only = found_only visibility begin.visibility_starts
 
 pub ruleset visibility_parts = (visibility_reads, visibility_only)
 
@@ -98,16 +77,16 @@ pub ruleset visibility_parts = (visibility_reads, visibility_only)
 
 pub generics_reads : (trees part rest : List TokenTree) → Finds generics trees rest → trees ≡ part ++ rest
     → Reads AreGenerics trees part rest
-generics_reads = part_reads generics AreGenerics generic_parameters (starts generics refl refl)
+generics_reads = found_reads generics begin.generics_starts
 
 pub generics_only : (trees part rest : List TokenTree) → Finds generics trees rest → trees ≡ part ++ rest
     → IsOnly AreGenerics trees part rest
-generics_only = part_only generics AreGenerics generic_parameters (starts generics refl refl)
+generics_only = found_only generics begin.generics_starts
 
 pub generics_fault : (trees left : List TokenTree) (at : ℕ) → Sticks generics trees left
     → at ≡ length trees - length left
     → FaultAt AreGenerics trees at
-generics_fault = form_fault generics AreGenerics generic_parameters (starts generics refl refl)
+generics_fault = rule_fault generics begin.generics_starts
 
 pub generics_span : (trees left : List TokenTree) (at : ℕ) (span : Option Extent) → Sticks generics trees left
     → at ≡ length trees - length left → span ≡ first_extent left
@@ -120,7 +99,7 @@ generics_within trees left s = remains_within trees left s.remains
 pub generics_expects : (trees left : List TokenTree) (at : ℕ) (set : Expected) → Sticks generics trees left
     → at ≡ length trees - length left → ExpectsWhole generics trees set
     → Expects AreGenerics trees at set
-generics_expects = form_expects generics AreGenerics generic_parameters (starts generics refl refl)
+generics_expects = stuck_expects generics begin.generics_starts
 
 pub ruleset generic_parts =
     (generics_reads, generics_only, generics_fault, generics_span, generics_within, generics_expects)
@@ -129,16 +108,16 @@ pub ruleset generic_parts =
 
 pub where_reads : (trees part rest : List TokenTree) → Finds where_clause trees rest → trees ≡ part ++ rest
     → Reads IsWhere trees part rest
-where_reads = part_reads where_clause IsWhere where_clauses (starts where_clause refl refl)
+where_reads = found_reads where_clause begin.where_clause_starts
 
 pub where_only : (trees part rest : List TokenTree) → Finds where_clause trees rest → trees ≡ part ++ rest
     → IsOnly IsWhere trees part rest
-where_only = part_only where_clause IsWhere where_clauses (starts where_clause refl refl)
+where_only = found_only where_clause begin.where_clause_starts
 
 pub where_fault : (trees left : List TokenTree) (at : ℕ) → Sticks where_clause trees left
     → at ≡ length trees - length left
     → FaultAt IsWhere trees at
-where_fault = form_fault where_clause IsWhere where_clauses (starts where_clause refl refl)
+where_fault = rule_fault where_clause begin.where_clause_starts
 
 pub where_span : (trees left : List TokenTree) (at : ℕ) (span : Option Extent) → Sticks where_clause trees left
     → at ≡ length trees - length left → span ≡ first_extent left
@@ -151,7 +130,7 @@ where_within trees left s = remains_within trees left s.remains
 pub where_expects : (trees left : List TokenTree) (at : ℕ) (set : Expected) → Sticks where_clause trees left
     → at ≡ length trees - length left → ExpectsWhole where_clause trees set
     → Expects IsWhere trees at set
-where_expects = form_expects where_clause IsWhere where_clauses (starts where_clause refl refl)
+where_expects = stuck_expects where_clause begin.where_clause_starts
 
 pub ruleset where_parts =
     (where_reads, where_only, where_fault, where_span, where_within, where_expects)
@@ -160,16 +139,16 @@ pub ruleset where_parts =
 
 pub type_reads : (trees part rest : List TokenTree) → Finds type trees rest → trees ≡ part ++ rest
     → Reads IsType trees part rest
-type_reads = part_reads type IsType types (starts type refl refl)
+type_reads = found_reads type begin.type_starts
 
 pub type_only : (trees part rest : List TokenTree) → Finds type trees rest → trees ≡ part ++ rest
     → IsOnly IsType trees part rest
-type_only = part_only type IsType types (starts type refl refl)
+type_only = found_only type begin.type_starts
 
 pub type_fault : (trees left : List TokenTree) (at : ℕ) → Sticks type trees left
     → at ≡ length trees - length left
     → FaultAt IsType trees at
-type_fault = form_fault type IsType types (starts type refl refl)
+type_fault = rule_fault type begin.type_starts
 
 pub type_span : (trees left : List TokenTree) (at : ℕ) (span : Option Extent) → Sticks type trees left
     → at ≡ length trees - length left → span ≡ first_extent left
@@ -182,7 +161,7 @@ type_within trees left s = remains_within trees left s.remains
 pub type_expects : (trees left : List TokenTree) (at : ℕ) (set : Expected) → Sticks type trees left
     → at ≡ length trees - length left → ExpectsWhole type trees set
     → Expects IsType trees at set
-type_expects = form_expects type IsType types (starts type refl refl)
+type_expects = stuck_expects type begin.type_starts
 
 pub ruleset type_parts =
     (type_reads, type_only, type_fault, type_span, type_within, type_expects)
@@ -191,16 +170,16 @@ pub ruleset type_parts =
 
 pub bounds_reads : (trees part rest : List TokenTree) → Finds bounds trees rest → trees ≡ part ++ rest
     → Reads AreBounds trees part rest
-bounds_reads = part_reads bounds AreBounds bound_lists (starts bounds refl refl)
+bounds_reads = found_reads bounds begin.bounds_starts
 
 pub bounds_only : (trees part rest : List TokenTree) → Finds bounds trees rest → trees ≡ part ++ rest
     → IsOnly AreBounds trees part rest
-bounds_only = part_only bounds AreBounds bound_lists (starts bounds refl refl)
+bounds_only = found_only bounds begin.bounds_starts
 
 pub bounds_fault : (trees left : List TokenTree) (at : ℕ) → Sticks bounds trees left
     → at ≡ length trees - length left
     → FaultAt AreBounds trees at
-bounds_fault = form_fault bounds AreBounds bound_lists (starts bounds refl refl)
+bounds_fault = rule_fault bounds begin.bounds_starts
 
 pub bounds_span : (trees left : List TokenTree) (at : ℕ) (span : Option Extent) → Sticks bounds trees left
     → at ≡ length trees - length left → span ≡ first_extent left
@@ -213,7 +192,7 @@ bounds_within trees left s = remains_within trees left s.remains
 pub bounds_expects : (trees left : List TokenTree) (at : ℕ) (set : Expected) → Sticks bounds trees left
     → at ≡ length trees - length left → ExpectsWhole bounds trees set
     → Expects AreBounds trees at set
-bounds_expects = form_expects bounds AreBounds bound_lists (starts bounds refl refl)
+bounds_expects = stuck_expects bounds begin.bounds_starts
 
 pub ruleset bound_parts =
     (bounds_reads, bounds_only, bounds_fault, bounds_span, bounds_within, bounds_expects)
@@ -222,16 +201,16 @@ pub ruleset bound_parts =
 
 pub expression_reads : (trees part rest : List TokenTree) → Finds expression trees rest → trees ≡ part ++ rest
     → Reads IsExpression trees part rest
-expression_reads = part_reads expression IsExpression expressions (starts expression refl refl)
+expression_reads = found_reads expression begin.expression_starts
 
 pub expression_only : (trees part rest : List TokenTree) → Finds expression trees rest → trees ≡ part ++ rest
     → IsOnly IsExpression trees part rest
-expression_only = part_only expression IsExpression expressions (starts expression refl refl)
+expression_only = found_only expression begin.expression_starts
 
 pub expression_fault : (trees left : List TokenTree) (at : ℕ) → Sticks expression trees left
     → at ≡ length trees - length left
     → FaultAt IsExpression trees at
-expression_fault = form_fault expression IsExpression expressions (starts expression refl refl)
+expression_fault = rule_fault expression begin.expression_starts
 
 pub expression_span : (trees left : List TokenTree) (at : ℕ) (span : Option Extent) → Sticks expression trees left
     → at ≡ length trees - length left → span ≡ first_extent left
@@ -244,7 +223,7 @@ expression_within trees left s = remains_within trees left s.remains
 pub expression_expects : (trees left : List TokenTree) (at : ℕ) (set : Expected) → Sticks expression trees left
     → at ≡ length trees - length left → ExpectsWhole expression trees set
     → Expects IsExpression trees at set
-expression_expects = form_expects expression IsExpression expressions (starts expression refl refl)
+expression_expects = stuck_expects expression begin.expression_starts
 
 pub ruleset expression_parts =
     (expression_reads, expression_only, expression_fault, expression_span, expression_within, expression_expects)
@@ -254,17 +233,17 @@ pub ruleset expression_parts =
 pub fields_reads : (trees part rest : List TokenTree) → Finds (list_rule elements.Field) trees rest
     → trees ≡ part ++ rest
     → Reads AreFields trees part rest
-fields_reads = part_reads fields AreFields field_lists (starts fields refl refl)
+fields_reads = found_reads fields begin.fields_starts
 
 pub fields_only : (trees part rest : List TokenTree) → Finds (list_rule elements.Field) trees rest
     → trees ≡ part ++ rest
     → IsOnly AreFields trees part rest
-fields_only = part_only fields AreFields field_lists (starts fields refl refl)
+fields_only = found_only fields begin.fields_starts
 
 pub fields_fault : (trees left : List TokenTree) (at : ℕ) → Sticks (list_rule elements.Field) trees left
     → at ≡ length trees - length left
     → FaultAt AreFields trees at
-fields_fault = form_fault fields AreFields field_lists (starts fields refl refl)
+fields_fault = rule_fault fields begin.fields_starts
 
 pub fields_span : (trees left : List TokenTree) (at : ℕ) (span : Option Extent)
     → Sticks (list_rule elements.Field) trees left
@@ -280,7 +259,7 @@ pub fields_expects : (trees left : List TokenTree) (at : ℕ) (set : Expected)
     → Sticks (list_rule elements.Field) trees left
     → at ≡ length trees - length left → ExpectsWhole fields trees set
     → Expects AreFields trees at set
-fields_expects = form_expects fields AreFields field_lists (starts fields refl refl)
+fields_expects = stuck_expects fields begin.fields_starts
 
 pub ruleset field_lists_read =
     (fields_reads, fields_only, fields_fault, fields_span, fields_within, fields_expects)
@@ -290,17 +269,17 @@ pub ruleset field_lists_read =
 pub tuple_fields_reads : (trees part rest : List TokenTree) → Finds (list_rule elements.TupleField) trees rest
     → trees ≡ part ++ rest
     → Reads AreTupleFields trees part rest
-tuple_fields_reads = part_reads tuple_fields AreTupleFields tuple_field_lists (starts tuple_fields refl refl)
+tuple_fields_reads = found_reads tuple_fields begin.tuple_fields_starts
 
 pub tuple_fields_only : (trees part rest : List TokenTree) → Finds (list_rule elements.TupleField) trees rest
     → trees ≡ part ++ rest
     → IsOnly AreTupleFields trees part rest
-tuple_fields_only = part_only tuple_fields AreTupleFields tuple_field_lists (starts tuple_fields refl refl)
+tuple_fields_only = found_only tuple_fields begin.tuple_fields_starts
 
 pub tuple_fields_fault : (trees left : List TokenTree) (at : ℕ) → Sticks (list_rule elements.TupleField) trees left
     → at ≡ length trees - length left
     → FaultAt AreTupleFields trees at
-tuple_fields_fault = form_fault tuple_fields AreTupleFields tuple_field_lists (starts tuple_fields refl refl)
+tuple_fields_fault = rule_fault tuple_fields begin.tuple_fields_starts
 
 pub tuple_fields_span : (trees left : List TokenTree) (at : ℕ) (span : Option Extent)
     → Sticks (list_rule elements.TupleField) trees left
@@ -316,7 +295,7 @@ pub tuple_fields_expects : (trees left : List TokenTree) (at : ℕ) (set : Expec
     → Sticks (list_rule elements.TupleField) trees left
     → at ≡ length trees - length left → ExpectsWhole tuple_fields trees set
     → Expects AreTupleFields trees at set
-tuple_fields_expects = form_expects tuple_fields AreTupleFields tuple_field_lists (starts tuple_fields refl refl)
+tuple_fields_expects = stuck_expects tuple_fields begin.tuple_fields_starts
 
 pub ruleset tuple_field_lists_read = (
   tuple_fields_reads,
@@ -332,17 +311,17 @@ pub ruleset tuple_field_lists_read = (
 pub variants_reads : (trees part rest : List TokenTree) → Finds (list_rule elements.Variant) trees rest
     → trees ≡ part ++ rest
     → Reads AreVariants trees part rest
-variants_reads = part_reads variants AreVariants variant_lists (starts variants refl refl)
+variants_reads = found_reads variants begin.variants_starts
 
 pub variants_only : (trees part rest : List TokenTree) → Finds (list_rule elements.Variant) trees rest
     → trees ≡ part ++ rest
     → IsOnly AreVariants trees part rest
-variants_only = part_only variants AreVariants variant_lists (starts variants refl refl)
+variants_only = found_only variants begin.variants_starts
 
 pub variants_fault : (trees left : List TokenTree) (at : ℕ) → Sticks (list_rule elements.Variant) trees left
     → at ≡ length trees - length left
     → FaultAt AreVariants trees at
-variants_fault = form_fault variants AreVariants variant_lists (starts variants refl refl)
+variants_fault = rule_fault variants begin.variants_starts
 
 pub variants_span : (trees left : List TokenTree) (at : ℕ) (span : Option Extent)
     → Sticks (list_rule elements.Variant) trees left
@@ -358,7 +337,7 @@ pub variants_expects : (trees left : List TokenTree) (at : ℕ) (set : Expected)
     → Sticks (list_rule elements.Variant) trees left
     → at ≡ length trees - length left → ExpectsWhole variants trees set
     → Expects AreVariants trees at set
-variants_expects = form_expects variants AreVariants variant_lists (starts variants refl refl)
+variants_expects = stuck_expects variants begin.variants_starts
 
 pub ruleset variant_lists_read =
     (variants_reads, variants_only, variants_fault, variants_span, variants_within, variants_expects)
@@ -394,7 +373,7 @@ pub field_only : (trees part rest : List TokenTree) (found : Field)
     → IsFieldAt IsField HasFieldParts trees found rest → trees ≡ part ++ rest
     → IsOnly IsField trees part rest
 field_only trees part rest found at whole =
-    form_only field IsField one_field (starts field refl refl) trees part rest
+    only_reading field begin.field_starts trees part rest
     (field_reads trees part rest found at whole)
 
 pub ruleset fields_read = (field_remains, field_reads, field_only)
@@ -413,7 +392,7 @@ pub tuple_field_only : (trees part rest : List TokenTree) (found : Field)
     → IsFieldAt IsTupleField HasTypeParts trees found rest → trees ≡ part ++ rest
     → IsOnly IsTupleField trees part rest
 tuple_field_only trees part rest found at whole =
-    form_only tuple_field IsTupleField one_tuple_field (starts tuple_field refl refl) trees part rest
+    only_reading tuple_field begin.tuple_field_starts trees part rest
     (tuple_field_reads trees part rest found at whole)
 
 pub ruleset tuple_fields_read = (tuple_field_remains, tuple_field_reads, tuple_field_only)
@@ -431,7 +410,7 @@ pub variant_only : (trees part rest : List TokenTree) (found : Variant) → IsVa
     → trees ≡ part ++ rest
     → IsOnly IsVariant trees part rest
 variant_only trees part rest found at whole =
-    form_only variant IsVariant one_variant (starts variant refl refl) trees part rest
+    only_reading variant begin.variant_starts trees part rest
     (variant_reads trees part rest found at whole)
 
 pub ruleset variants_read = (variant_remains, variant_reads, variant_only)
@@ -440,16 +419,16 @@ pub ruleset variants_read = (variant_remains, variant_reads, variant_only)
 
 pub item_reads : (trees part rest : List TokenTree) → Finds type_item trees rest → trees ≡ part ++ rest
     → Reads IsItem trees part rest
-item_reads = part_reads type_item IsItem type_items (starts type_item refl refl)
+item_reads = found_reads type_item begin.type_item_starts
 
 pub item_only : (trees part rest : List TokenTree) → Finds type_item trees rest → trees ≡ part ++ rest
     → IsOnly IsItem trees part rest
-item_only = part_only type_item IsItem type_items (starts type_item refl refl)
+item_only = found_only type_item begin.type_item_starts
 
 pub item_fault : (trees left : List TokenTree) (at : ℕ) → Sticks type_item trees left
     → at ≡ length trees - length left
     → FaultAt IsItem trees at
-item_fault = form_fault type_item IsItem type_items (starts type_item refl refl)
+item_fault = rule_fault type_item begin.type_item_starts
 
 pub item_span : (trees left : List TokenTree) (at : ℕ) (span : Option Extent) → Sticks type_item trees left
     → at ≡ length trees - length left → span ≡ first_extent left
@@ -459,6 +438,6 @@ item_span trees left at span s counted first = remains_span trees left at span s
 pub item_expects : (trees left : List TokenTree) (at : ℕ) (set : Expected) → Sticks type_item trees left
     → at ≡ length trees - length left → ExpectsWhole type_item trees set
     → Expects IsItem trees at set
-item_expects = form_expects type_item IsItem type_items (starts type_item refl refl)
+item_expects = stuck_expects type_item begin.type_item_starts
 
 pub ruleset items_read = (item_reads, item_only, item_fault, item_span, item_expects)

@@ -6,7 +6,7 @@ use Rattle.item_tables.specs.Grammar.{after_angle, else_follow, ends, follow, ra
 use Rattle.item_tables.specs.Grammar.{step}
 use Rattle.item_tables.specs.Grammar.{depth_after}
 use Rattle.declarations.specs.Range.{in_range}
-use Rattle.declarations.specs.Reading.{StopsAt, Walked}
+use Rattle.declarations.specs.Tables.{StopsAt, Walked}
 use Rattle.declarations.specs.Signs.{BeginsWith, classes_of, signs}
 use Rattle.item_tables.specs.TypeStep.{may_end, step_of}
 use Rattle.declarations.specs.Walk.{Stops}
@@ -18,7 +18,7 @@ use Rattle.item_tables.specs.declared.types.Turn.{Turn}
 use Rattle.item_tables.specs.declared.types.Turn.TheVariants as turns
 use Rattle.item_tables.specs.declared.types.TypeState.{TypeState}
 use Rattle.item_tables.specs.declared.types.TypeStep.{TypeStep}
-use Rattle.declarations.proofs.ReadingLemmas.{walked-more, walked-none}
+use Rattle.declarations.proofs.WalkedLemmas.{walked-more, walked-none}
 
 -- ---- one step
 
@@ -74,7 +74,7 @@ pub ruleset range_steps = (step_taken, step_none)
 
 -- where the walk is
 pub record InRange (start : TypeState) (trees left : List TokenTree) (state : TypeState) (depth : ℕ) : Type 0 where
-  pub walked : Walked (in_range start 0) trees left (in_range state depth) None
+  pub walked : Walked (in_range start 0) trees left (in_range state depth)
   pub room : depth + length left ≤ length trees
 
 pub range_start : (start : TypeState) (trees : List TokenTree) → InRange start trees trees start 0
@@ -87,7 +87,7 @@ pub range_more : (start : TypeState) (trees left after : List TokenTree) (state 
     → inner + length after ≤ depth + length left
     → InRange start trees after next inner
 range_more start trees left after state next depth inner class here begins steps fewer = record {
-  walked = walked-more (in_range start 0) trees left (in_range state depth) (in_range next inner) None class after
+  walked = walked-more (in_range start 0) trees left (in_range state depth) (in_range next inner) class after
       here.walked begins steps;
   room = let room = here.room in omega arith;
 }
@@ -105,7 +105,6 @@ pub range_stops : (start : TypeState) (trees left : List TokenTree) (state : Typ
     → StopsAt (in_range start 0) ended trees left
 range_stops start trees left state depth ended here stops may = record {
   place = in_range state depth;
-  name = None;
   walked = here.walked;
   stops = stops;
   may_end = range_ends state depth ∙ may;

@@ -1,4 +1,4 @@
--- The contract of a function that reads by a rule, in terms of forms.
+-- What a function that reads by a rule finds is the only piece of the rule there, and where it finds none, none is.
 use Rattle.std.proofs.Common.{◌≡◌, refl, sym, ◌∙◌, ap, subst, ℕ, ◌+◌, ◌<◌, false, List, [], ◌∷◌}
 use Rattle.std.proofs.Common.{◌++◌, Option}
 use Rattle.std.proofs.Common.{Some, None, append-nil, length, arith}
@@ -13,16 +13,37 @@ use Rattle.grammars.proofs.WholeLemmas.{Ended, scan_ended}
 use Rattle.pm_stream.specs.declared.stream.TokenTree.{TokenTree}
 use Rattle.declarations.specs.Reader.{Finds, Sticks, classes_in}
 use Rattle.declarations.specs.Reading.{FaultAt, IsOnly, Reads, StopsBefore}
-use Rattle.declarations.specs.Signs.{Sign, classes_of, signs, trees_of}
+use Rattle.declarations.specs.Signs.{Sign, classes_of, pair_class, signs, tree_class, trees_of}
 use Rattle.declarations.specs.Walk.{IsFront, IsWalk, Stops, walk}
 use Rattle.item_tables.specs.declared.class.SignClass.{SignClass}
 use Rattle.declarations.specs.rules.Names.{G, Label, Name}
 use Rattle.declarations.specs.rules.Pieces.{ByRule}
 use Rattle.declarations.specs.rules.Rules.{follows, rules}
-use Rattle.declarations.proofs.ListLemmas.{first_some}
 use Rattle.declarations.proofs.ReadingLemmas.{classes-append, same_front}
 use Rattle.declarations.proofs.RuleLemmas.{well_formed}
 use Rattle.declarations.proofs.WalkLemmas.{no_front, none_stands, not_found, not_found-end, one_walk}
+use Rattle.declarations.proofs.SignLemmas.{pair_signs, signs-cons}
+
+-- ---- a sign has at least one tree
+
+pub first_some : (trees : List TokenTree) (sign : Sign) (after : List Sign) → signs trees ≡ sign ∷ after
+    → 0 < length sign.trees
+first_some [] sign after read = cc
+first_some (first ∷ []) sign after read =
+    let one : Sign = record { class = tree_class first; trees = first ∷ [] } in
+    let is : one ≡ sign = cc in
+    subst (λ s. 0 < length s.trees) is (omega arith)
+first_some (first ∷ second ∷ rest) sign after read =
+    elim (pair_class first second) as (λ o. pair_signs o first second rest ≡ sign ∷ after → 0 < length sign.trees) [
+      | None ↦ λ h.
+          let one : Sign = record { class = tree_class first; trees = first ∷ [] } in
+          let is : one ≡ sign = cc in
+          subst (λ s. 0 < length s.trees) is (omega arith)
+      | Some class ↦ λ h.
+          let two : Sign = record { class = class; trees = first ∷ second ∷ [] } in
+          let is : two ≡ sign = cc in
+          subst (λ s. 0 < length s.trees) is (omega arith)
+    ] (sym (signs-cons first second rest) ∙ read)
 
 -- ---- the machine as a walk
 
@@ -123,6 +144,12 @@ module _ (g : G) (start : IsStart rules follows (g ∷ [])) where
       append_cancel_left part rest2 rest (ap (λ p. p ++ rest2) (sym parts) ∙ sym there.whole ∙ here.whole) in
       (parts, rests)
 
+  -- what is found is the only part that can be read
+  pub found_only : (trees part rest : List TokenTree) → Finds g trees rest → trees ≡ part ++ rest
+      → IsOnly (ByRule g) trees part rest
+  found_only trees part rest f whole =
+      only_reading trees part rest (found_reads trees part rest f whole)
+
   -- ---- when nothing can be read
 
   -- other signs can complete the prefix that a walk took
@@ -219,6 +246,13 @@ module _ (g : G) (start : IsStart rules follows (g ∷ [])) where
           absurd (nothing_read s.0.before left s.0.taken.1
           (walk_same (g ∷ []) s.0.before ∙ ap stack_of s.0.walks) s.1 (stop_here s.0.taken.1 left s.0.stops) piece rest
           (sym s.0.whole ∙ whole) p)
+
+  -- where the rule is stuck, it reads nothing
+  pub none_sticks : (trees part rest left : List TokenTree) → Sticks g trees left → Reads (ByRule g) trees part rest → ⊥
+  none_sticks trees part rest left s reads =
+      let sum = ap length s.remains.whole ∙ length-append (trees_of s.remains.front) left in
+      let f = stuck_fault trees left (length (trees_of s.remains.front)) s (omega arith) in
+      f.nothing part rest reads
 
   -- ---- a part has at least one tree
 

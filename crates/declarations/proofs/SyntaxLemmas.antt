@@ -11,15 +11,14 @@ use Rattle.grammars.proofs.FlatLemmas.{ends_flat, flat_all, flat_stack_after, mo
 use Rattle.grammars.proofs.NextLemmas.{step_is}
 use Rattle.grammars.proofs.NextWordLemmas as laws
 use Rattle.grammars.proofs.StopLemmas.{stop_none, stop_some}
-use Rattle.pm_token.specs.Leaf.{Name as Written}
 use Rattle.pm_stream.specs.declared.stream.TokenTree.{TokenTree}
-use Rattle.declarations.specs.Expected.{AreSteps, HasSigns, holds, holds_end}
+use Rattle.declarations.specs.Expected.{HasSigns, holds, holds_end}
 use Rattle.declarations.specs.Explore.{Explores, Sees}
 use Rattle.item_tables.specs.Grammar.{step}
 use Rattle.declarations.specs.Reader.{classes_in}
-use Rattle.declarations.specs.Reading.{Walked}
+use Rattle.declarations.specs.Tables.{AreSteps, Walked}
 use Rattle.declarations.specs.Signs.{BeginsWith, classes_of, signs}
-use Rattle.declarations.specs.Syntax.{admits, guarded_rule, rule_of, start_of, table_of}
+use Rattle.declarations.specs.Syntax.{TablesRead, admits, guarded_rule, rule_of, start_of, table_of}
 use Rattle.declarations.specs.Walk.{Stops}
 use Rattle.item_tables.specs.declared.class.SignClass.{SignClass}
 use Rattle.item_tables.specs.declared.class.SignClass.TheVariants as classes
@@ -33,11 +32,14 @@ use Rattle.declarations.specs.declared.syntax.Table.{Table}
 use Rattle.declarations.specs.declared.syntax.Table.TheVariants as tables
 use Rattle.item_tables.specs.declared.walk_state.WalkState.{WalkState}
 use Rattle.declarations.specs.rules.Names.{G, Label, Name}
-use Rattle.declarations.specs.rules.Rules.{rules}
+use Rattle.declarations.specs.rules.Rules.{follows, rules}
 use Rattle.declarations.proofs.ExploreLemmas.{first_sign, none_seen}
 use Rattle.declarations.proofs.ReadingLemmas.{classes-append}
 use Rattle.declarations.proofs.StackLemmas.{left_after, left_at, stack_after}
-use Rattle.declarations.proofs.TableLemmas.{Meets, meet_ends, step_lifted, table_walk}
+use Rattle.declarations.proofs.TableLemmas.{Meets, meet_ends, reads_by, step_lifted, table_walk}
+use Rattle.declarations.proofs.StartLemmas as begin
+use Rattle.declarations.proofs.RuleLemmas.{well_formed}
+use Rattle.grammars.specs.Deterministic.{IsStart}
 
 abbrev Stack : Type 0
 Stack = List G
@@ -58,6 +60,25 @@ table_left tables.TupleField = refl
 table_left tables.Variant = refl
 table_left tables.TypeItem = refl
 table_left tables.AnyItem = refl
+
+-- a reading may begin with the rule of each table
+table_starts : (table : Table) → IsStart rules follows (rule_of table ∷ [])
+table_starts tables.Type = begin.type_starts
+table_starts tables.Bounds = begin.bounds_starts
+table_starts tables.Attributes = begin.attributes_starts
+table_starts tables.InnerAttributes = begin.inner_attributes_starts
+table_starts tables.Visibility = begin.visibility_starts
+table_starts tables.Generics = begin.generics_starts
+table_starts tables.Where = begin.where_clause_starts
+table_starts tables.Expression = begin.expression_starts
+table_starts tables.Field = begin.field_starts
+table_starts tables.TupleField = begin.tuple_field_starts
+table_starts tables.Variant = begin.variant_starts
+table_starts tables.TypeItem = begin.type_item_starts
+table_starts tables.AnyItem = begin.any_item_starts
+
+pub tables_read : TablesRead
+tables_read table = reads_by well_formed (start_of table) (rule_of table) (table_starts table) (table_left table)
 
 -- the tables have a step exactly where the machine has one
 steps_same : (place : WalkState) (k : Stack) → Meets place k → (c : SignClass) → is_some (step place c) ≡ starts k c
@@ -80,9 +101,9 @@ no_first : (place : WalkState) (left : List SignClass) → Stops step place left
 no_first place [] s c more e = absurd cc
 no_first place (d ∷ left) s c more e = let same : d ≡ c = cc in ap (step place) (sym same) ∙ s
 
-pub table_sees : {name : Option Written} (table : Table) (trees left : List TokenTree) (place : WalkState)
+pub table_sees : (table : Table) (trees left : List TokenTree) (place : WalkState)
     (next : Expected) (start : WalkState)
-    → start ≡ start_of table → Walked start trees left place name → Stops step place (classes_of (signs left))
+    → start ≡ start_of table → Walked start trees left place → Stops step place (classes_of (signs left))
     → AreSteps place next
     → Explores (rule_of table) trees left next
 unfolding classes_in

@@ -8,7 +8,7 @@ use Rattle.grammars.specs.Deterministic.{IsStart, IsWellFormed}
 use Rattle.grammars.specs.Reading.{IsPiece}
 use Rattle.grammars.proofs.FlatLemmas.{ends_flat, flat_all, flat_stack_after, move, moves, step_flat, walk_flat}
 use Rattle.grammars.proofs.PieceLemmas.{piece_stops, piece_walk, walk_piece}
-use Rattle.declarations.specs.Forms.{IsFrom}
+use Rattle.declarations.specs.Tables.{IsFrom}
 use Rattle.item_tables.specs.Grammar.{ends, step}
 use Rattle.declarations.specs.Walk.{Stops, walk}
 use Rattle.declarations.specs.rules.Names.{G, Label, Name}

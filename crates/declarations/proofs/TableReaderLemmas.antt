@@ -11,7 +11,7 @@ use Rattle.grammars.proofs.FlatLemmas.{flat_all}
 use Rattle.pm_stream.specs.declared.stream.TokenTree.{TokenTree}
 use Rattle.item_tables.specs.Grammar.{step}
 use Rattle.declarations.specs.Reader.{Remains, ReadsRule, classes_in}
-use Rattle.declarations.specs.Reading.{StopsAt}
+use Rattle.declarations.specs.Tables.{StopsAt}
 use Rattle.declarations.specs.Signs.{classes_of, signs}
 use Rattle.declarations.specs.Walk.{Stops}
 use Rattle.item_tables.specs.declared.class.SignClass.{SignClass}

@@ -30,15 +30,14 @@ use Rattle.declarations.specs.rules.Rules.{follows, rules}
 use Rattle.declarations.specs.rules.Types.{named_operand, operand_but, type}
 use Rattle.declarations.proofs.ClassLemmas.{same_class}
 use Rattle.declarations.proofs.FieldLemmas.{front_of, front_whole, starts_type, type_alone}
-use Rattle.declarations.proofs.FormLemmas as forms
 use Rattle.declarations.proofs.FoundLemmas.{bind, finds_first, finds_lacks, finds_marked, finds_other, finds_sign}
 use Rattle.declarations.proofs.FoundLemmas.{finds_skips, finds_then, past_found, stuck_found}
-use Rattle.declarations.proofs.PartReaderLemmas as parts_read
 use Rattle.declarations.proofs.ReaderLemmas.{remains_span, then_fails, then_finds, then_sticks}
-use Rattle.declarations.proofs.RuleFaultLemmas as faults
 use Rattle.declarations.proofs.RuleFormLemmas.{found_reads}
-use Rattle.declarations.proofs.RuleLemmas.{starts}
 use Rattle.declarations.proofs.TreeLemmas.{or_nothing}
+use Rattle.declarations.proofs.StartLemmas as begin
+use Rattle.declarations.proofs.RuleFaultLemmas.{rule_fault}
+use Rattle.declarations.proofs.RuleExpectsLemmas.{stuck_expects}
 
 -- ---- the rule as a visibility and a type
 
@@ -195,7 +194,7 @@ rest_fails trees mid left f s =
     }
 
 pub starts_tuple_field : IsStart rules follows (tuple_field ∷ [])
-starts_tuple_field = starts tuple_field refl refl
+starts_tuple_field = begin.tuple_field_starts
 
 pub tuple_finds : (trees a v mid rest : List TokenTree) → ReadsFront trees a v mid → Finds type mid rest
     → Finds tuple_field trees rest
@@ -222,8 +221,8 @@ tuple_at trees mid rest found f g whole none =
     let ty = found.field_type.now in
     record {
       part = a ++ (v ++ ty);
-      reads = parts_read.part_reads tuple_field IsTupleField forms.one_tuple_field starts_tuple_field trees
-          (a ++ (v ++ ty)) rest (tuple_finds trees a v mid rest f g) (front_whole trees a v mid rest f ty whole);
+      reads = found_reads tuple_field starts_tuple_field trees (a ++ (v ++ ty)) rest
+          (tuple_finds trees a v mid rest f g) (front_whole trees a v mid rest f ty whole);
       parts = record {
         front = front_of trees a v mid rest f ty g.remains whole;
         none = none;
@@ -238,7 +237,7 @@ pub ruleset tuple_fields_of = (tuple_finds, tuple_fails, tuple_sticks, tuple_at)
 pub tuple_fault : (trees left : List TokenTree) (at : ℕ) → Sticks tuple_field trees left
     → at ≡ length trees - length left
     → FaultAt IsTupleField trees at
-tuple_fault = faults.form_fault tuple_field IsTupleField forms.one_tuple_field starts_tuple_field
+tuple_fault = rule_fault tuple_field starts_tuple_field
 
 pub tuple_span : (trees left : List TokenTree) (at : ℕ) (span : Option Extent) → Sticks tuple_field trees left
     → at ≡ length trees - length left → span ≡ first_extent left
@@ -248,6 +247,6 @@ tuple_span trees left at span s counted first = remains_span trees left at span 
 pub tuple_expects : (trees left : List TokenTree) (at : ℕ) (set : Expected) → Sticks tuple_field trees left
     → at ≡ length trees - length left → ExpectsWhole tuple_field trees set
     → Expects IsTupleField trees at set
-tuple_expects = faults.form_expects tuple_field IsTupleField forms.one_tuple_field starts_tuple_field
+tuple_expects = stuck_expects tuple_field starts_tuple_field
 
 pub ruleset tuple_faults = (tuple_fault, tuple_span, tuple_expects)

@@ -14,7 +14,7 @@ use Rattle.declarations.specs.Expected.{Expects}
 use Rattle.declarations.specs.Explore.{ExpectsWhole}
 use Rattle.declarations.specs.Fault.{extent_at, first_extent}
 use Rattle.declarations.specs.Field.{ReadsFront}
-use Rattle.declarations.specs.Forms.{IsExpression, IsVariant, start}
+use Rattle.declarations.specs.Forms.{IsExpression, IsVariant}
 use Rattle.declarations.specs.Function.{IsNameAt}
 use Rattle.declarations.specs.Reader.{Finds, Sticks, classes_in}
 use Rattle.declarations.specs.Reading.{FaultAt, Reads}
@@ -25,9 +25,6 @@ use Rattle.declarations.specs.Whole.{ReadsAll}
 use Rattle.item_tables.specs.Classes.{is, is_round}
 use Rattle.item_tables.specs.declared.class.SignClass.{SignClass}
 use Rattle.item_tables.specs.declared.class.SignClass.TheVariants as signs
-use Rattle.item_tables.specs.declared.walk_state.Continuation.TheVariants as places
-use Rattle.item_tables.specs.declared.walk_state.Spot.TheVariants as spots
-use Rattle.item_tables.specs.declared.walk_state.State.TheVariants as states
 use Rattle.declarations.specs.declared.expected.Expected.{Expected}
 use Rattle.declarations.specs.declared.item.Fields.{Fields}
 use Rattle.declarations.specs.declared.item.Fields.TheVariants as fields
@@ -40,17 +37,15 @@ use Rattle.declarations.specs.rules.Pieces.{ByRule}
 use Rattle.declarations.specs.rules.Rules.{follows, rules}
 use Rattle.declarations.proofs.FieldLemmas.{begins_as, front_fails, front_finds, front_of, front_sticks, front_whole}
 use Rattle.declarations.proofs.FieldLemmas.{mark_first, reads_alone}
-use Rattle.declarations.proofs.FormLemmas as forms
 use Rattle.declarations.proofs.FunctionPartLemmas.{begins_group, name_finds, no_braces, no_round, round_class}
-use Rattle.declarations.proofs.PartReaderLemmas as parts_read
 use Rattle.declarations.proofs.ReaderLemmas.{first_finds, first_sticks, heads_none, heads_sign, mark_finds, mark_sticks}
 use Rattle.declarations.proofs.ReaderLemmas.{other_finds, perhaps_stays, remains_span, sign_finds, then_fails}
 use Rattle.declarations.proofs.ReaderLemmas.{then_finds, then_sticks}
-use Rattle.declarations.proofs.RuleFaultLemmas as faults
 use Rattle.declarations.proofs.RuleFormLemmas.{found_reads}
-use Rattle.declarations.proofs.RuleLemmas.{starts}
-use Rattle.declarations.proofs.TransferLemmas.{reads_to}
 use Rattle.declarations.proofs.TreeLemmas.{or_nothing}
+use Rattle.declarations.proofs.StartLemmas as begin
+use Rattle.declarations.proofs.RuleFaultLemmas.{rule_fault}
+use Rattle.declarations.proofs.RuleExpectsLemmas.{stuck_expects}
 
 -- ---- the fields
 
@@ -109,7 +104,7 @@ pub ruleset fields_read = (tuple_finds, named_finds, no_fields)
 -- ---- the discriminant
 
 starts_expression : IsStart rules follows (expression ∷ [])
-starts_expression = starts expression refl refl
+starts_expression = begin.expression_starts
 
 -- `=` and an expression
 abbrev equals : G
@@ -202,7 +197,7 @@ pub ruleset named = (rest_finds, rest_has, rest_fails, rest_sticks)
 -- ---- the whole variant
 
 pub starts_variant : IsStart rules follows (variant ∷ [])
-starts_variant = starts variant refl refl
+starts_variant = begin.variant_starts
 
 -- the trees of the discriminant, with its `=`
 record ValueTrees (trees value rest : List TokenTree) : Type 0 where
@@ -212,9 +207,7 @@ record ValueTrees (trees value rest : List TokenTree) : Type 0 where
 
 value_alone : (trees value rest : List TokenTree) → Reads (ByRule expression) trees value rest
     → ReadsAll IsExpression value
-value_alone trees value rest reads =
-    reads_alone (start places.Alone (states.At spots.Expression)) trees value rest
-    (reads_to (ByRule expression) IsExpression forms.expressions trees value rest reads)
+value_alone = reads_alone expression
 
 value_trees : (trees value rest : List TokenTree) → HasDiscriminant trees value rest → ValueTrees trees value rest
 value_trees trees value rest (inl has) =
@@ -259,7 +252,7 @@ variant_at trees mid rest found f h has =
     ∙ (ap (with_fields found.fields) value.whole ∙ fields_before found.fields value.all rest)) in
     record {
       part = a ++ (v ++ other);
-      reads = parts_read.part_reads variant IsVariant forms.one_variant starts_variant trees (a ++ (v ++ other)) rest
+      reads = found_reads variant starts_variant trees (a ++ (v ++ other)) rest
           (variant_finds trees a v mid rest f h) (front_whole trees a v mid rest f other whole);
       parts = record {
         value = value.all;
@@ -277,7 +270,7 @@ pub ruleset variants_of = (variant_finds, variant_fails, variant_sticks, variant
 pub variant_fault : (trees left : List TokenTree) (at : ℕ) → Sticks variant trees left
     → at ≡ length trees - length left
     → FaultAt IsVariant trees at
-variant_fault = faults.form_fault variant IsVariant forms.one_variant starts_variant
+variant_fault = rule_fault variant starts_variant
 
 pub variant_span : (trees left : List TokenTree) (at : ℕ) (span : Option Extent) → Sticks variant trees left
     → at ≡ length trees - length left → span ≡ first_extent left
@@ -287,6 +280,6 @@ variant_span trees left at span s counted first = remains_span trees left at spa
 pub variant_expects : (trees left : List TokenTree) (at : ℕ) (set : Expected) → Sticks variant trees left
     → at ≡ length trees - length left → ExpectsWhole variant trees set
     → Expects IsVariant trees at set
-variant_expects = faults.form_expects variant IsVariant forms.one_variant starts_variant
+variant_expects = stuck_expects variant starts_variant
 
 pub ruleset variant_faults = (variant_fault, variant_span, variant_expects)

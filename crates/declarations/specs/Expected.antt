@@ -1,14 +1,12 @@
 -- The signs that can come next where trees do not fit the grammar.
-use Rattle.std.specs.Prelude.{◌≡◌, ℕ, ◌==◌, ◌↔◌, Bool, true, List, [], ◌∷◌, ◌++◌, length, is_some}
+use Rattle.std.specs.Prelude.{◌≡◌, ℕ, ◌==◌, ◌↔◌, Bool, true, List, [], ◌∷◌, ◌++◌, length}
 use Rattle.std.specs.Int.{bit_at}
 use Rattle.pm_stream.specs.declared.stream.TokenTree.{TokenTree}
-use Rattle.item_tables.specs.Grammar.{ends, step}
 use Rattle.declarations.specs.Signs.{Sign, classes_of, signs, trees_of}
 use Rattle.declarations.specs.Walk.{IsFront}
 use Rattle.declarations.specs.Whole.{IsWhole}
 use Rattle.item_tables.specs.declared.class.SignClass.{SignClass}
 use Rattle.declarations.specs.declared.expected.Expected.{Expected}
-use Rattle.item_tables.specs.declared.walk_state.WalkState.{WalkState}
 use Rattle.item_tables.specs.Classes.{code}
 
 -- whether the class is in the set
@@ -23,10 +21,6 @@ holds_end set = bit_at set.bits 127 == 1
 pub record HasSigns (set : Expected) (has : SignClass → Bool) (may_end : Bool) : Type 0 where
   pub classes : (class : SignClass) → holds set class ≡ has class
   pub end : holds_end set ≡ may_end
-
--- the set has the classes for which there is a step from this place, and the end if the part may end there
-abbrev pub AreSteps : WalkState → Expected → Type 0
-AreSteps place set = HasSigns set (λ class. is_some (step place class)) (ends place)
 
 -- the set has exactly the classes that can come after the first `at` trees so that the form can be completed. It has
 -- the end if these trees are the whole of a part

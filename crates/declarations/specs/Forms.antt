@@ -1,95 +1,73 @@
--- The parts of declarations, each by the state in which a walk over it begins.
+-- The parts of declarations, each by its rule.
 use Rattle.std.specs.Prelude.{List}
-use Rattle.item_tables.specs.Grammar.{step, ends}
-use Rattle.declarations.specs.Walk.{IsWalk}
+use Rattle.declarations.specs.rules.Expressions.{expression}
+use Rattle.declarations.specs.rules.Items.{any_item, type_item}
+use Rattle.declarations.specs.rules.Parts.{attributes, field, fields, generics, inner_attributes, tuple_field}
+use Rattle.declarations.specs.rules.Parts.{tuple_fields, variant, variants, visibility, where_clause}
+use Rattle.declarations.specs.rules.Pieces.{ByRule}
+use Rattle.declarations.specs.rules.Types.{bounds, type}
 use Rattle.item_tables.specs.declared.class.SignClass.{SignClass}
-use Rattle.item_tables.specs.declared.walk_state.Item.TheVariants as items
-use Rattle.item_tables.specs.declared.walk_state.Part.TheVariants as parts
-use Rattle.item_tables.specs.declared.walk_state.WalkState.{WalkState}
-use Rattle.item_tables.specs.declared.walk_state.Continuation.TheVariants as rules
-use Rattle.item_tables.specs.declared.walk_state.Continuation.{Continuation}
-use Rattle.item_tables.specs.declared.walk_state.State.{State}
-use Rattle.item_tables.specs.declared.walk_state.State.TheVariants as states
-use Rattle.item_tables.specs.declared.walk_state.Spot.TheVariants as spots
-use Rattle.item_tables.specs.declared.types.TypeState.TheVariants as types
 
--- what a walk reads from a state on
-abbrev pub IsFrom : WalkState → List SignClass → List SignClass → Type 0
-IsFrom start = IsWalk step ends start
-
-abbrev pub start : Continuation → State → WalkState
-start rule state = record { item = items.Alone; rule = rule; state = state; depth = 0 }
-
--- a type. It begins where an operand must come, and ends where none must come and no angle bracket is open
+-- a type
 abbrev pub IsType : List SignClass → List SignClass → Type 0
-IsType = IsFrom (start rules.Alone (states.Range types.Wanted))
+IsType = ByRule type
 
 -- bounds, perhaps none
 abbrev pub AreBounds : List SignClass → List SignClass → Type 0
-AreBounds = IsFrom (start rules.Alone (states.Range types.Bound))
+AreBounds = ByRule bounds
 
 -- any number of attributes, each `#` and brackets
 abbrev pub AreAttributes : List SignClass → List SignClass → Type 0
-AreAttributes = IsFrom (start rules.Alone (states.At (spots.Before parts.Attributes)))
+AreAttributes = ByRule attributes
 
 -- a visibility or nothing. It is `pub`, perhaps with a restriction, or a group without delimiters that holds one
 abbrev pub IsVisibility : List SignClass → List SignClass → Type 0
-IsVisibility = IsFrom (start rules.Alone (states.At (spots.Before parts.Visibility)))
+IsVisibility = ByRule visibility
 
 -- a field: attributes, a visibility, a name, `:` and a type
 abbrev pub IsField : List SignClass → List SignClass → Type 0
-IsField = IsFrom (start rules.Alone (states.At (spots.Before parts.Field)))
+IsField = ByRule field
 
 -- a field without a name: attributes, a visibility and a type
 abbrev pub IsTupleField : List SignClass → List SignClass → Type 0
-IsTupleField = IsFrom (start rules.Alone (states.At (spots.Before parts.TupleField)))
+IsTupleField = ByRule tuple_field
 
 -- fields, with `,` between two and perhaps after the last
 abbrev pub AreFields : List SignClass → List SignClass → Type 0
-AreFields = IsFrom (start rules.Fields (states.At (spots.Before parts.Field)))
+AreFields = ByRule fields
 
 -- fields without names, with `,` between two and perhaps after the last
 abbrev pub AreTupleFields : List SignClass → List SignClass → Type 0
-AreTupleFields = IsFrom (start rules.TupleFields (states.At (spots.Before parts.TupleField)))
+AreTupleFields = ByRule tuple_fields
 
 -- a variant: attributes, a visibility, a name, perhaps fields, and perhaps a discriminant
 abbrev pub IsVariant : List SignClass → List SignClass → Type 0
-IsVariant = IsFrom (start rules.Alone (states.At (spots.Before parts.Variant)))
+IsVariant = ByRule variant
 
 -- variants, with `,` between two and perhaps after the last
 abbrev pub AreVariants : List SignClass → List SignClass → Type 0
-AreVariants =
-    IsFrom (record {
-      item = items.Variants;
-      rule = rules.Alone;
-      state = states.At (spots.Before parts.Variant);
-      depth = 0;
-    })
+AreVariants = ByRule variants
 
 -- the expression of a discriminant. Only its end is found
 abbrev pub IsExpression : List SignClass → List SignClass → Type 0
-IsExpression = IsFrom (start rules.Alone (states.At spots.Expression))
+IsExpression = ByRule expression
 
 -- generic parameters in angle brackets, or nothing
 abbrev pub AreGenerics : List SignClass → List SignClass → Type 0
-AreGenerics = IsFrom (start rules.Alone (states.At spots.Generics))
+AreGenerics = ByRule generics
 
 -- a where clause, or nothing
 abbrev pub IsWhere : List SignClass → List SignClass → Type 0
-IsWhere = IsFrom (start rules.Alone (states.At spots.Where))
+IsWhere = ByRule where_clause
 
 -- a struct, an enum or a union: attributes, a visibility, its keyword and name, generics, where clause and body
 abbrev pub IsItem : List SignClass → List SignClass → Type 0
-IsItem = IsFrom (start rules.Alone (states.At (spots.Before parts.TypeItem)))
+IsItem = ByRule type_item
 
 -- any number of inner attributes, each `#!` and brackets
 abbrev pub AreInnerAttributes : List SignClass → List SignClass → Type 0
-AreInnerAttributes = IsFrom (start rules.Alone (states.At spots.Inner))
-
--- the state before an item of any kind
-abbrev pub any_item : WalkState
-any_item = start rules.Alone (states.At (spots.Before parts.AnyItem))
+AreInnerAttributes = ByRule inner_attributes
 
 -- an item of any kind: what comes before its name, its name, header and body; or a group without delimiters
 abbrev pub IsAnyItem : List SignClass → List SignClass → Type 0
-IsAnyItem = IsFrom any_item
+IsAnyItem = ByRule any_item

@@ -5,6 +5,7 @@ pub mod Range
 pub mod Parts
 pub mod Signs
 pub mod Reading
+pub mod Tables
 pub mod Reader
 pub mod Whole
 pub mod Expected

@@ -1,13 +1,11 @@
 -- What is read from trees, and where the error is if nothing can be read.
-use Rattle.std.specs.Prelude.{◌≡◌, ℕ, Bool, List, [], ◌∷◌, ◌++◌, Option, Some, None, cond, length}
+use Rattle.std.specs.Prelude.{◌≡◌, ℕ, List, [], ◌∷◌, ◌++◌, Option, Some, None, length}
 use Rattle.pm_token.specs.Leaf.{Name}
 use Rattle.pm_stream.specs.declared.stream.TokenTree.{TokenTree}
 use Rattle.pm_stream.specs.declared.stream.TokenTree.TheVariants.{Ident}
-use Rattle.item_tables.specs.Grammar.{ends, names, step}
 use Rattle.declarations.specs.Signs.{Sign, signs, classes_of, trees_of}
-use Rattle.declarations.specs.Walk.{IsFront, Stops, walk}
+use Rattle.declarations.specs.Walk.{IsFront}
 use Rattle.item_tables.specs.declared.class.SignClass.{SignClass}
-use Rattle.item_tables.specs.declared.walk_state.WalkState.{WalkState}
 
 -- the trees are the part and then the rest, and the part has this form if the rest comes after it
 pub record Reads (form : List SignClass → List SignClass → Type 0) (trees part rest : List TokenTree) : Type 0 where
@@ -39,39 +37,7 @@ abbrev pub IsOnly : (List SignClass → List SignClass → Type 0) → List Toke
 IsOnly form trees part rest =
     (part2 rest2 : List TokenTree) → Reads form trees part2 rest2 → (part2 ≡ part) × (rest2 ≡ rest)
 
--- ---- names
-
 -- the first tree, if it is an identifier
 abbrev pub first_name : List TokenTree → Option Name
 first_name (Ident i ∷ rest) = Some i
 first_name _ = None
-
--- the name that is found so far, after a sign of this class at the start of the trees
-abbrev pub name_so_far : WalkState → SignClass → List TokenTree → Option Name → Option Name
-name_so_far place class trees name = cond (names place class) (first_name trees) name
-
--- the last name that a walk over the signs finds, or the one that it had before
-abbrev pub name_of : WalkState → Option Name → List Sign → Option Name
-name_of place name [] = name
-name_of place name (sign ∷ rest) =
-    elim (step place sign.class) [
-      | None ↦ name
-      | Some next ↦ name_of next (name_so_far place sign.class sign.trees name) rest
-    ]
-
--- the walk from `start` over the signs before the left trees ends in this state, and finds this name
-pub record Walked (start : WalkState) (trees left : List TokenTree) (place : WalkState) (name : Option Name) : Type 0
-  where
-    pub front : List Sign
-    pub read : signs trees ≡ front ++ signs left
-    pub whole : trees ≡ trees_of front ++ left
-    pub walks : walk step start (classes_of front) ≡ Some place
-    pub takes : name ≡ name_of start None front
-
--- the walk from `start` stops before the left trees, in a state where the part may end or not
-pub record StopsAt (start : WalkState) (ended : Bool) (trees left : List TokenTree) : Type 0 where
-  pub place : WalkState
-  pub name : Option Name
-  pub walked : Walked start trees left place name
-  pub stops : Stops step place (classes_of (signs left))
-  pub may_end : ends place ≡ ended

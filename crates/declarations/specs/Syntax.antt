@@ -1,11 +1,13 @@
 -- Rules of the grammar as data.
 use Rattle.std.specs.Prelude.{ℕ, suc, ◌+◌, Bool, false, not, ◌&&◌}
 use Rattle.grammars.specs.Grammar.{Nothing, Sign, Mark, Then, Either, Many}
-use Rattle.declarations.specs.Forms.{start}
+use Rattle.declarations.specs.Tables.{IsFrom}
 use Rattle.item_tables.specs.declared.class.SignClass.{SignClass}
 use Rattle.item_tables.specs.declared.class.SignClass.TheVariants as classes
 use Rattle.item_tables.specs.declared.class.Keyword.TheVariants as keywords
+use Rattle.item_tables.specs.declared.walk_state.Continuation.{Continuation}
 use Rattle.item_tables.specs.declared.walk_state.Continuation.TheVariants as places
+use Rattle.item_tables.specs.declared.walk_state.Item.TheVariants as items
 use Rattle.item_tables.specs.declared.walk_state.Part.TheVariants as parts_in
 use Rattle.item_tables.specs.declared.walk_state.Spot.TheVariants as spots
 use Rattle.item_tables.specs.declared.walk_state.State.{State}
@@ -33,7 +35,12 @@ use Rattle.declarations.specs.rules.Names.{G, Label, Outside, Range, comma_list}
 use Rattle.declarations.specs.rules.Parameters as parameters
 use Rattle.declarations.specs.rules.Parts as parts
 use Rattle.declarations.specs.rules.Paths as paths
+use Rattle.declarations.specs.rules.Pieces.{ReadsBy}
 use Rattle.declarations.specs.rules.Types.{angle, bounds, other_operand, type}
+
+-- the state in which a walk begins
+abbrev pub start : Continuation → State → WalkState
+start rule state = record { item = items.Alone; rule = rule; state = state; depth = 0 }
 
 -- whether a sign passes the test
 abbrev pub test_of : Test → SignClass → Bool
@@ -103,6 +110,10 @@ state_of tables.AnyItem = states.At (spots.Before parts_in.AnyItem)
 -- the state of the walk from which the table reads
 abbrev pub start_of : Table → WalkState
 start_of table = start places.Alone (state_of table)
+
+-- each table reads exactly the pieces of its rule
+abbrev pub TablesRead : Type 0
+TablesRead = (table : Table) → ReadsBy (rule_of table) (IsFrom (start_of table))
 
 -- the rule that a table reads if its first sign passes a test
 abbrev pub guarded_rule : Guard → G

@@ -1,11 +1,9 @@
 //! The signs that can come next where trees do not fit the grammar.
-ghost use Rattle.std.specs.Prelude.{◌≡◌, ◌+◌, ◌<◌, ◌^◌, ◌&&◌, ◌||◌, false, is_some, true};
-ghost use Rattle.declarations.specs.Expected.{AreSteps, HasSigns, holds, holds_end};
-ghost use Rattle.item_tables.specs.Grammar.{step};
-ghost use Rattle.item_tables.specs.Classes.{any_of, is};
+ghost use Rattle.std.specs.Prelude.{◌≡◌, ◌||◌, false, true};
+ghost use Rattle.declarations.specs.Expected.{HasSigns, holds, holds_end};
+ghost use Rattle.item_tables.specs.Classes.{is};
 
 use item_tables::class::{Keyword, SignClass, Word, code};
-use item_tables::walk_state::WalkState;
 
 /// A set of classes of signs, which may also have the end in it.
 ///
@@ -152,33 +150,5 @@ impl Expected {
         Expected {
             bits: self.bits | other.bits,
         }
-    }
-}
-
-/// Those of the classes for which there is a step from this place.
-fn steps_among(place: WalkState, classes: &[SignClass]) -> Expected
-    requires { place.depth + 1 < 2 ^ 64 }
-    ensures { HasSigns result (λ class. any_of (λ x. is x class && is_some (step place x)) classes.now) false }
-{
-    let mut found = Expected::nothing();
-    for class in classes {
-        if place.step(*class).is_some() {
-            found = found.with(*class);
-        }
-    }
-    found
-}
-
-/// The signs for which there is a step from this place, and the end if the part may end there.
-#[cold]
-pub(crate) fn steps_from(place: WalkState) -> Expected
-    requires { place.depth + 1 < 2 ^ 64 }
-    ensures { AreSteps place result }
-{
-    let found = steps_among(place, &CLASSES);
-    if place.may_end() {
-        found.with_end()
-    } else {
-        found
     }
 }

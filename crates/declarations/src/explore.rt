@@ -12,12 +12,12 @@ ghost use Rattle.item_tables.specs.Classes.{any_of, is};
 ghost use Rattle.declarations.specs.rules.Names.{comma_list, one};
 ghost use Rattle.item_tables.specs.declared.class.SignClass.TheVariants as signs;
 
-use crate::expected::{CLASSES, Expected, steps_from};
+use crate::expected::{CLASSES, Expected};
 use crate::fault::Fault;
 use crate::reader::is;
 use crate::signs::first_sign;
 use crate::syntax::{Guard, Label, Syntax, Table, Test, admits, passes, start_of, table_of};
-use crate::walk::walk_from;
+use crate::walk::{steps_from, walk_from};
 use item_tables::class::SignClass;
 use pm_stream::TokenTree;
 

@@ -3,7 +3,7 @@ ghost use Rattle.std.specs.Prelude.{◌≡◌, ◌+◌, ◌≤◌, ◌<◌, ◌^
 ghost use Rattle.std.specs.Prelude.{MatchResult, None, Some, false, length, true};
 ghost use Rattle.item_tables.specs.Grammar.{step, depth_after};
 ghost use Rattle.declarations.specs.Range.{in_range};
-ghost use Rattle.declarations.specs.Reading.{StopsAt};
+ghost use Rattle.declarations.specs.Tables.{StopsAt};
 ghost use Rattle.declarations.specs.Signs.{BeginsWith, classes_of, signs};
 ghost use Rattle.item_tables.specs.TypeStep.{may_end};
 ghost use Rattle.declarations.specs.Walk.{Stops};

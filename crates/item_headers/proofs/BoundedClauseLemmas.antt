@@ -4,7 +4,6 @@ use Rattle.pm_stream.specs.declared.stream.TokenTree.{TokenTree}
 use Rattle.proc_macro2.specs.DocGroup.{trees_of}
 use Rattle.proc_macro2.specs.Forest.{Forest}
 use Rattle.item_tables.specs.declared.class.SignClass.TheVariants as classes
-use Rattle.declarations.specs.Forms.{AreBounds}
 use Rattle.declarations.specs.Param.{ParamTrees, PredicateTrees}
 use Rattle.declarations.specs.Whole.{ReadsAll}
 use Rattle.declarations.specs.rules.Names.{Bounded, Bounds, G, Rest, one}
@@ -13,8 +12,6 @@ use Rattle.declarations.specs.rules.Pieces.{ByRule}
 use Rattle.declarations.specs.rules.Types.{bounds, type}
 use Rattle.declarations.specs.declared.generics.ParamKind.{ParamKind}
 use Rattle.declarations.specs.declared.generics.ParamKind.TheVariants as kinds
-use Rattle.declarations.proofs.FormLemmas as forms
-use Rattle.declarations.proofs.TransferLemmas.{reads_to}
 use Rattle.item_headers.specs.Header.{bounded_as, bounds_on_types, predicate_in, where_with}
 use Rattle.item_headers.specs.Lists.{list_trees, listed_after}
 use Rattle.item_headers.specs.declared.lists.Lead.TheVariants as leads
@@ -86,14 +83,13 @@ bounded_same ps bound params all whole =
 bound_derived : (bound : List TokenTree) → ReadsAll (ByRule bounds) bound → Derived bounds bound
 bound_derived bound reads =
     bounds_part bound bound []
-    (reads_to (ByRule bounds) AreBounds forms.bound_lists bound bound []
     (record {
       piece = reads.piece;
       read = reads.read;
       taken = reads.taken;
       whole = reads.whole;
       stands = reads.stands.0;
-    }))
+    })
 
 one_derived : (name bound : List TokenTree) → Derived type name → Derived bounds bound
     → Derived predicate (name ++ mark_tree 58 ∷ bound)

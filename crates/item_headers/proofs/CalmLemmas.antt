@@ -1,198 +1,152 @@
 -- Attributes, types and bounds end in a sign that is not read with the tree after it.
-use Rattle.std.proofs.Common.{◌≡◌, refl, sym, ◌∙◌, ap, subst, ℕ, ◌+◌, ◌==◌, Bool, true, false, ◌&&◌, List, [], ◌∷◌}
-use Rattle.std.proofs.Common.{Option, Some, None, ◌⊎◌, inl, inr}
-use Rattle.std.proofs.lemmas.Bool.{and_left, and_right, both_ways}
-use Rattle.item_tables.specs.Grammar.{depth_after, ends, step}
-use Rattle.item_tables.specs.TypeStep.{may_end, open_bracket, stay, step_of, within}
-use Rattle.item_tables.specs.declared.class.Keyword.TheVariants as keywords
+use Rattle.std.proofs.Common.{◌≡◌, refl, sym, ◌∙◌, ap, subst, Bool, true, false, not, ◌&&◌, ◌||◌, List, [], ◌∷◌, ◌++◌}
+use Rattle.std.proofs.lemmas.Bool.{and_parts, both_ways, or_cases, or_parts}
+use Rattle.std.proofs.Common.{inl, inr}
+use Rattle.grammars.specs.Grammar.{Derives, Either, Event, Listed, Mark, Many, Nothing, Sign, Then, To, both}
+use Rattle.grammars.specs.Grammar.{element, empty, first, last, mark, more, none, nothing, second, sign, signs_of, to}
+use Rattle.grammars.specs.Machine.{is_nullable}
+use Rattle.grammars.proofs.SoundLemmas.{signs_append}
+use Rattle.item_tables.specs.Classes.{every}
 use Rattle.item_tables.specs.declared.class.SignClass.{SignClass}
-use Rattle.item_tables.specs.declared.class.SignClass.TheVariants as classes
-use Rattle.item_tables.specs.declared.types.TypeState.{TypeState}
 use Rattle.item_tables.specs.declared.types.TypeState.TheVariants as states
-use Rattle.item_tables.specs.declared.types.TypeStep.{TypeStep}
-use Rattle.item_tables.specs.declared.walk_state.WalkState.{WalkState}
-use Rattle.declarations.specs.Range.{in_range}
-use Rattle.declarations.specs.Signs.{Sign, classes_of}
-use Rattle.declarations.specs.Walk.{walk}
-use Rattle.declarations.proofs.PartLemmas.{AttributePlace, attribute_place, closed, opened, start}
-use Rattle.declarations.proofs.RangeStepLemmas.{step_none, step_taken}
-use Rattle.declarations.proofs.WalkLemmas.{after, walk-cons}
+use Rattle.declarations.specs.Signs.{Sign as Read, classes_of}
+use Rattle.declarations.specs.rules.Names.{G, Label, Name, Outside, Range}
+use Rattle.declarations.specs.rules.Rules.{rules}
+use Rattle.declarations.proofs.ClassLemmas.{every_holds}
 use Rattle.item_headers.proofs.SeamLemmas.{Calm, calm_one, may_pair}
 
--- ---- walks among some states
+-- the last of the classes, if there is one, is not that of a mark that may be read with the tree after it
+abbrev pub Quiet : List SignClass → Type 0
+Quiet [] = Unit {0}
+Quiet (c ∷ []) = may_pair c ≡ false
+Quiet (c ∷ (d ∷ rest)) = Quiet (d ∷ rest)
 
--- a sign is no step from this state; or it is one to another of these states, where no part ends if it is a mark that
--- may be read with the tree after it
-abbrev StepsIn : (WalkState → Type 0) → WalkState → SignClass → Type 0
-StepsIn In place class =
-    (step place class ≡ None)
-    ⊎ ((next : WalkState) × (step place class ≡ Some next) × In next × (may_pair class ≡ true → ends next ≡ false))
+pub quiet_calm : (piece : List Read) → Quiet (classes_of piece) → Calm piece
+quiet_calm [] h = tt
+quiet_calm (one ∷ []) h = calm_one one h
+quiet_calm (one ∷ (next ∷ rest)) h = quiet_calm (next ∷ rest) h
 
-module _ (In : WalkState → Type 0) (steps : (place : WalkState) → In place → (c : SignClass) → StepsIn In place c) where
-  calm_last : (sign : Sign) (next last : WalkState) → (may_pair sign.class ≡ true → ends next ≡ false)
-      → next ≡ last → ends last ≡ true
-      → Calm (sign ∷ [])
-  calm_last sign next last f same ended = calm_one sign (go (may_pair sign.class) refl)
-    where
-      go : (b : Bool) → may_pair sign.class ≡ b → b ≡ false
-      go false e = refl
-      go true e = absurd (both_ways _ (sym (ap ends same) ∙ f e) ended)
+quiet_both : (xs ys : List SignClass) → Quiet xs → Quiet ys → Quiet (xs ++ ys)
+quiet_both [] ys a b = b
+quiet_both (x ∷ []) [] a b = a
+quiet_both (x ∷ []) (y ∷ ys) a b = b
+quiet_both (x ∷ (z ∷ xs)) ys a b = quiet_both (z ∷ xs) ys a b
 
-  pub walk_calm : (piece : List Sign) (place last : WalkState) → In place
-      → walk step place (classes_of piece) ≡ Some last → ends last ≡ true
-      → Calm piece
-  walk_calm [] place last here walks ended = tt
-  walk_calm (sign ∷ []) place last here walks ended = go (steps place here sign.class)
-    where
-      go : StepsIn In place sign.class → Calm (sign ∷ [])
-      go (inl none) =
-          let no : None ≡ Some last =
-          sym (walk-cons step place sign.class [] ∙ ap (λ o. after step o []) none) ∙ walks in
-          cc
-      go (inr next) =
-          let is : Some next.0 ≡ Some last =
-          sym (walk-cons step place sign.class [] ∙ ap (λ o. after step o []) next.1) ∙ walks in
-          let same : next.0 ≡ last = cc in
-          calm_last sign next.0 last next.3 same ended
-  walk_calm (sign ∷ (more ∷ rest)) place last here walks ended =
-      go (steps place here sign.class) (λ p. walk_calm (more ∷ rest) p last)
-    where
-      go : StepsIn In place sign.class
-          → ((p : WalkState) → In p → walk step p (classes_of (more ∷ rest)) ≡ Some last → ends last ≡ true
-          → Calm (more ∷ rest))
-          → Calm (sign ∷ (more ∷ rest))
-      go (inl none) f =
-          let no : None ≡ Some last =
-          sym (walk-cons step place sign.class (classes_of (more ∷ rest))
-          ∙ ap (λ o. after step o (classes_of (more ∷ rest))) none) ∙ walks in
-          cc
-      go (inr next) f =
-          f next.0 next.2
-          (sym (walk-cons step place sign.class (classes_of (more ∷ rest))
-          ∙ ap (λ o. after step o (classes_of (more ∷ rest))) next.1) ∙ walks) ended
+-- what comes before other signs does not matter
+quiet_last : (xs ys : List SignClass) → (ys ≡ [] → ⊥) → Quiet ys → Quiet (xs ++ ys)
+quiet_last xs [] some b = absurd (some refl)
+quiet_last [] (y ∷ ys) some b = b
+quiet_last (x ∷ []) (y ∷ ys) some b = b
+quiet_last (x ∷ (z ∷ xs)) (y ∷ ys) some b = quiet_last (z ∷ xs) (y ∷ ys) some b
 
--- ---- types and bounds
+no_front : {T : Type 0} (xs ys : List T) → xs ++ ys ≡ [] → xs ≡ []
+no_front [] ys e = refl
+no_front (x ∷ xs) ys e = cc
 
-abbrev Unended : Option TypeStep → ℕ → Type 0
-Unended None d = Unit {0}
-Unended (Some taken) d = ((depth_after taken.turn d == 0) && may_end taken.state) ≡ false
+no_back : {T : Type 0} (xs ys : List T) → xs ++ ys ≡ [] → ys ≡ []
+no_back [] ys e = e
+no_back (x ∷ xs) ys e = cc
 
--- a state that is only reached within brackets
-unended_within : (state : TypeState) (b : Bool) (d : ℕ) → (d == 0) ≡ b → Unended (within b (stay state)) d
-unended_within state true d e = tt
-unended_within state false d e = and_left (d == 0) (may_end state) e
+-- ---- what a rule derives ends quietly
 
-unended_open : (d : ℕ) → Unended open_bracket d
-unended_open d = and_right (d + 1 == 0) false refl
+-- no sign that passes the test is such a mark
+abbrev passes_quiet : (SignClass → Bool) → Bool
+passes_quiet passes = every (λ c. not (passes c && may_pair c))
 
-unended_never : (d : ℕ) → ((d == 0) && false) ≡ false
-unended_never d = and_right (d == 0) false refl
+-- whether this is the rule of a type or bounds outside of angle brackets
+abbrev is_outside : Name → Bool
+is_outside (Range state Outside) = true
+is_outside _ = false
 
-colon_unended : (s : TypeState) (d : ℕ) → Unended (step_of s classes.Colon (d == 0)) d
-colon_unended states.Whole d = unended_within states.Bound (d == 0) d refl
-colon_unended states.Binder d = unended_never d
-colon_unended _ d = tt
+-- a test of grammars: what they derive ends in no such mark
+abbrev pub ends_quietly : G → Bool
+ends_quietly Nothing = true
+ends_quietly (Sign passes) = passes_quiet passes
+ends_quietly (To passes n) = is_outside n && (passes_quiet passes || not (is_nullable (rules n)))
+ends_quietly (Mark l) = true
+ends_quietly (Then a b) = ends_quietly b && (not (is_nullable b) || ends_quietly a)
+ends_quietly (Either a b) = ends_quietly a && ends_quietly b
+ends_quietly (Many a) = ends_quietly a
+ends_quietly (Listed a s) = ends_quietly a && ends_quietly s
 
-minus_unended : (s : TypeState) (d : ℕ) → Unended (step_of s classes.Minus (d == 0)) d
-minus_unended states.Wanted d = unended_within states.Minus (d == 0) d refl
-minus_unended states.Bound d = unended_within states.Minus (d == 0) d refl
-minus_unended states.Lifetime d = unended_within states.Minus (d == 0) d refl
-minus_unended states.Argument d = unended_within states.Minus (d == 0) d refl
-minus_unended states.Abi d = unended_within states.Minus (d == 0) d refl
-minus_unended _ d = tt
+-- types and bounds outside of angle brackets pass the test
+range_ends : (n : Name) → is_outside n ≡ true → ends_quietly (rules n) ≡ true
+range_ends (Range states.Wanted Outside) h = refl
+range_ends (Range states.Bound Outside) h = refl
+range_ends (Range _ Outside) h = refl
+range_ends _ h = absurd (both_ways _ refl h)
 
-less_unended : (s : TypeState) (d : ℕ) → Unended (step_of s classes.Less (d == 0)) d
-less_unended states.Wanted d = unended_open d
-less_unended states.Bound d = unended_open d
-less_unended states.Lifetime d = unended_open d
-less_unended states.Argument d = unended_open d
-less_unended states.Abi d = unended_open d
-less_unended states.Whole d = unended_open d
-less_unended states.For d = unended_never d
-less_unended _ d = tt
+not_true : (b : Bool) → not b ≡ true → b ≡ false
+not_true true h = cc
+not_true false h = refl
 
-joint_unended : (s : TypeState) (d : ℕ) → Unended (step_of s classes.LessJoint (d == 0)) d
-joint_unended states.Wanted d = unended_open d
-joint_unended states.Bound d = unended_open d
-joint_unended states.Lifetime d = unended_open d
-joint_unended states.Argument d = unended_open d
-joint_unended states.Abi d = unended_open d
-joint_unended states.Whole d = unended_open d
-joint_unended states.For d = unended_never d
-joint_unended _ d = tt
-
-bar_unended : (s : TypeState) (d : ℕ) → Unended (step_of s classes.Bar (d == 0)) d
-bar_unended states.Wanted d = tt
-bar_unended _ d = tt
-
-hash_unended : (s : TypeState) (d : ℕ) → Unended (step_of s classes.Hash (d == 0)) d
-hash_unended states.Wanted d = tt
-hash_unended _ d = tt
-
-mark_unended : (s : TypeState) (d : ℕ) → Unended (step_of s classes.Mark (d == 0)) d
-mark_unended states.Wanted d = tt
-mark_unended _ d = tt
-
--- after a mark that may be read with the tree after it no type ends
-unended : (c : SignClass) → may_pair c ≡ true → (s : TypeState) (d : ℕ) → Unended (step_of s c (d == 0)) d
-unended classes.Colon h s d = colon_unended s d
-unended classes.Minus h s d = minus_unended s d
-unended classes.Less h s d = less_unended s d
-unended classes.LessJoint h s d = joint_unended s d
-unended classes.Bar h s d = bar_unended s d
-unended classes.Hash h s d = hash_unended s d
-unended classes.Mark h s d = mark_unended s d
-unended _ h s d = absurd (both_ways _ refl h)
-
-and_true : (a : Bool) → (a && true) ≡ a
-and_true true = refl
-and_true false = refl
-
--- the states of a walk over a type
-abbrev pub InType : WalkState → Type 0
-InType place = (s : TypeState) × (d : ℕ) × (place ≡ in_range s d)
-
-type_steps : (place : WalkState) → InType place → (c : SignClass) → StepsIn InType place c
-type_steps place here c =
-    subst (λ p. StepsIn InType p c) (sym here.2)
-    (go here.0 here.1 (step_of here.0 c (here.1 == 0)) refl)
+quiet_sign : (passes : SignClass → Bool) (c : SignClass) → passes_quiet passes ≡ true → passes c ≡ true
+    → may_pair c ≡ false
+quiet_sign passes c h e = go (passes c) (may_pair c) (every_holds (λ c. not (passes c && may_pair c)) h c) e
   where
-    go : (s : TypeState) (d : ℕ) (o : Option TypeStep) → step_of s c (d == 0) ≡ o → StepsIn InType (in_range s d) c
-    go s d None e = inl (step_none s d c None (sym e) refl)
-    go s d (Some taken) e = inr (
-      in_range taken.state (depth_after taken.turn d),
-      step_taken s d c (Some taken) taken (depth_after taken.turn d) (sym e) refl refl,
-      (taken.state, depth_after taken.turn d, refl),
-      λ h. and_true _ ∙ subst (λ x. Unended x d) e (unended c h s d),
-    )
+    go : (p m : Bool) → not (p && m) ≡ true → p ≡ true → m ≡ false
+    go true m h e = not_true m h
+    go false m h e = cc
 
--- what is read as a type or bounds ends in a calm sign
-pub type_calm : (s : TypeState) (piece : List Sign) (last : WalkState)
-    → walk step (in_range s 0) (classes_of piece) ≡ Some last → ends last ≡ true
-    → Calm piece
-type_calm s piece last walks ended =
-    walk_calm InType type_steps piece (in_range s 0) last (s, 0, refl) walks ended
+-- what needs a sign derives one
+derives_some : (g : G) (events : List (Event SignClass Label)) → is_nullable g ≡ false → Derives rules g events
+    → signs_of events ≡ []
+    → ⊥
+derives_some _ _ h nothing e = cc
+derives_some _ _ h (sign c p) e = cc
+derives_some _ _ h (to c p d) e = cc
+derives_some _ _ h (mark l) e = cc
+derives_some _ _ h (both {a = a} {b = b} {front = f} {back = g} x y) e =
+    go (is_nullable a) refl (λ i. derives_some a f i x (no_front (signs_of f) (signs_of g) split))
+    (λ i. derives_some b g i y (no_back (signs_of f) (signs_of g) split))
+  where
+    split : signs_of f ++ signs_of g ≡ []
+    split = sym (signs_append f g) ∙ e
 
--- ---- attributes
+    go : (n : Bool) → is_nullable a ≡ n → (is_nullable a ≡ false → ⊥) → (is_nullable b ≡ false → ⊥) → ⊥
+    go false i none_a none_b = none_a i
+    go true i none_a none_b = none_b (sym (ap (λ n. n && is_nullable b) i) ∙ h)
+derives_some _ _ h (first {a = a} {b = b} {events = f} d) e =
+    derives_some a f (or_parts (is_nullable a) (is_nullable b) h).0 d e
+derives_some _ _ h (second {a = a} {b = b} {events = f} d) e =
+    derives_some b f (or_parts (is_nullable a) (is_nullable b) h).1 d e
+derives_some _ _ h none e = cc
+derives_some _ _ h (more x y) e = cc
+derives_some _ _ h empty e = cc
+derives_some _ _ h (last d) e = cc
+derives_some _ _ h (element x y z) e = cc
 
-abbrev InAttributes : WalkState → Type 0
-InAttributes place = (g : AttributePlace) × (place ≡ attribute_place g)
-
-attribute_steps : (g : AttributePlace) (c : SignClass) → StepsIn InAttributes (attribute_place g) c
-attribute_steps start classes.Hash = inr (attribute_place opened, refl, (opened, refl), λ h. refl)
-attribute_steps start (classes.Keyword keywords.Pub) = inl refl
-attribute_steps start _ = inl refl
-attribute_steps opened classes.Brackets =
-    inr (attribute_place closed, refl, (closed, refl), λ h. absurd (both_ways _ refl h))
-attribute_steps opened _ = inl refl
-attribute_steps closed classes.Hash = inr (attribute_place opened, refl, (opened, refl), λ h. refl)
-attribute_steps closed (classes.Keyword keywords.Pub) = inl refl
-attribute_steps closed _ = inl refl
-
-pub attributes_calm : (piece : List Sign) (last : WalkState)
-    → walk step (attribute_place start) (classes_of piece) ≡ Some last → ends last ≡ true
-    → Calm piece
-attributes_calm piece last walks ended =
-    walk_calm InAttributes
-    (λ place here c. subst (λ p. StepsIn InAttributes p c) (sym here.1) (attribute_steps here.0 c))
-    piece (attribute_place start) last (start, refl) walks ended
+-- what a grammar that passes the test derives ends in no such mark
+pub quiet : (g : G) (events : List (Event SignClass Label)) → ends_quietly g ≡ true → Derives rules g events
+    → Quiet (signs_of events)
+quiet _ _ h nothing = tt
+quiet _ _ h (sign {passes = passes} c p) = quiet_sign passes c h p
+quiet _ _ h (to {passes = passes} {n = n} c {events = f} p d) =
+    let parts = and_parts (is_outside n) (passes_quiet passes || not (is_nullable (rules n))) h in
+    let rest = quiet (rules n) f (range_ends n parts.0) d in
+    elim (or_cases (passes_quiet passes) (not (is_nullable (rules n))) parts.1) [
+      | inl q ↦ quiet_both (c ∷ []) (signs_of f) (quiet_sign passes c q p) rest
+      | inr some ↦ quiet_last (c ∷ []) (signs_of f) (derives_some (rules n) f (not_true _ some) d) rest
+    ]
+quiet _ _ h (mark l) = tt
+quiet _ _ h (both {a = a} {b = b} {front = f} {back = g} x y) =
+    let parts = and_parts (ends_quietly b) (not (is_nullable b) || ends_quietly a) h in
+    let last = quiet b g parts.0 y in
+    subst Quiet (sym (signs_append f g))
+    (elim (or_cases (not (is_nullable b)) (ends_quietly a) parts.1) [
+      | inl some ↦ quiet_last (signs_of f) (signs_of g) (derives_some b g (not_true _ some) y) last
+      | inr q ↦ quiet_both (signs_of f) (signs_of g) (quiet a f q x) last
+    ])
+quiet _ _ h (first {a = a} {b = b} {events = f} d) = quiet a f (and_parts (ends_quietly a) (ends_quietly b) h).0 d
+quiet _ _ h (second {a = a} {b = b} {events = f} d) = quiet b f (and_parts (ends_quietly a) (ends_quietly b) h).1 d
+quiet _ _ h none = tt
+quiet _ _ h (more {a = a} {front = f} {back = g} x y) =
+    subst Quiet (sym (signs_append f g))
+    (quiet_both (signs_of f) (signs_of g) (quiet a f h x) (quiet (Many a) g h y))
+quiet _ _ h empty = tt
+quiet _ _ h (last {a = a} {s = s} {events = f} d) = quiet a f (and_parts (ends_quietly a) (ends_quietly s) h).0 d
+quiet _ _ h (element {a = a} {s = s} {front = f} {mid = m} {back = g} x y z) =
+    let parts = and_parts (ends_quietly a) (ends_quietly s) h in
+    subst Quiet (sym (signs_append f (m ++ g) ∙ ap (λ c. signs_of f ++ c) (signs_append m g)))
+    (quiet_both (signs_of f) (signs_of m ++ signs_of g) (quiet a f parts.0 x)
+    (quiet_both (signs_of m) (signs_of g) (quiet s m parts.1 y) (quiet (Listed a s) g h z)))

@@ -12,18 +12,13 @@ use Rattle.grammars.proofs.PieceLemmas.{Walks, run_walks}
 use Rattle.grammars.proofs.SoundLemmas.{signs_append}
 use Rattle.pm_stream.specs.declared.stream.TokenTree.{TokenTree}
 use Rattle.item_tables.specs.Classes.{is}
-use Rattle.item_tables.specs.Grammar as steps
 use Rattle.item_tables.specs.declared.class.SignClass.{SignClass}
-use Rattle.item_tables.specs.declared.walk_state.WalkState.{WalkState}
-use Rattle.declarations.specs.Forms.{IsFrom}
 use Rattle.declarations.specs.Found.{bare, finds}
 use Rattle.declarations.specs.Reader.{Finds, classes_in}
 use Rattle.declarations.specs.Reading.{Reads}
 use Rattle.declarations.specs.Signs.{classes_of, signs}
-use Rattle.declarations.specs.Signs as signed
-use Rattle.declarations.specs.Walk as table
 use Rattle.declarations.specs.rules.Names.{G, Label, Name, one}
-use Rattle.declarations.specs.rules.Pieces.{ReadsBy}
+use Rattle.declarations.specs.rules.Pieces.{ByRule}
 use Rattle.declarations.specs.rules.Rules.{follows, rules}
 use Rattle.declarations.proofs.FieldLemmas.{reads_alone}
 use Rattle.declarations.proofs.FoundLemmas.{bind, finds_lacks, finds_then}
@@ -31,6 +26,7 @@ use Rattle.declarations.proofs.ReadingLemmas.{classes-append}
 use Rattle.declarations.proofs.RuleLemmas.{well_formed}
 use Rattle.declarations.proofs.SignLemmas.{trees_of-signs}
 use Rattle.item_headers.proofs.SeamLemmas.{Calm, calm_append, seam}
+use Rattle.item_headers.proofs.CalmLemmas.{Quiet, ends_quietly, quiet, quiet_calm}
 
 -- the rule derives the signs of the trees, the last of which is read as it is, whatever comes after it
 pub record Derived (g : G) (trees : List TokenTree) : Type 0 where
@@ -114,26 +110,26 @@ derived_element g s a b d x y z = record {
   calm = calm_seam a (b ++ d) x.calm (calm_seam b d y.calm z.calm);
 }
 
--- ---- parts that the tables read
+-- ---- parts that are read
 
--- a part that a walk reads is read alone, and a rule with the same pieces derives it
-pub derived_part : (g : G) (place : WalkState) → ReadsBy g (IsFrom place)
-    → ((piece : List signed.Sign) (last : WalkState) → table.walk steps.step place (classes_of piece) ≡ Some last
-    → steps.ends last ≡ true → Calm piece)
-    → (trees part rest : List TokenTree) → Reads (IsFrom place) trees part rest
+-- a part that a rule reads is read alone, and the rule derives it
+pub derived_part : (g : G) → ends_quietly g ≡ true → (trees part rest : List TokenTree)
+    → Reads (ByRule g) trees part rest
     → Derived g part
 unfolding classes_in
-derived_part g place by calm trees part rest reads =
-    let alone = reads_alone place trees part rest reads in
+derived_part g ends trees part rest reads =
+    let alone = reads_alone g trees part rest reads in
     let whole : signs part ≡ alone.piece = alone.read ∙ append-nil alone.piece in
-    let p = (by (classes_of alone.piece) (classes_of (signs []))).0 alone.stands.0 in
+    let p = alone.stands.0 in
     let r = p.reading.reads in
     let front_is : r.0 ≡ p.events = sym (append-nil r.0) ∙ (ap (λ e. r.0 ++ e) (sym r.4) ∙ sym r.2) in
+    let derives = subst (λ e. Derives rules g e) front_is r.3 in
     record {
       events = p.events;
-      derives = subst (λ e. Derives rules g e) front_is r.3;
+      derives = derives;
       same = p.reading.whole ∙ ap classes_of (sym whole);
-      calm = subst Calm (sym whole) (calm alone.piece alone.stands.0.last alone.stands.0.walks alone.stands.0.ended);
+      calm = subst Calm (sym whole)
+          (quiet_calm alone.piece (subst Quiet p.reading.whole (quiet g p.events ends derives)));
     }
 
 -- ---- what is derived is found

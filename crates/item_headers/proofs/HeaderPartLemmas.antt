@@ -22,7 +22,6 @@ use Rattle.item_tables.specs.declared.class.SignClass.{SignClass}
 use Rattle.item_tables.specs.declared.class.SignClass.TheVariants as classes
 use Rattle.item_tables.specs.declared.class.Word.{Word}
 use Rattle.item_tables.specs.declared.class.Word.TheVariants as words
-use Rattle.declarations.specs.Forms.{IsType}
 use Rattle.declarations.specs.Impl.{begins_generics, begins_parameter, ends_parameter, goes_on_parameter, has_generics}
 use Rattle.declarations.specs.Reader.{Finds, classes_in}
 use Rattle.declarations.specs.Reading.{Reads}
@@ -34,12 +33,10 @@ use Rattle.declarations.specs.rules.Pieces.{ByRule}
 use Rattle.declarations.specs.rules.Rules.{follows, rules}
 use Rattle.declarations.specs.rules.Types.{type}
 use Rattle.declarations.proofs.ClassLemmas.{every_holds, same_class}
-use Rattle.declarations.proofs.FormLemmas as forms
 use Rattle.declarations.proofs.ReaderLemmas.{classes_sign, first_finds, heads_sign, mark_finds, sign_finds, then_finds}
 use Rattle.declarations.proofs.ReadingLemmas.{classes-append}
 use Rattle.declarations.proofs.RuleLemmas.{starts, well_formed}
 use Rattle.declarations.proofs.SignLemmas.{trees_of-signs}
-use Rattle.declarations.proofs.TransferLemmas.{reads_to}
 use Rattle.item_headers.proofs.DerivedLemmas.{Derived, classes_seam, derived_both, derived_finds, derived_first}
 use Rattle.item_headers.proofs.DerivedLemmas.{derived_mark, derived_nothing, derived_second, walk_finds}
 use Rattle.item_headers.proofs.ParamReadingLemmas.{AllDerived, begins_tree, derived_tree, list_derived, mark_apart}
@@ -334,9 +331,7 @@ begins_for rest = begins_tree for_tree rest (λ s. refl)
 -- the trees of a path that is read before `for`
 pub path_derived : (path : List TokenTree) → Reads (ByRule type) (path ++ for_tree ∷ []) path (for_tree ∷ [])
     → Derived type path
-path_derived path reads =
-    type_part (path ++ for_tree ∷ []) path (for_tree ∷ [])
-    (reads_to (ByRule type) IsType forms.types (path ++ for_tree ∷ []) path (for_tree ∷ []) reads)
+path_derived path reads = type_part (path ++ for_tree ∷ []) path (for_tree ∷ []) reads
 
 -- a path that is read before `for` is read before `for` and other trees
 pub path_finds : (path rest : List TokenTree) → Reads (ByRule type) (path ++ for_tree ∷ []) path (for_tree ∷ [])

@@ -39,7 +39,6 @@ use Rattle.declarations.proofs.ImplHeaderLemmas.{target_positive}
 use Rattle.declarations.proofs.ImplLemmas.{braces_find, braces_have, front_has, front_turns, generics_has}
 use Rattle.declarations.proofs.ImplLemmas.{generics_turn, header_turns, item_finds, no_parameters, no_parameters_has}
 use Rattle.declarations.proofs.ImplLemmas.{starts_item, trait_finds, trait_has}
-use Rattle.declarations.proofs.ListLemmas.{first_some}
 use Rattle.declarations.proofs.ReaderLemmas.{classes_sign, heads_sign, perhaps_stays, stays}
 use Rattle.declarations.proofs.RuleLemmas.{starts}
 use Rattle.declarations.proofs.RuleWholeLemmas.{whole_read}
@@ -51,6 +50,7 @@ use Rattle.item_headers.proofs.HeaderPartLemmas.{path_derived, path_finds, plain
 use Rattle.item_headers.proofs.ParamReadingLemmas.{AllDerived, begins_tree, declared, word_tree}
 use Rattle.item_headers.proofs.SelfTypeLemmas.{argument_trees, self_derived}
 use Rattle.item_headers.proofs.WrittenLemmas.{ParamsKnown, generic_trees, name_of}
+use Rattle.declarations.proofs.RuleFormLemmas.{first_some}
 
 -- ---- the first sign
 

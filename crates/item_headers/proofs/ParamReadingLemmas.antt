@@ -1,29 +1,23 @@
 -- The parts of generic parameters and of predicates, as the rules derive them.
 use Rattle.std.proofs.Common.{◌≡◌, refl, sym, ◌∙◌, ap, subst, ℕ, ◌==◌, ◌<◌, Bool, true, false, List, [], ◌∷◌, ◌++◌}
 use Rattle.std.proofs.Common.{Option, Some, None, append-nil, arith, codes, length}
-use Rattle.std.proofs.lemmas.Bool.{both_ways}
 use Rattle.std.proofs.lemmas.List.{append_cancel_right}
-use Rattle.grammars.specs.Grammar.{Either, Listed, Mark, Nothing, Then, perhaps}
+use Rattle.grammars.specs.Grammar.{Either, Mark, Nothing, Then, perhaps}
 use Rattle.grammars.specs.Grammar as grammar
 use Rattle.pm_stream.specs.InOrder.{token_tree}
 use Rattle.pm_stream.specs.declared.stream.TokenTree.{TokenTree}
 use Rattle.pm_stream.specs.declared.stream.TokenTree.TheVariants.{Group, Ident, Literal, Punct}
 use Rattle.proc_macro2.specs.Token as tokens
 use Rattle.item_tables.specs.Classes.{is, is_word}
-use Rattle.item_tables.specs.Grammar.{ends, step}
 use Rattle.item_tables.specs.declared.class.Keyword.TheVariants as keywords
 use Rattle.item_tables.specs.declared.class.SignClass.{SignClass}
 use Rattle.item_tables.specs.declared.class.SignClass.TheVariants as classes
-use Rattle.item_tables.specs.declared.types.TypeState.TheVariants as states
-use Rattle.item_tables.specs.declared.walk_state.WalkState.{WalkState}
 use Rattle.declarations.specs.Forms.{AreAttributes, AreBounds, IsType}
 use Rattle.declarations.specs.Param.{HasBounds, HasName, HasSign, IsParamAt, IsPredicateAt, IsWord, MayHave, MustHave}
 use Rattle.declarations.specs.Param.{ParamTrees, PredicateTrees, left_out, stands}
-use Rattle.declarations.specs.Range.{in_range}
 use Rattle.declarations.specs.Reader.{classes_in}
 use Rattle.declarations.specs.Reading.{Reads}
 use Rattle.declarations.specs.Signs.{BeginsWith, Sign, classes_of, pair_class, signs, tree_class}
-use Rattle.declarations.specs.Walk.{walk}
 use Rattle.declarations.specs.rules.Names.{Bounded, Bounds, G, Named, Parameter, Rest, comma, comma_list, key, one}
 use Rattle.declarations.specs.rules.Names.{word}
 use Rattle.declarations.specs.rules.Parts.{attributes, constant_rest, default_type, parameter, parameter_rest}
@@ -31,14 +25,12 @@ use Rattle.declarations.specs.rules.Parts.{predicate, with_bounds, with_constant
 use Rattle.declarations.specs.rules.Types.{bounds, type}
 use Rattle.declarations.specs.declared.generics.ParamKind.{ParamKind}
 use Rattle.declarations.specs.declared.generics.ParamKind.TheVariants as kinds
-use Rattle.declarations.proofs.FieldLemmas.{reads_alone}
-use Rattle.declarations.proofs.FormLemmas as forms
-use Rattle.declarations.proofs.PartLemmas.{attribute_place, start}
 use Rattle.declarations.proofs.SignLemmas.{begins_last, begins_one, pair_signs, signs-cons}
-use Rattle.item_headers.proofs.CalmLemmas.{attributes_calm, type_calm}
 use Rattle.item_headers.proofs.DerivedLemmas.{Derived, derived_both, derived_element, derived_first, derived_last}
 use Rattle.item_headers.proofs.DerivedLemmas.{derived_mark, derived_nothing, derived_part, derived_second, derived_sign}
 use Rattle.item_headers.proofs.SeamLemmas.{Calm, calm_one, may_pair}
+use Rattle.declarations.proofs.StartLemmas.{type_starts}
+use Rattle.declarations.proofs.RuleFormLemmas.{rule_fewer}
 
 -- ---- marks and words that a header adds
 
@@ -159,34 +151,21 @@ sign_part passes class trees sign rest s calm h =
 -- ---- types, bounds and attributes
 
 pub type_part : (trees part rest : List TokenTree) → Reads IsType trees part rest → Derived type part
-type_part trees part rest reads =
-    derived_part type (in_range states.Wanted 0) forms.types (λ piece last w e. type_calm states.Wanted piece last w e)
-    trees part rest reads
+type_part = derived_part type refl
 
 pub bounds_part : (trees part rest : List TokenTree) → Reads AreBounds trees part rest → Derived bounds part
-bounds_part trees part rest reads =
-    derived_part bounds (in_range states.Bound 0) forms.bound_lists
-    (λ piece last w e. type_calm states.Bound piece last w e) trees part rest reads
+bounds_part = derived_part bounds refl
 
 pub attributes_part : (trees part rest : List TokenTree) → Reads AreAttributes trees part rest
     → Derived attributes part
-attributes_part trees part rest reads =
-    derived_part attributes (attribute_place start) forms.attribute_lists
-    (λ piece last w e. attributes_calm piece last w e) trees part rest reads
-
-empty_walk : (piece : List Sign) (last : WalkState) → piece ≡ []
-    → walk step (in_range states.Wanted 0) (classes_of piece) ≡ Some last → ends last ≡ true → ⊥
-empty_walk piece last none walks ended =
-    let here : Some (in_range states.Wanted 0) ≡ Some last =
-    ap (λ p. walk step (in_range states.Wanted 0) (classes_of p)) (sym none) ∙ walks in
-    both_ways _ refl (subst (λ o. elim o as (λ x. Bool) [ None ↦ true | Some p ↦ ends p ] ≡ true) (sym here) ended)
+attributes_part = derived_part attributes refl
 
 -- a type has at least one tree
 pub type_some : (trees rest : List TokenTree) → Reads IsType trees [] rest → ⊥
 type_some trees rest reads =
-    let alone = reads_alone (in_range states.Wanted 0) trees [] rest reads in
-    let none : alone.piece ≡ [] = sym (append-nil alone.piece) ∙ sym alone.read in
-    empty_walk alone.piece alone.stands.0.last none alone.stands.0.walks alone.stands.0.ended
+    let fewer = rule_fewer type type_starts trees [] rest refl reads in
+    let whole = ap length reads.whole in
+    omega arith
 
 -- ---- generic parameters
 

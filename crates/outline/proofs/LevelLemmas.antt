@@ -24,9 +24,8 @@ use Rattle.token_buffer.specs.Reads.{Begins, BeginsWithGroup, group_first, left}
 use Rattle.token_buffer.specs.declared.cursor.Cursor.{Cursor}
 use Rattle.token_buffer.specs.declared.cursor.TokenText.{TokenText}
 use Rattle.token_buffer.specs.declared.cursor.TokenText.TheVariants as texts
-use Rattle.declarations.proofs.ListLemmas.{reads_fewer}
 use Rattle.declarations.specs.File.{HasKindOf, body_of}
-use Rattle.declarations.specs.Forms.{AreAttributes, AreInnerAttributes, IsAnyItem, any_item}
+use Rattle.declarations.specs.Forms.{AreAttributes, AreInnerAttributes, IsAnyItem}
 use Rattle.declarations.specs.Kind.{HasKind}
 use Rattle.declarations.specs.Reading.{Reads}
 use Rattle.declarations.specs.declared.any_item.AnyItem.{AnyItem}
@@ -46,6 +45,9 @@ use Rattle.outline.proofs.HollowLemmas.{reads_hollow}
 use Rattle.outline.proofs.OnlyLemmas.{Requires, closed_stops, item_stops, same_trees, trees_in-forest}
 use Rattle.outline.proofs.OutlineLemmas.{Completes, completes_all, completes_alone, completes_item, stack}
 use Rattle.outline.proofs.OutlineLemmas.{kind_and_name_copied}
+use Rattle.declarations.proofs.StartLemmas.{any_item_starts}
+use Rattle.declarations.proofs.RuleFormLemmas.{rule_fewer}
+use Rattle.declarations.specs.rules.Items.{any_item}
 
 -- ---- the trees of a stream
 
@@ -239,7 +241,7 @@ takes files form path depth items rest all it entry step are reads kind_and_name
     counted ∙ ap length found.front_is ∙ length-map found.front hollow in
     let entry_is : entry_of_value entry ≡ entry_of depth it.kind name (map hollow head.after) =
     is ∙ ap (entry_of depth it.kind name) head.after_is in
-    let fewer = reads_fewer any_item all found.front found.after refl found.read in
+    let fewer = rule_fewer any_item any_item_starts all found.front found.after refl found.read in
     let sizes : length all ≡ length found.front + length found.after =
     ap length found.read.whole ∙ length-append found.front found.after in
     record {

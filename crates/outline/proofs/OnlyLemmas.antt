@@ -10,20 +10,19 @@ use Rattle.pm_stream.specs.declared.stream.Group.{Group as Grouped}
 use Rattle.pm_stream.specs.declared.stream.TokenTree.{TokenTree}
 use Rattle.pm_stream.specs.declared.stream.TokenTree.TheVariants.{Group, Ident, Punct, Literal}
 use Rattle.declarations.proofs.KindLemmas.{one_kind}
-use Rattle.declarations.proofs.ListLemmas.{reads_fewer}
-use Rattle.declarations.proofs.ReadingLemmas.{split_only}
 use Rattle.declarations.specs.File.{body_of}
-use Rattle.declarations.specs.Forms.{AreAttributes, AreInnerAttributes, IsAnyItem, any_item, start}
+use Rattle.declarations.specs.Forms.{AreAttributes, AreInnerAttributes, IsAnyItem}
 use Rattle.declarations.specs.Kind.{HasKind}
 use Rattle.declarations.specs.Reading.{Reads}
 use Rattle.declarations.specs.declared.any_item.ItemKind.{ItemKind}
-use Rattle.item_tables.specs.declared.walk_state.Continuation.TheVariants as rules
-use Rattle.item_tables.specs.declared.walk_state.State.TheVariants as states
-use Rattle.item_tables.specs.declared.walk_state.Spot.TheVariants as spots
 use Rattle.outline.specs.Hollow.{trees_in}
 use Rattle.outline.specs.Outline.{AreInside, AreTrees, BeginsWithItem, IsOutline, IsTreesOutline, NeverIs, Outline}
 use Rattle.outline.specs.Outline.{item, nothing}
 use Rattle.outline.proofs.OutlineLemmas.{AreOutlines, stack, stack_last}
+use Rattle.declarations.proofs.StartLemmas.{any_item_starts, inner_attributes_starts}
+use Rattle.declarations.proofs.RuleFormLemmas.{only_reading, rule_fewer}
+use Rattle.declarations.specs.rules.Parts.{inner_attributes}
+use Rattle.declarations.specs.rules.Items.{any_item}
 
 -- ---- the trees of a stream
 
@@ -48,7 +47,7 @@ same_trees xs ys same = sym (trees_in-forest xs) ∙ ap trees_in same ∙ trees_
 inner_only : (trees inner rest inner2 rest2 : List TokenTree) → Reads AreInnerAttributes trees inner rest
     → Reads AreInnerAttributes trees inner2 rest2 → rest2 ≡ rest
 inner_only trees inner rest inner2 rest2 one other =
-    (split_only (start rules.Alone (states.At spots.Inner)) trees inner rest one inner2 rest2 other).1
+    (only_reading inner_attributes inner_attributes_starts trees inner rest one inner2 rest2 other).1
 
 pub inside_only : (body : Option Grouped) (items items2 : List TokenTree) → AreInside body items
     → AreInside body items2 → items2 ≡ items
@@ -111,7 +110,7 @@ requires_pop of trees last levels less split h whole is =
 
 not_before : (trees : List TokenTree) (part rest : List TokenTree) → Reads IsAnyItem trees part rest → trees ≡ [] → ⊥
 not_before trees part rest reads none =
-    let fewer = reads_fewer any_item trees part rest refl reads in
+    let fewer = rule_fewer any_item any_item_starts trees part rest refl reads in
     let size : length trees ≡ 0 = ap length none in
     omega arith
 
@@ -123,7 +122,7 @@ requires-item old new inside kind name header nothing found is =
     absurd (not_before old found.part new found.read is)
 requires-item old new inside kind name header (item kind2 name2 header2 within after) found
     (items, rest, begins, is_within, is_after) =
-    let only = split_only any_item old found.part new found.read begins.part rest begins.read in
+    let only = only_reading any_item any_item_starts old found.part new found.read begins.part rest begins.read in
     let kind_and_name2 : HasKind old new kind2 name2 =
     subst (λ ts. HasKind old ts kind2 name2) only.1 begins.kind_and_name in
     let kinds : kind2 ≡ kind = kind_only old new kind kind2 name name2 found.kind_and_name kind_and_name2 in
@@ -195,7 +194,7 @@ first-closed old new part outer kind name reads kind_and_name never (nothing ∷
     not_before old part new reads are.0
 first-closed old new part outer kind name reads kind_and_name never
     (item kind2 name2 header within after ∷ os, ((items, rest, begins, is, also), more)) =
-    let only = split_only any_item old part new reads begins.part rest begins.read in
+    let only = only_reading any_item any_item_starts old part new reads begins.part rest begins.read in
     let kind_and_name2 : HasKind old new kind2 name2 =
     subst (λ ts. HasKind old ts kind2 name2) only.1 begins.kind_and_name in
     let kinds : kind2 ≡ kind = kind_only old new kind kind2 name name2 kind_and_name kind_and_name2 in

@@ -2,7 +2,6 @@
 //! The signs that can come next where trees do not fit the grammar.
 
 use crate::item_tables::class::{Keyword, SignClass, Word, code};
-use crate::item_tables::walk_state::WalkState;
 
 /// A set of classes of signs, which may also have the end in it.
 ///
@@ -152,29 +151,5 @@ impl Expected {
         Expected {
             bits: self.bits | other.bits,
         }
-    }
-}
-
-/// Those of the classes for which there is a step from this place.
-fn steps_among(place: WalkState, classes: &[SignClass]) -> Expected
-{
-    let mut found = Expected::nothing();
-    for class in classes {
-        if place.step(*class).is_some() {
-            found = found.with(*class);
-        }
-    }
-    found
-}
-
-/// The signs for which there is a step from this place, and the end if the part may end there.
-#[cold]
-pub(crate) fn steps_from(place: WalkState) -> Expected
-{
-    let found = steps_among(place, &CLASSES);
-    if place.may_end() {
-        found.with_end()
-    } else {
-        found
     }
 }

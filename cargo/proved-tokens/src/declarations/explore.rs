@@ -1,12 +1,12 @@
 // Made from crates/declarations/src/explore.rt by dev/erase: change that file, not this one.
 //! How far a rule reads, and with what signs it can go on. This is for trees that do not fit the grammar.
 
-use crate::declarations::expected::{CLASSES, Expected, steps_from};
+use crate::declarations::expected::{CLASSES, Expected};
 use crate::declarations::fault::Fault;
 use crate::declarations::reader::is;
 use crate::declarations::signs::first_sign;
 use crate::declarations::syntax::{Guard, Label, Syntax, Table, Test, admits, passes, start_of, table_of};
-use crate::declarations::walk::walk_from;
+use crate::declarations::walk::{steps_from, walk_from};
 use crate::item_tables::class::SignClass;
 use crate::pm_stream::TokenTree;
 

@@ -1,7 +1,9 @@
 // Made from crates/declarations/src/walk.rt by dev/erase: change that file, not this one.
-//! The walk over the signs of trees by the tables of the grammar.
+//! The walk over the signs of trees by the tables of types, bounds and expressions.
 
+use crate::declarations::expected::{CLASSES, Expected};
 use crate::declarations::signs::first_sign;
+use crate::item_tables::class::SignClass;
 use crate::item_tables::walk_state::WalkState;
 use crate::pm_stream::TokenTree;
 
@@ -25,8 +27,6 @@ pub(crate) struct Stop<'a> {
     pub place: WalkState,
     /// The trees that are left.
     pub left: &'a [TokenTree],
-    /// The trees from the item's name on, or no trees if it has no name.
-    pub named: &'a [TokenTree],
 }
 
 /// Walks from a state on, as far as the signs are steps.
@@ -34,27 +34,41 @@ pub(crate) fn walk_from<'a>(trees: &'a [TokenTree], start: WalkState) -> Stop<'a
 {
     let mut place = start;
     let mut left = trees;
-    let mut named = trees.split_at(0).0;
-    while let Some((next, after, begins)) = next_place(place, left) {
-        named = later(begins, left, named);
+    while let Some((next, after)) = next_place(place, left) {
         place = next;
         left = after;
     }
-    Stop { place, left, named }
+    Stop { place, left }
 }
 
-fn later<'a>(begins: bool, trees: &'a [TokenTree], named: &'a [TokenTree]) -> &'a [TokenTree]
-{
-    if begins { trees } else { named }
-}
-
-/// One step: the next state, the trees after the sign, and whether the sign is the item's name.
-fn next_place<'a>(
-    place: WalkState,
-    trees: &'a [TokenTree],
-) -> Option<(WalkState, &'a [TokenTree], bool)>
+/// One step: the next state, and the trees after the sign.
+fn next_place<'a>(place: WalkState, trees: &'a [TokenTree]) -> Option<(WalkState, &'a [TokenTree])>
 {
     let (class, after) = first_sign(trees)?;
     let next = place.step(class)?;
-    Some((next, after, place.names(class)))
+    Some((next, after))
+}
+
+/// Those of the classes for which there is a step from this place.
+fn steps_among(place: WalkState, classes: &[SignClass]) -> Expected
+{
+    let mut found = Expected::nothing();
+    for class in classes {
+        if place.step(*class).is_some() {
+            found = found.with(*class);
+        }
+    }
+    found
+}
+
+/// The signs for which there is a step from this place, and the end if what is read may end there.
+#[cold]
+pub(crate) fn steps_from(place: WalkState) -> Expected
+{
+    let found = steps_among(place, &CLASSES);
+    if place.may_end() {
+        found.with_end()
+    } else {
+        found
+    }
 }

@@ -1,7 +1,7 @@
 use Rattle.std.proofs.Common.{inl, arith}
 use Rattle.declarations.specs.rules.Paths.{generic_argument}
 use Rattle.declarations.specs.rules.Pieces.{ByRule}
-use Rattle.declarations.proofs.CommaLemmas.{by_rule, lacks_comma}
+use Rattle.declarations.proofs.CommaLemmas.{lacks_comma}
 use Rattle.declarations.proofs.ListLemmas.{past_fewer, rest_within}
 use Rattle.declarations.proofs.GenericArgumentLemmas.{starts_argument}
 use Rattle.declarations.proofs.generic_argument.first_argument.Goals as goal
@@ -24,7 +24,7 @@ returns-in-Some-clause-fewer c =
 pub returns-in-None-clause-given : goal.returns-in-None-clause-given
 returns-in-None-clause-given c =
     let at = c.in-Ok.ensures.ok in
-    lacks_comma generic_argument starts_argument (ByRule generic_argument) (by_rule generic_argument) c.args.trees.now
+    lacks_comma generic_argument starts_argument c.args.trees.now
     at.part c.in-Ok.rest.now _ at.reads c.in-None.ensures.none c.fault_at_comma.ensures.at c.fault_at_comma.ensures.span
     c.fault_at_comma.ensures.expected
 

@@ -1,5 +1,5 @@
 use Rattle.std.proofs.Common.{◌≡◌, ◌∙◌, ◌==◌, ap, eqb-true, false, sym}
-use Rattle.declarations.proofs.ItemLemmas.{item_all, item_left, left_expects}
+use Rattle.declarations.proofs.ItemLemmas.{item_all, item_left, left_expects, stuck_expects}
 use Rattle.declarations.proofs.item.parse_type_item.Goals as goal
 
 pub returns-then-is_empty-clause-ok : goal.returns-then-is_empty-clause-ok
@@ -17,3 +17,8 @@ returns-else-is_empty-clause-expected c =
     left_expects c.args.trees.now c.in-Ok.rest.now c.fault_by.result.at c.fault_by.result.expected c.in-Ok.ensures.0
     (λ none. let no : false ≡ (0 == 0) = c.if-is_empty.ensures ∙ ap (λ n. n == 0) none in cc)
     c.fault_by.ensures.at c.fault_by.ensures.expected
+
+pub returns-in-Err-clause-expected : goal.returns-in-Err-clause-expected
+returns-in-Err-clause-expected c =
+    stuck_expects c.args.trees.now c.in-Err.left.now c.fault_by-in-Err.result.at c.fault_by-in-Err.result.expected
+    c.in-Err.ensures c.fault_by-in-Err.ensures.at c.fault_by-in-Err.ensures.expected

@@ -1,11 +1,30 @@
-use Rattle.std.proofs.Common.{◌≡◌, true, false, subst}
-use Rattle.declarations.proofs.ParamLemmas.{back_more, back_sign, minus_fails, type_found}
-use Rattle.declarations.specs.Param.{is_constant, negative, one_sign}
+use Rattle.std.proofs.Common.{◌≡◌, true, false, subst, List, [], Result, Ok, Err, MatchResult}
+use Rattle.pm_stream.specs.declared.stream.TokenTree.{TokenTree}
+use Rattle.declarations.proofs.ParamLemmas.{back_more, back_sign, minus_fails, no_sign, type_found}
+use Rattle.declarations.specs.Forms.{IsType}
+use Rattle.declarations.specs.Param.{Fails, ReadsConstant, is_constant, negative, of_type, one_sign}
+use Rattle.declarations.specs.Reading.{Reads}
 use Rattle.declarations.specs.Signs.{BeginsWith}
 use Rattle.item_tables.specs.declared.class.SignClass.TheVariants as classes
 use Rattle.declarations.proofs.ParamRuleLemmas.{constant_finds, negative_finds, negative_sticks, none_other}
 use Rattle.declarations.proofs.ParamRuleLemmas.{other_reads, sign_other}
 use Rattle.declarations.proofs.param_parts.constant_of.Goals as goal
+
+-- no trees are a constant
+no_constant : (trees : List TokenTree) → trees ≡ [] → (left : List TokenTree) → Fails (Reads IsType) trees left
+    → (part rest : List TokenTree) → ReadsConstant trees part rest → ⊥
+no_constant trees none left fails part rest (one_sign class is sign) = no_sign class trees none rest sign.begins
+no_constant trees none left fails part rest (negative after begins number whole) =
+    no_sign classes.Minus trees none after begins
+no_constant trees none left fails part rest (of_type reads) = fails.nothing part rest reads
+
+missing : {T E : Type 0} → (r : Result T E) (part rest : T → List TokenTree) (fault : E → List TokenTree)
+    (trees : List TokenTree) → trees ≡ []
+    → MatchResult r (λ f. Reads IsType trees (part f) (rest f)) (λ e. Fails (Reads IsType) trees (fault e))
+    → MatchResult r (λ f. ReadsConstant trees (part f) (rest f)) (λ e. Fails ReadsConstant trees (fault e))
+missing (Ok f) part rest fault trees none reads = of_type reads
+missing (Err e) part rest fault trees none fails =
+    record { back = fails.back; nothing = no_constant trees none (fault e) fails }
 
 pub before-requires-in-Some-past_sign : goal.before-requires-in-Some-past_sign
 before-requires-in-Some-past_sign c =
@@ -65,3 +84,8 @@ pub returns-in_default-clause-rule : goal.returns-in_default-clause-rule
 returns-in_default-clause-rule c =
     other_reads c.args.trees.now c.type_of.result (none_other c.args.trees.now c.in_default.ensures)
     c.type_of.ensures.rule
+
+pub returns-in_default-clause-parts : goal.returns-in_default-clause-parts
+returns-in_default-clause-parts c =
+    missing c.type_of.result (λ f. f.0.now) (λ f. f.1.now) (λ e. e.now) c.args.trees.now c.in_default.ensures
+    c.type_of.ensures.parts

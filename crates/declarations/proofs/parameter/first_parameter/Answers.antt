@@ -1,7 +1,7 @@
 use Rattle.std.proofs.Common.{inl, arith}
 use Rattle.declarations.specs.rules.Parameters.{function_parameter}
 use Rattle.declarations.specs.rules.Pieces.{ByRule}
-use Rattle.declarations.proofs.CommaLemmas.{by_rule, lacks_comma}
+use Rattle.declarations.proofs.CommaLemmas.{lacks_comma}
 use Rattle.declarations.proofs.ListLemmas.{past_fewer, rest_within}
 use Rattle.declarations.proofs.ParameterLemmas.{starts_parameter}
 use Rattle.declarations.proofs.parameter.first_parameter.Goals as goal
@@ -24,7 +24,7 @@ returns-in-Some-clause-fewer c =
 pub returns-in-None-clause-given : goal.returns-in-None-clause-given
 returns-in-None-clause-given c =
     let at = c.in-Ok.ensures.ok in
-    lacks_comma function_parameter starts_parameter (ByRule function_parameter) (by_rule function_parameter)
+    lacks_comma function_parameter starts_parameter
     c.args.trees.now at.part c.in-Ok.rest.now _ at.reads c.in-None.ensures.none c.fault_at_comma.ensures.at
     c.fault_at_comma.ensures.span
     c.fault_at_comma.ensures.expected

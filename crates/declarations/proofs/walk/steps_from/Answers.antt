@@ -1,7 +1,7 @@
 use Rattle.std.proofs.Common.{◌≡◌, ◌∙◌, false, is_some, true}
 use Rattle.item_tables.specs.Grammar.{ends, step}
 use Rattle.declarations.proofs.ExpectedLemmas.{any_class}
-use Rattle.declarations.proofs.expected.steps_from.Goals as goal
+use Rattle.declarations.proofs.walk.steps_from.Goals as goal
 
 pub returns-then-may_end : goal.returns-then-may_end
 returns-then-may_end c =

@@ -2,7 +2,7 @@ use Rattle.std.proofs.Common.{false, ◌&&◌, take, is_some}
 use Rattle.item_tables.specs.Grammar.{step}
 use Rattle.declarations.specs.Expected.{HasSigns}
 use Rattle.item_tables.specs.Classes.{any_of, is}
-use Rattle.declarations.proofs.expected.steps_among.Given as goal
+use Rattle.declarations.proofs.walk.steps_among.Given as goal
 
 -- the set has the classes so far for which there is a step
 abbrev pub invariant-loop-class : goal.invariant-loop-class
