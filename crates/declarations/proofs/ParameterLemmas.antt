@@ -15,7 +15,7 @@ use Rattle.pm_span.specs.Extent.{Extent}
 use Rattle.pm_stream.specs.declared.stream.TokenTree.{TokenTree}
 use Rattle.declarations.specs.Entry.{IsOnlyRest}
 use Rattle.declarations.specs.Fault.{extent_at, first_extent}
-use Rattle.declarations.specs.Syntax.{start}
+use Rattle.declarations.specs.Range.{in_range}
 use Rattle.declarations.specs.Parameter.{HasEnd, HasKind, HasPatternType, HasSelfType, HasType, IsParameterAt}
 use Rattle.declarations.specs.Parameter.{LeadsTo, ReadsEnd, ReadsFront, ReadsNamed, ReadsPattern, ReadsTyped}
 use Rattle.declarations.specs.Parameter.{front_of, left_of}
@@ -33,10 +33,6 @@ use Rattle.declarations.specs.declared.parameter.ParameterKind.TheVariants as ki
 use Rattle.declarations.specs.declared.parameter.Named.{Named}
 use Rattle.declarations.specs.declared.parameter.Shape.{Shape}
 use Rattle.declarations.specs.declared.parameter.Shape.TheVariants as shapes
-use Rattle.item_tables.specs.declared.walk_state.Part.TheVariants as parts
-use Rattle.item_tables.specs.declared.walk_state.Continuation.TheVariants as places
-use Rattle.item_tables.specs.declared.walk_state.Spot.TheVariants as spots
-use Rattle.item_tables.specs.declared.walk_state.State.TheVariants as states
 use Rattle.item_tables.specs.declared.types.TypeState.TheVariants as types
 use Rattle.item_tables.specs.Classes.{is, keyword, opens}
 use Rattle.declarations.specs.rules.Names.{G, Label, Named as NamedPart, OfType, Outside}
@@ -84,17 +80,10 @@ starts_parameters = starts rule.function_parameters refl refl
 
 pub type_reads : (trees : List TokenTree) (result : Result (Bor (List TokenTree)) (Bor (List TokenTree)))
     → MatchResult result
-    (λ rest. StopsAt (start places.Alone (states.Range types.Wanted)) true trees rest.now)
-    (λ left. StopsAt (start places.Alone (states.Range types.Wanted)) false trees left.now)
+    (λ rest. StopsAt (in_range types.Wanted 0) true trees rest.now)
+    (λ left. StopsAt (in_range types.Wanted 0) false trees left.now)
     → ReadsRule type trees result
-type_reads = table_reads (start places.Alone (states.Range types.Wanted)) type refl
-
-pub attributes_read : (trees : List TokenTree) (result : Result (Bor (List TokenTree)) (Bor (List TokenTree)))
-    → MatchResult result
-    (λ rest. StopsAt (start places.Alone (states.At (spots.Before parts.Attributes))) true trees rest.now)
-    (λ left. StopsAt (start places.Alone (states.At (spots.Before parts.Attributes))) false trees left.now)
-    → ReadsRule attributes trees result
-attributes_read = table_reads (start places.Alone (states.At (spots.Before parts.Attributes))) attributes refl
+type_reads = table_reads (in_range types.Wanted 0) type refl
 
 -- ---- a rule that goes on as another rule
 

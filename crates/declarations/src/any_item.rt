@@ -10,8 +10,8 @@ ghost use Rattle.declarations.specs.Reading.{FaultAt, IsOnly, Reads, first_name}
 use crate::explore::fault_by;
 use crate::fault::Fault;
 use crate::item_kinds::past_any_item;
+use crate::item_syntax::ANY_ITEM;
 use crate::reader::part;
-use crate::syntax::ANY_ITEM;
 use pm_stream::TokenTree;
 use pm_token::Ident;
 

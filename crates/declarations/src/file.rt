@@ -14,8 +14,8 @@ use crate::any_item::{AnyItem, ItemKind, name_of, split_any_item};
 use crate::explore::fault_by;
 use crate::fault::Fault;
 use crate::item_kinds::past_any_item;
+use crate::item_syntax::ANY_ITEM;
 use crate::part_splitting::split_inner_attributes;
-use crate::syntax::ANY_ITEM;
 use pm_stream::{Group, TokenTree};
 use pm_token::Delimiter;
 

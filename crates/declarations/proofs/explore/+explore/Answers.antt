@@ -1,10 +1,15 @@
 use Rattle.std.proofs.Common.{◌∙◌, refl, sym, arith}
-use Rattle.declarations.specs.Syntax.{grammar_of}
+use Rattle.grammars.specs.Grammar.{Then, To}
+use Rattle.declarations.specs.Syntax.{grammar_of, name_of, test_of}
 use Rattle.declarations.proofs.ExploreLemmas.{lists_element, lists_end, lists_more, lists_none, lists_stuck}
 use Rattle.declarations.proofs.ExploreLemmas.{sees_within}
 use Rattle.declarations.proofs.ExploreLemmas.{repeats_end, repeats_more, repeats_none, repeats_stuck}
 use Rattle.item_tables.specs.declared.class.SignClass.TheVariants as classes
 use Rattle.declarations.proofs.ReaderLemmas.{remains_sign, remains_within}
+use Rattle.declarations.proofs.GoalLemmas.{import_goes, onward_on, onward_self, separated, to_seen}
+use Rattle.item_tables.specs.declared.class.SignClass.TheVariants as signs
+use Rattle.declarations.specs.rules.Items.{call, call_name, use_path}
+use Rattle.declarations.specs.rules.Names.{one}
 use Rattle.declarations.proofs.explore.+explore.Goals as goal
 
 -- ---- lists
@@ -125,3 +130,51 @@ explore-returns-else-one-trees t c =
     rw c.in-Either.is
     (c.choose.ensures (grammar_of c.in-Either.first.now) (grammar_of c.in-Either.second.now) c.args.trees.now
     c.explore-one.ensures (λ less. omega arith) c.explore-else-one-trees.ensures)
+
+pub explore-returns-in-Ok : goal.explore-returns-in-Ok
+explore-returns-in-Ok t c =
+    let found = c.in-Ok.ensures in
+    rw c.in-To.is
+    (to_seen (test_of c.in-To.test.now) (name_of c.in-To.goal.now) c.args.trees.now c.in-Ok.rest.now found.0
+    c.explore_goal.result found.1 found.2 c.explore_goal.ensures)
+
+pub explore-returns-in-Err : goal.explore-returns-in-Err
+explore-returns-in-Err t c =
+    rw c.in-To.is
+    (c.in-Err.ensures.1 (To (test_of c.in-To.test.now) (name_of c.in-To.goal.now)) (λ x. refl) refl)
+
+-- ---- macro calls
+
+pub explore_call-loop-left-init : goal.explore_call-loop-left-init
+explore_call-loop-left-init t c = onward_self call c.args.trees.now
+
+pub explore_call-loop-left-preserved : goal.explore_call-loop-left-preserved
+explore_call-loop-left-preserved t c =
+    onward_on call c.args.trees.now c.loop-left.left.now c.in-Ok.rest.now c.loop-left.invariant c.in-Ok.ensures.1
+
+pub explore_call-loop-left-smaller : goal.explore_call-loop-left-smaller
+explore_call-loop-left-smaller t c = let fewer = c.in-Ok.ensures.0 in omega arith
+
+pub explore_call-returns-then-one-left : goal.explore_call-returns-then-one-left
+explore_call-returns-then-one-left t c =
+    c.loop-left.invariant c.begun.result.left.now c.begun.result.next
+    (c.begun.ensures (Then (one signs.Exclamation) call_name) separated c.loop-left.left.now c.explore-one.ensures
+    c.if-one-left.true)
+
+pub explore_call-returns-in-Err : goal.explore_call-returns-in-Err
+explore_call-returns-in-Err t c =
+    c.loop-left.invariant c.choose.result.left.now c.choose.result.next
+    (c.choose.ensures (Then (one signs.Exclamation) call_name) separated c.loop-left.left.now c.explore-one.ensures
+    (λ less. let not = c.if-one-left.false in omega arith) c.in-Err.ensures)
+
+-- ---- imports
+
+pub explore_use_path-loop-left-init : goal.explore_use_path-loop-left-init
+explore_use_path-loop-left-init t c = onward_self use_path c.args.trees.now
+
+pub explore_use_path-loop-left-preserved : goal.explore_use_path-loop-left-preserved
+explore_use_path-loop-left-preserved t c =
+    let one = c.in-Ok.ensures in
+    let two = c.in-Ok-in-Ok.ensures in
+    onward_on use_path c.args.trees.now c.loop-left.left.now c.in-Ok-in-Ok.after.now c.loop-left.invariant
+    (import_goes c.loop-left.left.now c.in-Ok.rest.now one.0 one.1 one.2 c.in-Ok-in-Ok.after.now two.0 two.1 two.2).1
