@@ -519,7 +519,7 @@ class Expected:
         if signs[-1] in ("Literal", "Truth", "Braces", "Block") and signs[:-1] in ((), ("Minus",)):
             return [str(trees(signs)), "Const", "0"]
         found = [(signs, "Type", 0)] if self.is_whole("type", signs) else []
-        for mark, end, kind in (("Equals", "type", "Binding"), ("Colon", "bounds", "Constraint")):
+        for mark, end, kind in (("Equals", "constant_default", "Binding"), ("Colon", "bounds", "Constraint")):
             for at in [place for place, sign in enumerate(signs) if sign == mark]:
                 if self.is_whole("type", signs[:at]) and self.is_whole(end, signs[at + 1:]):
                     found.append((signs[:at], kind, trees(signs[at + 1:])))

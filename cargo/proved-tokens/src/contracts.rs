@@ -234,7 +234,7 @@
 //! - <a id="declarations.rules.Parameters.function_parameter"></a>**function_parameter**: a parameter of a
 //!   function: attributes, and then a receiver, a pattern and its type, or `...`
 //! - <a id="declarations.rules.Paths.generic_argument"></a>**generic_argument**: a generic argument: a
-//!   lifetime, a constant, a type, a name with `=` and a type, or a name with `:` and bounds
+//!   lifetime, a constant, a type, or a name with `=` and a constant or a type, or `:` and bounds
 //! - <a id="declarations.Expected.holds"></a>**holds**: whether the class is in the set
 //! - <a id="declarations.Expected.holds_end"></a>**holds_end**: whether the end is in the set
 //! - <a id="declarations.rules.ImplItems.impl_item"></a>**impl_item**: an `impl`: attributes, a visibility,

@@ -56,6 +56,9 @@ starts_lifetime = starts (one signs.Lifetime) refl refl
 starts_constant : IsStart rules follows (rule.constant ∷ [])
 starts_constant = starts rule.constant refl refl
 
+starts_binding_value : IsStart rules follows (rule.binding_value ∷ [])
+starts_binding_value = starts rule.binding_value refl refl
+
 starts_type : IsStart rules follows (type ∷ [])
 starts_type = begin.type_starts
 
@@ -92,7 +95,7 @@ or_nothing false y = refl
 
 -- ---- what follows a type that begins with a word
 
--- `=` and a type, or `:` and bounds
+-- `=` and a constant or a type, or `:` and bounds
 abbrev equals_or_colon : G
 equals_or_colon = Either rule.assignment rule.colon_bounds
 
@@ -104,30 +107,32 @@ module _ (trees from_end : List TokenTree) (class : SignClass) (b : BeginsWith t
     equals_heads : (g : G) → may_begin g signs.Equals ≡ true → heads g (classes_in trees) ≡ true
     equals_heads g e = heads_sign g trees from_end signs.Equals at_equals ∙ e
 
-    pub binding_finds : (rest : List TokenTree) → Finds type from_end rest → Finds rule.constraint trees rest
+    pub binding_finds : (rest : List TokenTree) → Finds rule.binding_value from_end rest
+        → Finds rule.constraint trees rest
     binding_finds rest f =
         first_finds equals_or_colon Nothing trees rest (equals_heads equals_or_colon refl)
         (first_finds rule.assignment rule.colon_bounds trees rest (equals_heads rule.assignment refl)
         (mark_finds Rest _ trees rest
         (then_finds (one signs.Equals) _ trees from_end rest
         (sign_finds (is signs.Equals) trees from_end signs.Equals at_equals refl)
-        (mark_finds Value type from_end rest f))))
+        (mark_finds Value rule.binding_value from_end rest f))))
 
-    pub binding_sticks : (left : List TokenTree) → Sticks type from_end left → Sticks rule.constraint trees left
+    pub binding_sticks : (left : List TokenTree) → Sticks rule.binding_value from_end left
+        → Sticks rule.constraint trees left
     binding_sticks left f =
         first_sticks equals_or_colon Nothing trees left (equals_heads equals_or_colon refl)
         (first_sticks rule.assignment rule.colon_bounds trees left (equals_heads rule.assignment refl)
         (mark_sticks Rest _ trees left
         (then_fails (one signs.Equals) _ trees from_end left
         (sign_finds (is signs.Equals) trees from_end signs.Equals at_equals refl)
-        (mark_sticks Value type from_end left f))))
+        (mark_sticks Value rule.binding_value from_end left f))))
 
-    pub binding_has : (ty rest : List TokenTree) → Finds type from_end rest → from_end ≡ ty ++ rest
-        → HasAfter signs.Equals type trees ty rest
-    binding_has ty rest f whole = record {
+    pub binding_has : (bound rest : List TokenTree) → Finds rule.binding_value from_end rest → from_end ≡ bound ++ rest
+        → HasAfter signs.Equals rule.binding_value trees bound rest
+    binding_has bound rest f whole = record {
       from_end = from_end;
       marked = at_equals;
-      end_read = found_reads type starts_type from_end ty rest f whole;
+      end_read = found_reads rule.binding_value starts_binding_value from_end bound rest f whole;
     }
 
   module _ (h : is signs.Colon class ≡ true) where
@@ -221,7 +226,7 @@ pub word_has : (trees part mid rest : List TokenTree) (kind : ArgumentKind) → 
     → HasArgument kind trees part rest
 word_has trees part mid rest kinds.Type f whole e =
     subst (λ r. Reads (ByRule type) trees part r) e (found_reads type starts_type trees part mid f whole)
-word_has trees part mid rest (kinds.Binding ty) f whole h =
+word_has trees part mid rest (kinds.Binding bound) f whole h =
     record { from_mark = mid; part_read = found_reads type starts_type trees part mid f whole; after = h }
 word_has trees part mid rest (kinds.Constraint given) f whole h =
     record { from_mark = mid; part_read = found_reads type starts_type trees part mid f whole; after = h }

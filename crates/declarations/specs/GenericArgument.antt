@@ -35,7 +35,8 @@ abbrev pub HasArgument : ArgumentKind → List TokenTree → List TokenTree → 
 HasArgument kinds.Lifetime trees part rest = Reads (ByRule (one classes.Lifetime)) trees part rest
 HasArgument kinds.Const trees part rest = Reads (ByRule rule.constant) trees part rest
 HasArgument kinds.Type trees part rest = Reads (ByRule type) trees part rest
-HasArgument (kinds.Binding ty) trees part rest = HasMarked classes.Equals type trees part ty.now rest
+HasArgument (kinds.Binding bound) trees part rest =
+    HasMarked classes.Equals rule.binding_value trees part bound.now rest
 HasArgument (kinds.Constraint given) trees part rest = HasMarked classes.Colon bounds trees part given.now rest
 
 -- the trees begin with a generic argument that has these parts, and the rest comes after it
@@ -55,7 +56,7 @@ GivesArgument old given new =
 -- the trees after a type that begins with a word begin with what an argument of this kind has there
 abbrev pub HasConstraint : ArgumentKind → List TokenTree → List TokenTree → Type 0
 HasConstraint kinds.Type trees rest = trees ≡ rest
-HasConstraint (kinds.Binding ty) trees rest = HasAfter classes.Equals type trees ty.now rest
+HasConstraint (kinds.Binding bound) trees rest = HasAfter classes.Equals rule.binding_value trees bound.now rest
 HasConstraint (kinds.Constraint given) trees rest = HasAfter classes.Colon bounds trees given.now rest
 HasConstraint kinds.Lifetime trees rest = ⊥
 HasConstraint kinds.Const trees rest = ⊥

@@ -22,7 +22,7 @@ pub enum ArgumentKind<'a> {
     Const,
     /// A type. A path such as `N` is a type here, also if it names a constant.
     Type,
-    /// A name with `=` and this type, such as `Item = u8`.
+    /// A name with `=` and this type or constant, such as `Item = u8` or `N = 3`.
     Binding(&'a [TokenTree]),
     /// A name with `:` and these bounds, such as `Item: Copy`. The bounds have no trees if nothing follows the `:`.
     Constraint(&'a [TokenTree]),
@@ -40,9 +40,10 @@ pub struct GenericArgument<'a> {
 /// Returns the generic argument at the start of the trees, and the trees after it.
 ///
 /// Pass the trees between angle brackets, or the rest that an earlier call returned. An argument is a lifetime, a
-/// constant or a type. After a type that begins with a word there may be `=` and a type, or `:` and bounds; the call
-/// does not check that the trees before them are one name, perhaps with arguments of its own. Types and bounds are not
-/// parsed; only their ends are found. A comma within brackets ends no argument. The call allocates nothing.
+/// constant or a type. After a type that begins with a word there may be `=` and a constant or a type, or `:` and
+/// bounds; the call does not check that the trees before them are one name, perhaps with arguments of its own. Types
+/// and bounds are not parsed; only their ends are found. A comma within brackets ends no argument. The call allocates
+/// nothing.
 ///
 /// If the trees begin with no argument, the call returns a `Fault`. The rule `generic-argument` is in
 /// crates/declarations/README.md. For `Item = Vec<(A, B)>, C` the trees are `Item`, the type is `Vec<(A, B)>`, and the
@@ -206,13 +207,32 @@ fn past_constant(trees: &[TokenTree]) -> Result<&[TokenTree], &[TokenTree]>
     }
 }
 
-/// Reads what follows a type that begins with a word: `=` and a type, `:` and bounds, or nothing.
+/// Whether a constant can begin here.
+fn heads_constant(trees: &[TokenTree]) -> bool
+{
+    match first_sign(trees) {
+        Some((class, _)) => begins_constant(class),
+        None => false,
+    }
+}
+
+/// Skips what a name is bound to: a constant or a type.
+fn past_binding_value(trees: &[TokenTree]) -> Result<&[TokenTree], &[TokenTree]>
+{
+    if heads_constant(trees) {
+        past_constant(trees)
+    } else {
+        past_type(trees)
+    }
+}
+
+/// Reads what follows a type that begins with a word: `=` and a constant or a type, `:` and bounds, or nothing.
 fn constraint_of(trees: &[TokenTree]) -> Result<(ArgumentKind<'_>, &[TokenTree]), &[TokenTree]>
 {
     match first_sign(trees) {
         Some((class, from_end)) => {
             if is(SignClass::Equals, class) {
-                return match past_type(from_end) {
+                return match past_binding_value(from_end) {
                     Ok(rest) => Ok((ArgumentKind::Binding(part(from_end, rest)), rest)),
                     Err(left) => Err(left),
                 };

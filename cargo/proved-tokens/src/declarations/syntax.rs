@@ -657,6 +657,15 @@ pub(crate) const PREDICATE: Syntax<'static> = Syntax::Then(
     ),
 );
 
+/// A constant: a literal, `-` and a literal, braces, `true` or `false`.
+const CONSTANT: Syntax<'static> = Syntax::Either(
+    &Syntax::Then(
+        &Syntax::Sign(Test::Is(SignClass::Minus)),
+        &Syntax::Sign(Test::Is(SignClass::Literal)),
+    ),
+    &Syntax::Sign(Test::Constant),
+);
+
 /// A generic argument.
 pub(crate) const ARGUMENT: Syntax<'static> = Syntax::Either(
     &Syntax::Then(
@@ -664,16 +673,7 @@ pub(crate) const ARGUMENT: Syntax<'static> = Syntax::Either(
         &Syntax::Sign(Test::Is(SignClass::Lifetime)),
     ),
     &Syntax::Either(
-        &Syntax::Then(
-            &Syntax::Mark(Label::Value),
-            &Syntax::Either(
-                &Syntax::Then(
-                    &Syntax::Sign(Test::Is(SignClass::Minus)),
-                    &Syntax::Sign(Test::Is(SignClass::Literal)),
-                ),
-                &Syntax::Sign(Test::Constant),
-            ),
-        ),
+        &Syntax::Then(&Syntax::Mark(Label::Value), &CONSTANT),
         &Syntax::Then(
             &Syntax::Mark(Label::OfType),
             &Syntax::Either(
@@ -691,7 +691,10 @@ const CONSTRAINT: Syntax<'static> = Syntax::Either(
             &Syntax::Mark(Label::Rest),
             &Syntax::Then(
                 &Syntax::Sign(Test::Is(SignClass::Equals)),
-                &Syntax::Then(&Syntax::Mark(Label::Value), &Syntax::Table(Table::Type)),
+                &Syntax::Then(
+                    &Syntax::Mark(Label::Value),
+                    &Syntax::Either(&CONSTANT, &Syntax::Table(Table::Type)),
+                ),
             ),
         ),
         &Syntax::Then(

@@ -20,15 +20,19 @@ is_constant = one_of (signs.Literal ∷ signs.Braces ∷ signs.Block ∷ signs.T
 abbrev pub constant : G
 constant = Either (Then (one signs.Minus) (one signs.Literal)) (Sign is_constant)
 
--- `=` and a type
+-- what a name is bound to: a constant or a type
+abbrev pub binding_value : G
+binding_value = Either constant type
+
+-- `=`, and a constant or a type
 abbrev pub assignment : G
-assignment = seq (Mark Rest ∷ one signs.Equals ∷ Mark Value ∷ type ∷ [])
+assignment = seq (Mark Rest ∷ one signs.Equals ∷ Mark Value ∷ binding_value ∷ [])
 
 -- `:` and bounds
 abbrev pub colon_bounds : G
 colon_bounds = seq (Mark Rest ∷ one signs.Colon ∷ Mark Bounds ∷ bounds ∷ [])
 
--- what may follow a type that begins with a word: `=` and a type, `:` and bounds, or nothing
+-- what may follow a type that begins with a word: `=` and a constant or a type, `:` and bounds, or nothing
 abbrev pub constraint : G
 constraint = perhaps (Either assignment colon_bounds)
 
@@ -44,7 +48,7 @@ word_argument = Then word_type constraint
 abbrev pub type_argument : G
 type_argument = Then (Mark OfType) (Either word_argument (other_operand Outside))
 
--- a generic argument: a lifetime, a constant, a type, a name with `=` and a type, or a name with `:` and bounds
+-- a generic argument: a lifetime, a constant, a type, or a name with `=` and a constant or a type, or `:` and bounds
 abbrev pub generic_argument : G
 generic_argument = alt (
     Then (Mark Named) (one signs.Lifetime)

@@ -120,6 +120,7 @@ fn arguments_are_in_angle_brackets_or_parentheses(rt: HostRuntime) {
             ("A<B<C>>", Angle(0, 4, 1)),
             ("A<B<C, D>, E>", Angle(0, 8, 2)),
             ("A<<T as B>::C, 3>", Angle(0, 10, 2)),
+            ("A<T, N = -3>", Angle(0, 6, 2)),
             (
                 "A<'a, T, 3, { N }, -1, Item = U, Item: 'a + B>",
                 Angle(0, 22, 7),
@@ -177,7 +178,7 @@ fn other_types_and_broken_paths_are_rejected(rt: HostRuntime) {
             ("A<T,,>", FaultAt(4)),
             ("A<T; U>", FaultAt(3)),
             ("A<'a + B>", FaultAt(4)),
-            ("A<N = 3>", FaultAt(4)),
+            ("A<N = 3 4>", FaultAt(5)),
             ("A<T as B>", FaultAt(3)),
         ],
     );

@@ -372,8 +372,16 @@ fn an_error_of_a_part_has_the_signs_that_can_come_next() -> Result<(), Fail> {
             Call::Argument,
             "A = ;",
             2,
-            &[NAME, SignClass::And],
-            &[SignClass::Equals, SignClass::Semicolon, SignClass::Literal],
+            &[
+                NAME,
+                SignClass::And,
+                SignClass::Minus,
+                SignClass::Literal,
+                SignClass::Truth,
+                SignClass::Braces,
+                SignClass::Block,
+            ],
+            &[SignClass::Equals, SignClass::Semicolon],
             false,
         ),
         (

@@ -3,7 +3,7 @@
 use crate::shim::prelude::{AllocGlobal, HostRuntime};
 
 // The generic arguments of paths. The crate syn 2 reads each text in the same way, unless a row says otherwise.
-use crate::declarations_tests::tests::checks::{check_answer, in_groups, parsed};
+use crate::declarations_tests::tests::checks::{HeldText, check_answer, check_held, held_stream, in_groups, parsed};
 use proved_tokens::declarations::{ArgumentKind, GenericArgument, GenericArguments, parse_generic_argument};
 use proved_tokens::proc_macro2::TokenTree;
 use crate::shim::process::Abort;
@@ -134,8 +134,47 @@ fn broken_arguments_are_rejected() {
             ("&A = B", &[Parts::Fault(2)]),
             ("(A): B", &[Parts::Fault(1)]),
             ("'a: 'b", &[Parts::Fault(2)]),
-            // The crate syn 2 reads a binding of a constant, which no stable version of Rust accepts.
-            ("N = 3", &[Parts::Fault(2)]),
+        ],
+    );
+}
+
+#[test]
+fn a_name_is_bound_to_a_constant() {
+    let rt = HostRuntime;
+    check(
+        &rt,
+        &[
+            ("N = 3", &[Parts::Binding(1, 1)]),
+            ("N = -3", &[Parts::Binding(1, 2)]),
+            (
+                "N = 'x', M = \"y\"",
+                &[Parts::Binding(1, 1), Parts::Binding(1, 1)],
+            ),
+            (
+                "N = true, M = false,",
+                &[Parts::Binding(1, 1), Parts::Binding(1, 1)],
+            ),
+            ("N = { M + 1 }, T", &[Parts::Binding(1, 1), Parts::Type(1)]),
+            ("N<'a, T> = 3", &[Parts::Binding(7, 1)]),
+            ("N = A<M = 3>", &[Parts::Binding(1, 6)]),
+        ],
+    );
+}
+
+#[test]
+fn a_broken_constant_after_a_name_is_rejected() {
+    let rt = HostRuntime;
+    check(
+        &rt,
+        &[
+            ("N = -", &[Parts::Fault(3)]),
+            ("N = -x", &[Parts::Fault(3)]),
+            ("N = -{ 3 }", &[Parts::Fault(3)]),
+            ("N = 3 + 4", &[Parts::Fault(3)]),
+            ("N = 3 = 4", &[Parts::Fault(3)]),
+            ("N = true M", &[Parts::Fault(3)]),
+            ("N: 3", &[Parts::Fault(2)]),
+            ("3 = N", &[Parts::Fault(1)]),
         ],
     );
 }
@@ -168,4 +207,22 @@ fn a_block_in_a_group_without_delimiters_is_a_constant() {
     let found = first_of(stream.trees());
     release(stream);
     check_answer(&rt, "{ N }", &found, &Some((1, 0, true)));
+}
+
+/// The parts of the first argument of the text in groups.
+fn parts_in(rt: &(impl Abort + AllocGlobal), text: HeldText<'_>) -> Option<Parts> {
+    let stream = held_stream(rt, text);
+    let found = next_parts(&mut GenericArguments::new(stream.trees()));
+    release(stream);
+    found
+}
+
+#[test]
+fn a_constant_after_a_name_may_be_in_a_group_without_delimiters() {
+    let rt = HostRuntime;
+    let binding = Some(Parts::Binding(1, 1));
+    let block = ("N =", "{ M }", 1, "");
+    check_held(&rt, block, &parts_in(&rt, block), &binding);
+    let literal = ("N =", "3", 2, ", T");
+    check_held(&rt, literal, &parts_in(&rt, literal), &binding);
 }
