@@ -240,8 +240,12 @@ def try_together(batch, crate, base, repository):
     """Tries edits of functions of their own in one check. It answers what shows each refused, of those that are."""
     copied = repository / "crates" / crate
     clone(base / "crates" / crate, copied)
-    for edit in batch:
-        apply(edit, copied)
+    for edit in list(batch):
+        try:
+            apply(edit, copied)
+        except BadEdit:
+            # An edit before it wrote its old text once more, so it is tried alone.
+            batch = {other: of for other, of in batch.items() if other is not edit}
     status, log = check(repository, crate)
     if status and any(line.startswith("logic=not-proved") for line in log.splitlines()):
         found = {edit: shown(log, of, copied) for edit, of in batch.items()}
