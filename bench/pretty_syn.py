@@ -74,7 +74,7 @@ def bodies(text: str) -> list[tuple[int, int]]:
 
 
 def without_kept_bodies(wanted: str, got: str, again: str) -> tuple[str, str]:
-    """Both texts without the macro bodies that differ and that rustfmt leaves alone. `again` is what it makes of `got`."""
+    """Both texts without the macro bodies that differ and that rustfmt leaves alone. It makes `again` of `got`."""
     texts = (wanted, got, again)
     places = [bodies(text) for text in texts]
     if len({len(found) for found in places}) > 1:
