@@ -16,6 +16,7 @@ mod times;
 use parts::Part;
 use proved_tokens::pm_span::SourceMap;
 use proved_tokens::pm_stream::TokenStream as OwnStream;
+use proved_tokens::text::{pieces, PieceKind};
 use std::collections::BTreeMap;
 use std::path::{Path, PathBuf};
 use std::{env, fs, io, process, thread};
@@ -67,11 +68,17 @@ impl Counts {
         let mut map = SourceMap::new();
         let ours = match OwnStream::from_str(text, &mut map) {
             Ok(ours) => ours,
-            Err(fault) => return self.differ(None, path, "", &format!("ours doesn't lex it: {fault}")),
+            Err(fault) => {
+                let note = format!("ours doesn't lex it: {fault}");
+                return self.differ(cause::of_rejected_text(text), path, "", &note);
+            }
         };
         let mut found = match every::ours(ours.trees(), &map) {
             Ok(found) => found,
-            Err(fault) => return self.differ(None, path, "", &format!("ours refuses it: {fault:?}")),
+            Err(fault) => {
+                let note = format!("ours refuses it: {fault:?}");
+                return self.differ(cause::of_rejected_file(file), path, "", &note);
+            }
         };
         let theirs = every::theirs(file);
         every::drop_kept(&mut found, &theirs);
@@ -206,9 +213,11 @@ impl Counts {
 /// The text after a first line that no Rust is, as syn leaves it out.
 fn without_shebang(text: &str) -> &str {
     let text = text.strip_prefix('\u{feff}').unwrap_or(text);
-    match text.strip_prefix("#!") {
-        Some(rest) if !rest.trim_start().starts_with('[') => text.find('\n').map_or("", |end| &text[end..]),
-        _ => text,
+    let Some(rest) = text.strip_prefix("#!") else { return text };
+    let next = pieces(rest).find(|placed| placed.piece.kind != PieceKind::Gap);
+    match next {
+        Some(placed) if placed.piece.kind == PieceKind::Opener('[') => text,
+        _ => text.find('\n').map_or("", |end| &text[end..]),
     }
 }
 
