@@ -1,13 +1,12 @@
 #!/usr/bin/env python3
-"""Compares the tables of crates/item_tables with a grammar, on all short lists of signs.
+"""Compares the grammar of declarations with a second one, which is written by hand, on all short lists of signs.
 
 For each part, and each list of signs over an alphabet, it looks for all readings of the list by `grammar.txt`. There
-must be one at most. The walk by the tables in `specs/` must end exactly where there is one, and go on exactly where
-the list is a front of one. The tables are read from the definitions, so a wrong row of these shows here.
+must be one at most. The part's rule in `crates/declarations/specs/rules`, as `dev/checks/grammar_value.py` reads this
+value, must end exactly where there is one, and go on exactly where the list is a front of one.
 
-Entries of attributes, parameters of functions, paths and generic arguments have no table. In place of a walk by tables,
-these are read by their rules in `crates/declarations/specs/rules`, as `dev/checks/grammar_value.py` reads this value.
-So are generic parameters, without the brackets.
+Types, bounds and expressions have tables. In place of their rules the tables in `crates/item_tables/specs` are walked.
+They are read from the definitions, so a wrong row of these shows here.
 
 Usage: readings.py [--code] [LENGTH [PART..]]
 
@@ -186,14 +185,9 @@ def class_of(sign):
     return {"Word": ("Word", "Plain"), "Keyword": ("Keyword", "Other")}.get(sign, sign)
 
 
-def shifted(depth, shift):
-    """The place that a shift leads to."""
-    return shift[:3] + (max(0, depth + TURNS[shift[3]]),)
-
-
 class Tables:
     def __init__(self):
-        files = ("TypeStep", "Moves", "Expression", "Header", "Front", "Grammar")
+        files = ("TypeStep", "Expression", "Walk")
         self.equations = {}
         for name in files:
             with open(os.path.join(SPECS, name + ".antt")) as file:
@@ -207,8 +201,12 @@ class Tables:
         return self.known[key]
 
     def first(self, name, arguments):
-        if name in ("turn_to", "go", "type_from"):
+        if name in ("turn_to", "go"):
             return arguments
+        if name == "to_spot":
+            return "Outside", ("At", arguments[0]), "Stay"
+        if name == "open_angle":
+            return arguments[0], ("Range", "Argument"), "Open"
         for patterns, value in self.equations[name]:
             bound = {}
             if all(match(pattern, argument, bound) for pattern, argument in zip(patterns, arguments)):
@@ -232,40 +230,37 @@ class Tables:
     def holds(self, name, *arguments):
         return self.call(name, *arguments) == "true"
 
-    def range(self, item, rule, state, depth, sign):
-        taken = self.call("step_of", state, sign, "true" if depth == 0 else "false")
-        if taken is None:
+    def range(self, rule, state, depth, sign):
+        taken = self.call("step_of", state, sign, "true" if depth == 0 and rule != "Inside" else "false")
+        if taken is None or (rule == "Inside" and taken[1] == "Close" and depth == 0):
             return None
-        depth += TURNS[taken[1]]
+        depth = max(0, depth + TURNS[taken[1]])
         if taken[1] == "Close" and depth == 0:
-            return item, rule, self.call("after_angle", rule, taken[0]), depth
-        return item, rule, ("Range", taken[0]), depth
+            return rule, self.call("after_angle", rule, taken[0]), depth
+        return rule, ("Range", taken[0]), depth
 
     def step(self, place, sign):
-        item, rule, (kind, name), depth = place
-        if kind == "Range":
-            next_place = self.range(item, rule, name, depth, sign)
-            if next_place is None and depth == 0 and self.holds("may_end", name):
-                shift = self.call("follow", item, rule, sign)
-                next_place = shift and shifted(depth, shift)
+        rule, (kind, name), depth = place
+        if kind == "At":
+            shift = self.call("spot_step", name, sign)
+            return shift and shift[:2] + (max(0, depth + TURNS[shift[2]]),)
+        next_place = self.range(rule, name, depth, sign)
+        if next_place or depth or not self.holds("may_end", name):
             return next_place
-        shift = self.call("spot_step", item, rule, name, sign)
-        if shift is not None:
-            return shifted(depth, shift)
-        start = self.call("spot_type", item, rule, name)
-        return start and self.range(item, start[0], start[1], depth, sign)
+        return ("Outside", ("Range", "Wanted"), 0) if (rule, sign) == ("Target", ("Keyword", "For")) else None
 
     def ends(self, place):
-        item, rule, (kind, name), depth = place
+        rule, (kind, name), depth = place
         if kind == "Range":
-            return depth == 0 and self.holds("may_end", name) and self.holds("rule_ends", item, rule)
-        return self.holds("spot_ends", item, rule, name)
+            return depth == 0 and self.holds("range_ends", rule, name)
+        return self.holds("spot_ends", name)
 
 
 # ---- the comparison
 
-PARTS = [
-    ("type", "Alone", "Alone", ("Range", "Wanted"), [
+# Parts that have tables: their first state, and alphabets.
+TABLES = [
+    ("type", "Outside", ("Range", "Wanted"), [
         "Word Less Greater Comma Parentheses PathSeparator Plus",
         "Word And Lifetime Mut Exclamation Dyn For",
         "Word Less Greater Minus Literal Braces As Equals",
@@ -273,45 +268,56 @@ PARTS = [
         "For Less Greater Lifetime Comma Word Restriction",
         "Less Greater Colon Truth Brackets Invisible Visibility Question SelfType",
         "Word Less Greater Comma Plus Lifetime", "Word Less Greater Block Comma Exclamation Extern"]),
-    ("bounds", "Alone", "Alone", ("Range", "Bound"), [
+    ("bounds", "Outside", ("Range", "Bound"), [
         "Word Plus Lifetime Question For Less Greater",
         "Word Arrow Parentheses Comma Exclamation Braces As", "Word Plus Block Less Greater"]),
-    ("attributes", "Alone", "Alone", ("At", ("Before", "Attributes")), ["Hash Brackets Word"]),
-    ("visibility", "Alone", "Alone", ("At", ("Before", "Visibility")), ["Pub Restriction Parentheses Word Visibility"]),
-    ("field", "Alone", "Alone", ("At", ("Before", "Field")), [
-        "Hash Brackets Pub Restriction Word Union Colon Visibility"]),
-    ("fields", "Alone", "Fields", ("At", ("Before", "Field")), [
-        "Word Colon Comma Less Greater Pub", "Hash Brackets Word Colon Comma"]),
-    ("tuple_field", "Alone", "Alone", ("At", ("Before", "TupleField")), [
-        "Hash Brackets Pub Restriction Parentheses Word Visibility Invisible"]),
-    ("tuple_fields", "Alone", "TupleFields", ("At", ("Before", "TupleField")), [
-        "Word Comma Pub Restriction Less Greater", "Hash Brackets Pub Word Comma"]),
-    ("variant", "Alone", "Alone", ("At", ("Before", "Variant")), [
-        "Hash Brackets Pub Restriction Word Union Parentheses Braces Equals Visibility", "Word Block Equals Literal"]),
-    ("variants", "Variants", "Alone", ("At", ("Before", "Variant")), [
-        "Hash Brackets Word Comma Equals Less", "Word Equals Comma Less Greater As",
-        "Pub Word Comma Equals Braces", "Word Equals Comma Jump Dot Bar"]),
-    ("expression", "Alone", "Alone", ("At", "Expression"), [
+    ("expression", "Outside", ("At", "Expression"), [
         "Word Comma Equals Less LessJoint PathSeparator Literal As",
         "Word As Comma Less Greater PathSeparator Star And Arrow",
         "Bar Bars Word Comma Colon Less Greater Arrow Braces",
         "Word Dot And Exclamation Question Lifetime Jump Hash Brackets",
         "Word Less LessJoint LessEquals Greater Comma Parentheses",
         "Await Keyword For Truth Minus Plus Infix Union Invisible", "Word Block As Dot Bar Less Greater Jump"]),
-    ("generics", "Alone", "Alone", ("At", "Generics"), [
+    ("implemented_type", "Target", ("Range", "Wanted"), [
+        "Word For Less Greater Lifetime Plus Dyn", "Word For Parentheses Arrow PathSeparator Exclamation Braces",
+        "Extern Literal Word For Star Const And", "Word For Less Greater Comma Equals Colon"]),
+    ("argument", "Inside", ("Range", "Wanted"), [
+        "Word Comma Equals Colon Plus Lifetime As", "Minus Literal Truth Braces Block Word Comma",
+        "Word Less Greater Comma Extern Arrow PathSeparator"]),
+]
+
+
+# The other parts: the rule of the value, and alphabets.
+RULES = [
+    ("attributes", "Parts.attributes", ["Hash Brackets Word"]),
+    ("visibility", "Parts.visibility", ["Pub Restriction Parentheses Word Visibility"]),
+    ("field", "Parts.field", [
+        "Hash Brackets Pub Restriction Word Union Colon Visibility"]),
+    ("fields", "Parts.fields", [
+        "Word Colon Comma Less Greater Pub", "Hash Brackets Word Colon Comma"]),
+    ("tuple_field", "Parts.tuple_field", [
+        "Hash Brackets Pub Restriction Parentheses Word Visibility Invisible"]),
+    ("tuple_fields", "Parts.tuple_fields", [
+        "Word Comma Pub Restriction Less Greater", "Hash Brackets Pub Word Comma"]),
+    ("variant", "Parts.variant", [
+        "Hash Brackets Pub Restriction Word Union Parentheses Braces Equals Visibility", "Word Block Equals Literal"]),
+    ("variants", "Parts.variants", [
+        "Hash Brackets Word Comma Equals Less", "Word Equals Comma Less Greater As",
+        "Pub Word Comma Equals Braces", "Word Equals Comma Jump Dot Bar"]),
+    ("generics", "Parts.generics", [
         "Less Greater Lifetime Word Comma Colon", "Less Greater Const Word Colon Equals",
         "Less Greater Hash Brackets Word", "Less Greater Const Word Colon Equals Minus Literal Braces",
         "Less Greater Const Word Colon Equals Block Comma"]),
-    ("where", "Alone", "Alone", ("At", "Where"), [
+    ("where", "Parts.where_clause", [
         "Where Word Colon Comma Plus Less Greater", "Where Lifetime Colon Brackets Comma For",
         "Where Word Colon Plus Block Comma"]),
-    ("item", "Alone", "Alone", ("At", ("Before", "TypeItem")), [
+    ("item", "Items.type_item", [
         "Struct Word Parentheses Braces Semicolon Where Colon", "Enum Union Word Braces Semicolon Where Colon",
         "Struct Word Less Greater Semicolon Lifetime",
         "Hash Brackets Pub Restriction Visibility Struct Word Semicolon",
         "Struct Enum Word Block Where Colon Semicolon"]),
-    ("inner_attributes", "Alone", "Alone", ("At", "Inner"), ["HashBang Hash Brackets"]),
-    ("any_item", "Alone", "Alone", ("At", ("Before", "AnyItem")), [
+    ("inner_attributes", "Parts.inner_attributes", ["HashBang Hash Brackets"]),
+    ("any_item", "Items.any_item", [
         "Hash Brackets Pub Restriction Visibility Invisible Struct Word Semicolon",
         "Const Async Unsafe Safe Extern Literal Fn Word Parentheses Semicolon",
         "Default Const Safe Fn Word Colon Equals Semicolon",
@@ -332,11 +338,6 @@ PARTS = [
         "Union Auto Default Safe Trait Exclamation Word Braces Fn",
         "Macro Word Parentheses Braces Brackets Exclamation Semicolon",
         "Fn Word Parentheses Arrow Where Colon Block Semicolon", "Impl Trait Mod Word Block Braces Exclamation Pub"]),
-]
-
-
-# Parts that have no table, or begin too late in those that have one: the rule of the value, and alphabets.
-PROVED = [
     ("parameter", "Parts.parameter", [
         "Const Word Colon Equals Minus Literal Braces Truth", "Hash Brackets Lifetime Colon Word Plus Equals",
         "Const Word Colon Equals Block Less Greater"]),
@@ -355,17 +356,18 @@ PROVED = [
         "Word Mut And Braces Parentheses Colon", "Word PathSeparator Less Greater Comma Braces",
         "Keyword SelfType Super Crate SelfValue Underscore",
         "Truth Literal Minus Infix Equals Exclamation", "Word Dot Bar Comma Infix Brackets Invisible",
-        "Restriction Visibility Braces Less Greater Plus", "Word Block Invisible Less Greater"]),
+        "Restriction Visibility Braces Less Greater Plus", "Word Block Invisible Less Greater",
+        "Dot Literal Equals Less Greater Word Colon"]),
     ("fn_parameter", "Parameters.function_parameter", [
         "Hash Brackets SelfValue Mut And Lifetime Colon Word", "And Mut SelfValue Word Colon Dot Comma",
         "Dot Colon Word SelfValue Hash Brackets Mut", "Word Less Greater PathSeparator Colon Braces Comma",
         "Mut Keyword SelfType Super Crate Underscore Colon", "And Truth Literal Minus Infix Equals Colon Word",
         "Exclamation Braces Parentheses Restriction Invisible Visibility Colon And",
         "Less LessJoint Greater Lifetime Colon Plus Mut", "Word Colon Arrow Exclamation Brackets Dot And",
-        "Word Colon Block Less Greater Invisible"]),
+        "Word Colon Block Less Greater Invisible", "Dot Literal Equals Less Greater Colon And Mut"]),
     ("fn_parameters", "Parameters.function_parameters", [
         "Word Colon Comma SelfValue And Dot", "Hash Brackets Mut SelfValue Comma Word Colon",
-        "Word Colon Comma Less Greater Parentheses"]),
+        "Word Colon Comma Less Greater Parentheses", "Dot Literal Equals Colon Comma Word"]),
     ("type_path", "Paths.type_path", [
         "Word PathSeparator Less Greater Comma Literal", "Word PathSeparator Less Parentheses Arrow Greater",
         "SelfValue SelfType Super Crate Union PathSeparator", "Word Less LessJoint Greater Lifetime Equals Colon",
@@ -391,8 +393,8 @@ PROVED = [
 class ByTables:
     """The steps of a part by the tables. A place is `None` where no step leads."""
 
-    def __init__(self, tables, item, rule, state):
-        self.tables, self.first = tables, (item, rule, state, 0)
+    def __init__(self, tables, rule, state):
+        self.tables, self.first = tables, (rule, state, 0)
 
     def step(self, place, sign):
         return self.tables.step(place, class_of(sign))
@@ -417,9 +419,9 @@ class ByValue:
 
 def parts(tables, value):
     """The parts, each with what takes its steps, and alphabets."""
-    for part, item, rule, state, alphabets in PARTS:
-        yield part, ByTables(tables, item, rule, state), alphabets
-    for part, rule, alphabets in PROVED:
+    for part, rule, state, alphabets in TABLES:
+        yield part, ByTables(tables, rule, state), alphabets
+    for part, rule, alphabets in RULES:
         yield part, ByValue(value, rule), alphabets
 
 
@@ -558,7 +560,7 @@ def compare_code(reader, longest, wanted):
         manifest = package("bench/declarations/answers", folder) / "Cargo.toml"
         subprocess.run(["cargo", "build", "--release", "--offline", "--quiet", "-j1", "--manifest-path", manifest],
                        env=dict(os.environ, CARGO_TARGET_DIR=folder), check=True)
-        for part, _, alphabets in PROVED:
+        for part, _, alphabets in RULES:
             if part not in CALLED or wanted and part not in wanted:
                 continue
             asked = lists(reader, part, alphabets, longest)

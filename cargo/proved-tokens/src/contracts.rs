@@ -347,12 +347,11 @@
 //!
 //! - <a id="item_tables.Classes.code"></a>**code**: the number of a class, which is its position in the list of
 //!   all classes
-//! - <a id="item_tables.Grammar.ends"></a>**ends**: whether the part that is read may end in this state
+//! - <a id="item_tables.Walk.depth_after"></a>**depth_after**: the number of open angle brackets after a sign
+//! - <a id="item_tables.Walk.ends"></a>**ends**: whether what is read may end in this state
 //! - <a id="item_tables.TypeStep.may_end"></a>**may_end**: whether a type may end in this state, outside of
 //!   angle brackets
-//! - <a id="item_tables.Grammar.names"></a>**names**: whether a sign of this class is the name of the item, in
-//!   this state
-//! - <a id="item_tables.Grammar.step"></a>**step**: the state that a sign of this class leads to, or nothing if
+//! - <a id="item_tables.Walk.step"></a>**step**: the state that a sign of this class leads to, or nothing if
 //!   the sign cannot come next
 //! - <a id="item_tables.TypeStep.step_of"></a>**step_of**: the step from a state. The last argument says that
 //!   no angle bracket is open

@@ -2,15 +2,11 @@
 use Rattle.std.proofs.Common.{◌≡◌, true, Option, Some, None, List}
 use Rattle.grammars.specs.Machine as machine
 use Rattle.grammars.proofs.FlatLemmas.{move}
-use Rattle.item_tables.specs.Grammar.{ends}
+use Rattle.item_tables.specs.Walk.{ends}
 use Rattle.declarations.specs.rules.Names.{G}
 use Rattle.declarations.specs.rules.Rules.{rules}
 use Rattle.item_tables.specs.declared.class.SignClass.{SignClass}
-use Rattle.item_tables.specs.declared.walk_state.Item.{Item}
 use Rattle.item_tables.specs.declared.walk_state.WalkState.{WalkState}
-use Rattle.item_tables.specs.declared.walk_state.Continuation.{Continuation}
-use Rattle.item_tables.specs.declared.walk_state.Spot.{Spot}
-use Rattle.item_tables.specs.declared.walk_state.State.TheVariants as states
 use Rattle.declarations.proofs.StackLemmas.{left_after, stack_after}
 
 -- if the tables reach this state, their step is that of the grammar
@@ -22,7 +18,3 @@ Agrees (Some k) next class = left_after next ≡ stack_after (move rules k class
 abbrev pub EndsAgree : Option (List G) → WalkState → Type 0
 EndsAgree None place = true ≡ true
 EndsAgree (Some k) place = ends place ≡ machine.ends k
-
--- a state outside of types and bounds, with no angle bracket open
-abbrev pub at_spot : Spot → Item → Continuation → WalkState
-at_spot spot item rule = record { item = item; rule = rule; state = states.At spot; depth = 0 }

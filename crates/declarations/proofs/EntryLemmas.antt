@@ -21,7 +21,7 @@ use Rattle.declarations.specs.Bare.{has_no_delimiters}
 use Rattle.declarations.specs.Entry.{HasArgs, HasLiteral, HasParts, IsListAt, IsOnlyRest, IsPlainEntryAt}
 use Rattle.declarations.specs.Entry.{ReadsEntry}
 use Rattle.declarations.specs.Fault.{extent_at, first_extent}
-use Rattle.declarations.specs.Syntax.{start}
+use Rattle.declarations.specs.Range.{in_expression}
 use Rattle.declarations.specs.Reader.{Finds, ReadsRule, Sticks, classes_in}
 use Rattle.declarations.specs.Reading.{FaultAt, Reads}
 use Rattle.declarations.specs.Tables.{StopsAt}
@@ -34,9 +34,6 @@ use Rattle.item_tables.specs.declared.class.Word.TheVariants as words
 use Rattle.declarations.specs.declared.entry.Entry.{Entry}
 use Rattle.declarations.specs.declared.entry.EntryKind.{EntryKind}
 use Rattle.declarations.specs.declared.entry.EntryKind.TheVariants as kinds
-use Rattle.item_tables.specs.declared.walk_state.Continuation.TheVariants as places
-use Rattle.item_tables.specs.declared.walk_state.Spot.TheVariants as spots
-use Rattle.item_tables.specs.declared.walk_state.State.TheVariants as states
 use Rattle.item_tables.specs.Classes.{is}
 use Rattle.declarations.specs.rules.Entries as rule
 use Rattle.declarations.specs.rules.Expressions.{expression}
@@ -85,10 +82,10 @@ starts_entries = starts rule.entries refl refl
 
 pub expression_reads : (trees : List TokenTree) (result : Result (Bor (List TokenTree)) (Bor (List TokenTree)))
     → MatchResult result
-    (λ rest. StopsAt (start places.Alone (states.At spots.Expression)) true trees rest.now)
-    (λ left. StopsAt (start places.Alone (states.At spots.Expression)) false trees left.now)
+    (λ rest. StopsAt in_expression true trees rest.now)
+    (λ left. StopsAt in_expression false trees left.now)
     → ReadsRule expression trees result
-expression_reads = table_reads (start places.Alone (states.At spots.Expression)) expression refl
+expression_reads = table_reads in_expression expression refl
 
 -- a value and an expression go on alike after their first sign, if it can begin a value
 value_into : (c : SignClass) → rule.continues c ≡ false → into rules rule.entry_value [] c ≡ into rules expression [] c

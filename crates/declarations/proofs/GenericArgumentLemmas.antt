@@ -15,7 +15,7 @@ use Rattle.pm_span.specs.Extent.{Extent}
 use Rattle.pm_stream.specs.declared.stream.TokenTree.{TokenTree}
 use Rattle.declarations.specs.Entry.{IsOnlyRest}
 use Rattle.declarations.specs.Fault.{extent_at, first_extent}
-use Rattle.declarations.specs.Syntax.{start}
+use Rattle.declarations.specs.Range.{in_range}
 use Rattle.declarations.specs.GenericArgument.{HasAfter, HasArgument, HasConstraint, IsArgumentAt, ReadsArgument}
 use Rattle.declarations.specs.Reader.{Finds, ReadsRule, Sticks, classes_in}
 use Rattle.declarations.specs.Reading.{FaultAt, Reads}
@@ -26,8 +26,6 @@ use Rattle.item_tables.specs.declared.class.SignClass.TheVariants as signs
 use Rattle.declarations.specs.declared.generic_argument.ArgumentKind.{ArgumentKind}
 use Rattle.declarations.specs.declared.generic_argument.ArgumentKind.TheVariants as kinds
 use Rattle.declarations.specs.declared.generic_argument.GenericArgument.{GenericArgument}
-use Rattle.item_tables.specs.declared.walk_state.Continuation.TheVariants as places
-use Rattle.item_tables.specs.declared.walk_state.State.TheVariants as states
 use Rattle.item_tables.specs.declared.types.TypeState.TheVariants as types
 use Rattle.item_tables.specs.Classes.{is, is_word}
 use Rattle.declarations.specs.rules.Names.{Bounds, G, Named, OfType, Outside, Rest, Value, one}
@@ -67,10 +65,10 @@ starts_bounds = begin.bounds_starts
 
 pub bounds_read : (trees : List TokenTree) (result : Result (Bor (List TokenTree)) (Bor (List TokenTree)))
     → MatchResult result
-    (λ rest. StopsAt (start places.Alone (states.Range types.Bound)) true trees rest.now)
-    (λ left. StopsAt (start places.Alone (states.Range types.Bound)) false trees left.now)
+    (λ rest. StopsAt (in_range types.Bound 0) true trees rest.now)
+    (λ left. StopsAt (in_range types.Bound 0) false trees left.now)
     → ReadsRule bounds trees result
-bounds_read = table_reads (start places.Alone (states.Range types.Bound)) bounds refl
+bounds_read = table_reads (in_range types.Bound 0) bounds refl
 
 -- ---- rules that find the same
 

@@ -26,10 +26,7 @@ pub mod StartLemmas
 pub mod StackLemmas
 pub mod AgreeLemmas
 pub mod RangeLemmas
-pub mod PartSpotLemmas
-pub mod ItemSpotLemmas
 pub mod SpotLemmas
-pub mod EndLemmas
 pub mod TableLemmas
 pub mod ReaderLemmas
 pub mod LoopLemmas
@@ -71,3 +68,4 @@ pub mod AnyItemLemmas
 pub mod InnerLemmas
 pub mod KindLemmas
 pub mod PartListLemmas
+pub mod GoalLemmas

@@ -1,13 +1,13 @@
 -- The parameters of functions.
 use Rattle.std.proofs.Common.{◌≡◌, refl, sym, ◌∙◌, ap, subst, ℕ, ◌-◌, ◌<◌, Bool, true, false, not, ◌&&◌, ◌||◌, List, []}
-use Rattle.std.proofs.Common.{◌∷◌, ◌++◌, Option, Some, inl, inr, append-nil, length, arith}
+use Rattle.std.proofs.Common.{◌∷◌, ◌++◌, None, Option, Some, inl, inr, append-nil, length, arith}
 use Rattle.std.proofs.lemmas.Bool.{both_ways, or_left}
 use Rattle.std.specs.Prelude.{MatchResult, Result, Ok, Err}
 use Rattle.std.specs.Borrow.{Bor}
 use Rattle.grammars.specs.Deterministic.{IsStart}
 use Rattle.grammars.specs.Find.{Found, Past, Stuck, and_then, find, front, scan}
 use Rattle.grammars.specs.First.{heads, may_begin}
-use Rattle.grammars.specs.Grammar.{Either, Mark, Nothing, One, Sign, Then, perhaps}
+use Rattle.grammars.specs.Grammar.{Either, Event, Mark, Nothing, One, Sign, Then, perhaps}
 use Rattle.grammars.specs.Machine.{is_nullable, step}
 use Rattle.grammars.proofs.FindLemmas.{front_front, scan_append, scan_step}
 use Rattle.grammars.proofs.WordLemmas.{find_first, find_lacks, find_nothing, find_other, find_skips, find_then}
@@ -15,11 +15,11 @@ use Rattle.pm_span.specs.Extent.{Extent}
 use Rattle.pm_stream.specs.declared.stream.TokenTree.{TokenTree}
 use Rattle.declarations.specs.Entry.{IsOnlyRest}
 use Rattle.declarations.specs.Fault.{extent_at, first_extent}
-use Rattle.declarations.specs.Syntax.{start}
+use Rattle.declarations.specs.Range.{in_range}
 use Rattle.declarations.specs.Parameter.{HasEnd, HasKind, HasPatternType, HasSelfType, HasType, IsParameterAt}
 use Rattle.declarations.specs.Parameter.{LeadsTo, ReadsEnd, ReadsFront, ReadsNamed, ReadsPattern, ReadsTyped}
 use Rattle.declarations.specs.Parameter.{front_of, left_of}
-use Rattle.declarations.specs.Reader.{Finds, ReadsRule, Sticks, classes_in}
+use Rattle.declarations.specs.Reader.{Finds, ReadsRule, Remains, Sticks, classes_in}
 use Rattle.declarations.specs.Reading.{FaultAt, IsOnly, Reads}
 use Rattle.declarations.specs.Tables.{StopsAt}
 use Rattle.declarations.specs.Signs.{BeginsWith, trees_of}
@@ -33,10 +33,6 @@ use Rattle.declarations.specs.declared.parameter.ParameterKind.TheVariants as ki
 use Rattle.declarations.specs.declared.parameter.Named.{Named}
 use Rattle.declarations.specs.declared.parameter.Shape.{Shape}
 use Rattle.declarations.specs.declared.parameter.Shape.TheVariants as shapes
-use Rattle.item_tables.specs.declared.walk_state.Part.TheVariants as parts
-use Rattle.item_tables.specs.declared.walk_state.Continuation.TheVariants as places
-use Rattle.item_tables.specs.declared.walk_state.Spot.TheVariants as spots
-use Rattle.item_tables.specs.declared.walk_state.State.TheVariants as states
 use Rattle.item_tables.specs.declared.types.TypeState.TheVariants as types
 use Rattle.item_tables.specs.Classes.{is, keyword, opens}
 use Rattle.declarations.specs.rules.Names.{G, Label, Named as NamedPart, OfType, Outside}
@@ -48,10 +44,11 @@ use Rattle.declarations.specs.rules.Pieces.{ByRule}
 use Rattle.declarations.specs.rules.Rules.{follows, rules}
 use Rattle.declarations.specs.rules.Types.{angle, type}
 use Rattle.declarations.proofs.ClassLemmas.{every_holds, same_class}
-use Rattle.declarations.proofs.ReaderLemmas.{classes_sign, first_finds, first_sticks, heads_none, heads_sign, lacks}
-use Rattle.declarations.proofs.ReaderLemmas.{mark_finds, mark_sticks, other_finds, other_sticks, perhaps_stays}
-use Rattle.declarations.proofs.ReaderLemmas.{remains_on, remains_self, remains_sign, remains_span, remains_within}
-use Rattle.declarations.proofs.ReaderLemmas.{sign_finds, then_fails, then_finds, then_reads, then_sticks}
+use Rattle.declarations.proofs.ReaderLemmas.{classes_sign, first_finds, first_reads, first_sticks, heads_none}
+use Rattle.declarations.proofs.ReaderLemmas.{heads_sign, lacks, mark_finds, mark_sticks, other_finds, other_reads}
+use Rattle.declarations.proofs.ReaderLemmas.{other_sticks, perhaps_stays, remains_on, remains_self, remains_sign}
+use Rattle.declarations.proofs.ReaderLemmas.{remains_span, remains_within, sign_finds, then_fails, then_finds}
+use Rattle.declarations.proofs.ReaderLemmas.{then_reads, then_sticks}
 use Rattle.declarations.proofs.RuleFormLemmas.{found_reads, only_reading, rule_fewer, stuck_fault}
 use Rattle.declarations.proofs.RuleLemmas.{starts}
 use Rattle.declarations.proofs.TableReaderLemmas.{table_reads}
@@ -84,17 +81,10 @@ starts_parameters = starts rule.function_parameters refl refl
 
 pub type_reads : (trees : List TokenTree) (result : Result (Bor (List TokenTree)) (Bor (List TokenTree)))
     → MatchResult result
-    (λ rest. StopsAt (start places.Alone (states.Range types.Wanted)) true trees rest.now)
-    (λ left. StopsAt (start places.Alone (states.Range types.Wanted)) false trees left.now)
+    (λ rest. StopsAt (in_range types.Wanted 0) true trees rest.now)
+    (λ left. StopsAt (in_range types.Wanted 0) false trees left.now)
     → ReadsRule type trees result
-type_reads = table_reads (start places.Alone (states.Range types.Wanted)) type refl
-
-pub attributes_read : (trees : List TokenTree) (result : Result (Bor (List TokenTree)) (Bor (List TokenTree)))
-    → MatchResult result
-    (λ rest. StopsAt (start places.Alone (states.At (spots.Before parts.Attributes))) true trees rest.now)
-    (λ left. StopsAt (start places.Alone (states.At (spots.Before parts.Attributes))) false trees left.now)
-    → ReadsRule attributes trees result
-attributes_read = table_reads (start places.Alone (states.At (spots.Before parts.Attributes))) attributes refl
+type_reads = table_reads (in_range types.Wanted 0) type refl
 
 -- ---- a rule that goes on as another rule
 
@@ -263,22 +253,22 @@ pub ruleset angles = (angle_begins, angle_none, angle_reads, angle_sticks)
 
 -- ---- patterns
 
-pattern_first : (c : SignClass) → may_begin rule.pattern c ≡ (rule.is_pattern c || opens c)
-pattern_first c =
+plain_first : (c : SignClass) → may_begin rule.plain_pattern c ≡ (rule.is_pattern c || opens c)
+plain_first c =
     go (rule.is_pattern c) (may_begin rule.pattern_angle c) (opens c) (may_begin rule.pattern_rest c) (angle_first c)
   where
     go : (x y z u : Bool) → y ≡ z → ((x && true || false && u) || y) ≡ (x || z)
     go true y z u e = refl
     go false y z u e = e
 
-pub pattern_begins : (trees rest : List TokenTree) (class : SignClass) (b : Bool) → BeginsWith trees class rest
+pub plain_begins : (trees rest : List TokenTree) (class : SignClass) (b : Bool) → BeginsWith trees class rest
     → b ≡ (rule.is_pattern class || opens class)
-    → b ≡ heads rule.pattern (classes_in trees)
-pattern_begins trees rest class b at h =
-    h ∙ (sym (pattern_first class) ∙ sym (heads_sign rule.pattern trees rest class at))
+    → b ≡ heads rule.plain_pattern (classes_in trees)
+plain_begins trees rest class b at h =
+    h ∙ (sym (plain_first class) ∙ sym (heads_sign rule.plain_pattern trees rest class at))
 
-pub pattern_none : (trees : List TokenTree) → trees ≡ [] → false ≡ heads rule.pattern (classes_in trees)
-pattern_none trees e = sym (heads_none rule.pattern trees e)
+pub plain_none : (trees : List TokenTree) → trees ≡ [] → false ≡ heads rule.plain_pattern (classes_in trees)
+plain_none trees e = sym (heads_none rule.plain_pattern trees e)
 
 then_stack : (a b : G) (cs : List SignClass) → scan rules (Then a b ∷ []) cs ≡ scan rules (a ∷ b ∷ []) cs
 unfolding find
@@ -303,41 +293,102 @@ front_none (Stuck l) = refl
 abbrev angle_end : G
 angle_end = perhaps rule.pattern_angle
 
--- where a pattern begins, it reads the same as the rest of a pattern
-pattern_whole : (cs : List SignClass) → heads rule.pattern cs ≡ true
-    → find rules rule.pattern cs ≡ find rules rule.pattern_rest cs
+dot_continues : (c : SignClass) → is signs.Dot c ≡ true → rule.continues c ≡ true
+dot_continues c h = subst (λ d. rule.continues d ≡ true) (sym (same_class signs.Dot c h)) refl
+
+-- the rest of a pattern goes on with one more sign
+rest_more : (c : SignClass) (cs : List SignClass) → rule.continues c ≡ true
+    → find rules rule.pattern_rest (c ∷ cs) ≡ front (One c ∷ []) (find rules rule.pattern_rest cs)
 unfolding find
-pattern_whole [] h = absurd (both_ways _ refl h)
-pattern_whole (c ∷ cs) h = go (rule.is_pattern c) refl
+rest_more c cs e =
+    scan_step rules (rule.pattern_rest ∷ []) c cs (Some (One c ∷ [], rule.pattern_signs ∷ angle_end ∷ [])) (rw e refl)
+    ∙ ap (front (One c ∷ [])) (sym (then_stack rule.pattern_signs angle_end cs))
+
+-- the rest of a pattern has no more signs
+rest_skips : (c : SignClass) (cs : List SignClass) → rule.continues c ≡ false
+    → find rules rule.pattern_rest (c ∷ cs) ≡ find rules angle_end (c ∷ cs)
+rest_skips c cs e =
+    find_then rules rule.pattern_signs angle_end (c ∷ cs)
+    ∙ (ap (λ x. and_then x (find rules angle_end)) (find_skips rules rule.pattern_signs (c ∷ cs) e refl)
+    ∙ front_none (find rules angle_end (c ∷ cs)))
+
+-- where a pattern without `..` begins, it reads the same as the rest of a pattern
+plain_whole : (cs : List SignClass) → heads rule.plain_pattern cs ≡ true
+    → find rules rule.plain_pattern cs ≡ find rules rule.pattern_rest cs
+unfolding find
+plain_whole [] h = absurd (both_ways _ refl h)
+plain_whole (c ∷ cs) h = go (rule.is_pattern c) refl
   where
     go : (b : Bool) → rule.is_pattern c ≡ b
-        → find rules rule.pattern (c ∷ cs) ≡ find rules rule.pattern_rest (c ∷ cs)
+        → find rules rule.plain_pattern (c ∷ cs) ≡ find rules rule.pattern_rest (c ∷ cs)
     go true e =
-        scan_step rules (rule.pattern ∷ []) c cs (Some (One c ∷ [], rule.pattern_rest ∷ [])) (rw e refl)
-        ∙ (ap (front (One c ∷ [])) (then_stack rule.pattern_signs angle_end cs)
-        ∙ sym (scan_step rules (rule.pattern_rest ∷ []) c cs (Some (One c ∷ [], rule.pattern_signs ∷ angle_end ∷ []))
-        (rw e refl)))
+        scan_step rules (rule.plain_pattern ∷ []) c cs (Some (One c ∷ [], rule.pattern_rest ∷ [])) (rw e refl)
+        ∙ sym (rest_more c cs (rw e refl))
     go false e =
-        let begins : opens c ≡ true = sym (ap (λ b. b || opens c) e) ∙ (sym (pattern_first c) ∙ h) in
+        let begins : opens c ≡ true = sym (ap (λ b. b || opens c) e) ∙ (sym (plain_first c) ∙ h) in
         let angle_heads : may_begin rule.pattern_angle c ≡ true = angle_first c ∙ begins in
-        let stays = find_skips rules rule.pattern_signs (c ∷ cs) (angle_apart c begins) refl in
         find_other rules (Then (Sign (λ d. rule.is_pattern d && not false)) rule.pattern_rest) rule.pattern_angle
         (c ∷ cs)
         (rw e refl) refl
-        ∙ sym (find_then rules rule.pattern_signs angle_end (c ∷ cs)
-        ∙ (ap (λ x. and_then x (find rules angle_end)) stays
-        ∙ (front_none (find rules angle_end (c ∷ cs))
-        ∙ find_first rules rule.pattern_angle Nothing (c ∷ cs) angle_heads)))
+        ∙ sym (rest_skips c cs (angle_apart c begins)
+        ∙ find_first rules rule.pattern_angle Nothing (c ∷ cs) angle_heads)
 
-pub pattern_reads : (trees : List TokenTree) (result : Result (Bor (List TokenTree)) (Bor (List TokenTree)))
-    → heads rule.pattern (classes_in trees) ≡ true → ReadsRule rule.pattern_rest trees result
+pub plain_reads : (trees : List TokenTree) (result : Result (Bor (List TokenTree)) (Bor (List TokenTree)))
+    → heads rule.plain_pattern (classes_in trees) ≡ true → ReadsRule rule.pattern_rest trees result
+    → ReadsRule rule.plain_pattern trees result
+plain_reads trees (Ok rest) h f =
+    same_finds rule.plain_pattern rule.pattern_rest trees rest.now (plain_whole (classes_in trees) h) f
+plain_reads trees (Err left) h f =
+    same_sticks rule.plain_pattern rule.pattern_rest trees left.now (plain_whole (classes_in trees) h) f
+
+pub ruleset plain_patterns = (plain_begins, plain_none, plain_reads, lacks)
+
+-- what begins with `..` begins exactly where a `.` is
+dots_heads : (g : G) (cs : List SignClass) → heads (Then rule.two_dots g) cs ≡ heads (one signs.Dot) cs
+dots_heads g [] = refl
+dots_heads g (c ∷ cs) =
+    or_nothing (is signs.Dot c || false && is signs.Dot c) (may_begin g c)
+    ∙ or_nothing (is signs.Dot c) (is signs.Dot c)
+
+pub pattern_dotted : (trees : List TokenTree) (b : Bool)
+    (result : Result (Bor (List TokenTree)) (Bor (List TokenTree))) → b ≡ heads (one signs.Dot) (classes_in trees)
+    → b ≡ true → ReadsRule rule.dotted_pattern trees result
     → ReadsRule rule.pattern trees result
-pattern_reads trees (Ok rest) h f =
-    same_finds rule.pattern rule.pattern_rest trees rest.now (pattern_whole (classes_in trees) h) f
-pattern_reads trees (Err left) h f =
-    same_sticks rule.pattern rule.pattern_rest trees left.now (pattern_whole (classes_in trees) h) f
+pattern_dotted trees b result e h f =
+    first_reads rule.dotted_pattern rule.plain_pattern trees result
+    (dots_heads rule.pattern_rest (classes_in trees) ∙ (sym e ∙ h)) f
 
-pub ruleset patterns = (pattern_begins, pattern_none, pattern_reads, lacks)
+pub pattern_plain : (trees : List TokenTree) (b : Bool)
+    (result : Result (Bor (List TokenTree)) (Bor (List TokenTree))) → b ≡ heads (one signs.Dot) (classes_in trees)
+    → b ≡ false → ReadsRule rule.plain_pattern trees result
+    → ReadsRule rule.pattern trees result
+pattern_plain trees b result e h f =
+    other_reads rule.dotted_pattern rule.plain_pattern trees result
+    (dots_heads rule.pattern_rest (classes_in trees) ∙ (sym e ∙ h)) refl f
+
+pub ruleset patterns = (pattern_dotted, pattern_plain)
+
+-- no other pattern begins with `.`
+dot_apart : (c : SignClass) → (rule.is_pattern c || opens c) ≡ true → is signs.Dot c ≡ false
+dot_apart c h = go (is signs.Dot c) refl
+  where
+    apart : (not ((rule.is_pattern c || opens c) && is signs.Dot c)) ≡ true
+    apart = every_holds (λ d. not ((rule.is_pattern d || opens d) && is signs.Dot d)) refl c
+
+    go : (b : Bool) → is signs.Dot c ≡ b → b ≡ false
+    go false e = refl
+    go true e = absurd (both_ways _ (rw (h, e) refl) apart)
+
+no_dot : (cs : List SignClass) → heads rule.plain_pattern cs ≡ true → heads (one signs.Dot) cs ≡ false
+no_dot [] h = refl
+no_dot (c ∷ cs) h = dot_apart c (sym (plain_first c) ∙ h)
+
+-- a pattern that does not begin with `..` is a pattern
+plain_is_pattern : (trees rest : List TokenTree) → Finds rule.plain_pattern trees rest → Finds rule.pattern trees rest
+plain_is_pattern trees rest f =
+    let none = no_dot (classes_in trees) (finds_heads rule.plain_pattern trees rest refl f) in
+    other_finds rule.dotted_pattern rule.plain_pattern trees rest
+    (dots_heads rule.pattern_rest (classes_in trees) ∙ none) refl f
 
 -- a pattern whose first sign does not pass the test is any pattern
 but_step : (without : SignClass → Bool) (c : SignClass) → without c ≡ false
@@ -359,19 +410,94 @@ but_same without trees rest class b h =
     ∙ (but_find without class (classes_in rest) h
     ∙ ap (find rules rule.pattern) (sym (classes_sign trees rest class b)))
 
+plain_step : (without : SignClass → Bool) (c : SignClass) → without c ≡ false
+    → step rules (rule.plain_but without ∷ []) c ≡ step rules (rule.plain_pattern ∷ []) c
+plain_step without c h = rw h refl
+
+plain_find : (without : SignClass → Bool) (c : SignClass) (cs : List SignClass) → without c ≡ false
+    → find rules (rule.plain_but without) (c ∷ cs) ≡ find rules rule.plain_pattern (c ∷ cs)
+unfolding find
+plain_find without c cs h =
+    scan_step rules (rule.plain_but without ∷ []) c cs (step rules (rule.plain_pattern ∷ []) c) (plain_step without c h)
+    ∙ sym (scan_step rules (rule.plain_pattern ∷ []) c cs (step rules (rule.plain_pattern ∷ []) c) refl)
+
+plain_same : (without : SignClass → Bool) (trees rest : List TokenTree) (class : SignClass)
+    → BeginsWith trees class rest → without class ≡ false
+    → find rules (rule.plain_but without) (classes_in trees) ≡ find rules rule.plain_pattern (classes_in trees)
+plain_same without trees rest class b h =
+    ap (find rules (rule.plain_but without)) (classes_sign trees rest class b)
+    ∙ (plain_find without class (classes_in rest) h
+    ∙ ap (find rules rule.plain_pattern) (sym (classes_sign trees rest class b)))
+
+-- a pattern that begins with `..` is also the rest of a pattern
+dotted_rest : (cs rest : List SignClass) (events : List (Event SignClass Label))
+    → find rules rule.dotted_pattern cs ≡ Past events rest
+    → find rules rule.pattern_rest cs ≡ Past events rest
+unfolding find
+dotted_rest [] rest events f = let both : Stuck [] ≡ Past events rest = f in absurd cc
+dotted_rest (c ∷ cs) rest events f = go (is signs.Dot c) refl
+  where
+    -- after the first `.`
+    more : (c : SignClass) (cs : List SignClass) → is signs.Dot c ≡ true
+        → front (One c ∷ []) (scan rules (one signs.Dot ∷ rule.pattern_rest ∷ []) cs) ≡ Past events rest
+        → front (One c ∷ []) (find rules rule.pattern_rest cs) ≡ Past events rest
+    more c [] e f = let both : Stuck [] ≡ Past events rest = f in absurd cc
+    more c (d ∷ ds) e f = next (is signs.Dot d) refl
+      where
+        next : (b : Bool) → is signs.Dot d ≡ b
+            → front (One c ∷ []) (find rules rule.pattern_rest (d ∷ ds)) ≡ Past events rest
+        next true h =
+            ap (front (One c ∷ [])) (rest_more d ds (dot_continues d h)
+            ∙ sym (scan_step rules (one signs.Dot ∷ rule.pattern_rest ∷ []) d ds
+            (Some (One d ∷ [], rule.pattern_rest ∷ [])) (rw h refl))) ∙ f
+        next false h =
+            let stuck = scan_step rules (one signs.Dot ∷ rule.pattern_rest ∷ []) d ds None (rw h refl) in
+            let both : Past events rest ≡ Stuck (d ∷ ds) = sym f ∙ ap (front (One c ∷ [])) stuck in
+            absurd cc
+
+    go : (b : Bool) → is signs.Dot c ≡ b → find rules rule.pattern_rest (c ∷ cs) ≡ Past events rest
+    go true e =
+        let first = scan_step rules (rule.dotted_pattern ∷ []) c cs
+        (Some (One c ∷ [], one signs.Dot ∷ rule.pattern_rest ∷ [])) (rw e refl) in
+        rest_more c cs (dot_continues c e) ∙ more c cs e (sym first ∙ f)
+    go false e =
+        let lacks = find_lacks rules rule.dotted_pattern (c ∷ cs)
+        (dots_heads rule.pattern_rest (c ∷ cs) ∙ e) refl in
+        let both : Past events rest ≡ Stuck (c ∷ cs) = sym f ∙ lacks in
+        absurd cc
+
+-- where a pattern is found, it is also the rest of a pattern
+pattern_rests : (trees rest : List TokenTree) → Finds rule.pattern trees rest → Finds rule.pattern_rest trees rest
+pattern_rests trees rest f = go (heads (one signs.Dot) (classes_in trees)) refl
+  where
+    go : (b : Bool) → heads (one signs.Dot) (classes_in trees) ≡ b → Finds rule.pattern_rest trees rest
+    go true e =
+        let first = find_first rules rule.dotted_pattern rule.plain_pattern (classes_in trees)
+        (dots_heads rule.pattern_rest (classes_in trees) ∙ e) in
+        record {
+          events = f.events;
+          found = dotted_rest (classes_in trees) (classes_in rest) f.events (sym first ∙ f.found);
+          remains = f.remains;
+        }
+    go false e =
+        let other = find_other rules rule.dotted_pattern rule.plain_pattern (classes_in trees)
+        (dots_heads rule.pattern_rest (classes_in trees) ∙ e) refl in
+        let plain = same_finds rule.plain_pattern rule.pattern trees rest (sym other) f in
+        let begins = finds_heads rule.plain_pattern trees rest refl plain in
+        same_finds rule.pattern_rest rule.plain_pattern trees rest (sym (plain_whole (classes_in trees) begins)) plain
+
 -- a sign that can begin a pattern, and a pattern after it, are a pattern
 pattern_more : (trees mid rest : List TokenTree) (class : SignClass) → BeginsWith trees class mid
     → rule.is_pattern class ≡ true → Finds rule.pattern mid rest
     → Finds rule.pattern trees rest
 pattern_more trees mid rest class b h f =
-    let begins = finds_heads rule.pattern mid rest refl f in
-    let more = same_finds rule.pattern_rest rule.pattern mid rest (sym (pattern_whole (classes_in mid) begins)) f in
     let tested : (rule.is_pattern class && true) ≡ true = rw h refl in
-    first_finds (Then (Sign (λ c. rule.is_pattern c && true)) rule.pattern_rest) rule.pattern_angle trees rest
+    plain_is_pattern trees rest
+    (first_finds (Then (Sign (λ c. rule.is_pattern c && true)) rule.pattern_rest) rule.pattern_angle trees rest
     (heads_sign (Then (Sign (λ c. rule.is_pattern c && true)) rule.pattern_rest) trees mid class b
     ∙ or_left _ _ tested)
     (then_finds (Sign (λ c. rule.is_pattern c && true)) rule.pattern_rest trees mid rest
-    (sign_finds (λ c. rule.is_pattern c && true) trees mid class b tested) more)
+    (sign_finds (λ c. rule.is_pattern c && true) trees mid class b tested) (pattern_rests mid rest f)))
 
 -- ---- up to the `:`
 
@@ -507,7 +633,8 @@ no_one x trees rest class b h = heads_sign (one x) trees rest class b ∙ h
 -- a pattern, where a receiver could also be
 module _ (trees rest : List TokenTree) (class : SignClass) (b : BeginsWith trees class rest)
     (no_self : is signs.SelfValue class ≡ false) where
-  pub mut_pattern : (result : Result (Shape × Bor (List TokenTree)) (Bor (List TokenTree))) → ReadsPattern trees result
+  pub mut_pattern : (result : Result (Shape × Bor (List TokenTree)) (Bor (List TokenTree)))
+      → ReadsPattern rule.pattern trees result
       → ReadsFront rule.after_mut (one signs.SelfValue) trees result
   mut_pattern (Ok (shape, mid)) f =
       let none = no_then signs.SelfValue rule.self_type trees rest class b no_self in
@@ -526,7 +653,7 @@ module _ (trees rest : List TokenTree) (class : SignClass) (b : BeginsWith trees
       (then_sticks rule.pattern rule.pattern_parameter trees left.now f)
 
   pub and_mut_pattern : (result : Result (Shape × Bor (List TokenTree)) (Bor (List TokenTree)))
-      → ReadsPattern trees result
+      → ReadsPattern rule.pattern trees result
       → ReadsFront rule.after_and_mut (one signs.SelfValue) trees result
   and_mut_pattern (Ok (shape, mid)) f =
       let none = no_one signs.SelfValue trees rest class b no_self in
@@ -547,7 +674,7 @@ module _ (trees rest : List TokenTree) (class : SignClass) (b : BeginsWith trees
   module _ (no_mut : is (signs.Keyword keywords.Mut) class ≡ false) where
     -- a pattern after `&`
     pub and_pattern : (result : Result (Shape × Bor (List TokenTree)) (Bor (List TokenTree)))
-        → is signs.Lifetime class ≡ false → ReadsPattern trees result
+        → is signs.Lifetime class ≡ false → ReadsPattern rule.pattern trees result
         → ReadsFront rule.after_and rule.receiver_rest trees result
     and_pattern (Ok (shape, mid)) no_lifetime f =
         let found : Finds rule.pattern trees mid.now = f.1 in
@@ -575,14 +702,14 @@ module _ (trees rest : List TokenTree) (class : SignClass) (b : BeginsWith trees
         (other_sticks (one signs.SelfValue) _ trees left.now (no_one signs.SelfValue trees rest class b no_self) refl
         (then_sticks (rule.pattern_but (keyword keywords.Mut)) rule.pattern_parameter trees left.now but)))
 
-    -- a pattern at the start of a parameter
+    -- a pattern at the start of a parameter, which does not begin with `..`
     pub named_pattern : (result : Result (Shape × Bor (List TokenTree)) (Bor (List TokenTree)))
-        → is signs.And class ≡ false → ReadsPattern trees result
+        → is signs.And class ≡ false → ReadsPattern rule.plain_pattern trees result
         → ReadsFront rule.named_parameter rule.receiver trees result
     named_pattern (Ok (shape, mid)) no_and f =
-        let found : Finds rule.pattern trees mid.now = f.1 in
-        let but = same_finds (rule.pattern_but rule.is_shared) rule.pattern trees mid.now
-        (but_same rule.is_shared trees rest class b (rw (no_mut, no_and) refl)) found in
+        let found : Finds rule.plain_pattern trees mid.now = f.1 in
+        let but = same_finds (rule.plain_but rule.is_shared) rule.plain_pattern trees mid.now
+        (plain_same rule.is_shared trees rest class b (rw (no_mut, no_and) refl)) found in
         subst
         (λ s. LeadsTo rule.named_parameter trees (left_of s) mid.now × Finds (front_of rule.receiver s) trees mid.now)
         (sym f.0) (
@@ -592,19 +719,19 @@ module _ (trees rest : List TokenTree) (class : SignClass) (b : BeginsWith trees
               (no_then (signs.Keyword keywords.Mut) rule.after_mut trees rest class b no_mut) refl
               (other_leads (Then (one signs.And) rule.after_and) _ rule.pattern_parameter trees mid.now
               (no_then signs.And rule.after_and trees rest class b no_and) refl
-              (finds_leads (rule.pattern_but rule.is_shared) rule.pattern_parameter trees mid.now but))),
-          found,
+              (finds_leads (rule.plain_but rule.is_shared) rule.pattern_parameter trees mid.now but))),
+          plain_is_pattern trees mid.now found,
         )
     named_pattern (Err left) no_and f =
-        let but = same_sticks (rule.pattern_but rule.is_shared) rule.pattern trees left.now
-        (but_same rule.is_shared trees rest class b (rw (no_mut, no_and) refl)) f in
+        let but = same_sticks (rule.plain_but rule.is_shared) rule.plain_pattern trees left.now
+        (plain_same rule.is_shared trees rest class b (rw (no_mut, no_and) refl)) f in
         other_sticks (Then (one signs.SelfValue) rule.self_type) _ trees left.now
         (no_then signs.SelfValue rule.self_type trees rest class b no_self) refl
         (other_sticks (Then (key keywords.Mut) rule.after_mut) _ trees left.now
         (no_then (signs.Keyword keywords.Mut) rule.after_mut trees rest class b no_mut) refl
         (other_sticks (Then (one signs.And) rule.after_and) _ trees left.now
         (no_then signs.And rule.after_and trees rest class b no_and) refl
-        (then_sticks (rule.pattern_but rule.is_shared) rule.pattern_parameter trees left.now but)))
+        (then_sticks (rule.plain_but rule.is_shared) rule.pattern_parameter trees left.now but)))
 
 pub ruleset fronts = (
   lift_mut,
@@ -690,34 +817,29 @@ self_last trees e = perhaps_stays rule.with_type trees (heads_none rule.with_typ
 
 pub ruleset self_types = (self_typed, self_typed_sticks, self_typed_has, self_alone, self_last)
 
--- `...` begins exactly where a `.` is
-dots_heads : (cs : List SignClass) → heads rule.dots cs ≡ heads (one signs.Dot) cs
-dots_heads [] = refl
-dots_heads (c ∷ cs) = or_nothing (is signs.Dot c) (may_begin rule.two_dots c)
-
 pub end_dots : (trees rest : List TokenTree) (b : Bool) → b ≡ heads (one signs.Dot) (classes_in trees) → b ≡ true
     → Finds rule.dots trees rest
     → Finds rule.typed_end trees rest
 end_dots trees rest b e h f =
-    first_finds rule.dots type trees rest (dots_heads (classes_in trees) ∙ (sym e ∙ h)) f
+    first_finds rule.dots type trees rest (dots_heads (one signs.Dot) (classes_in trees) ∙ (sym e ∙ h)) f
 
 pub end_dots_sticks : (trees left : List TokenTree) (b : Bool) → b ≡ heads (one signs.Dot) (classes_in trees)
     → b ≡ true → Sticks rule.dots trees left
     → Sticks rule.typed_end trees left
 end_dots_sticks trees left b e h f =
-    first_sticks rule.dots type trees left (dots_heads (classes_in trees) ∙ (sym e ∙ h)) f
+    first_sticks rule.dots type trees left (dots_heads (one signs.Dot) (classes_in trees) ∙ (sym e ∙ h)) f
 
 pub end_type : (trees rest : List TokenTree) (b : Bool) → b ≡ heads (one signs.Dot) (classes_in trees) → b ≡ false
     → Finds type trees rest
     → Finds rule.typed_end trees rest
 end_type trees rest b e h f =
-    other_finds rule.dots type trees rest (dots_heads (classes_in trees) ∙ (sym e ∙ h)) refl f
+    other_finds rule.dots type trees rest (dots_heads (one signs.Dot) (classes_in trees) ∙ (sym e ∙ h)) refl f
 
 pub end_type_sticks : (trees left : List TokenTree) (b : Bool) → b ≡ heads (one signs.Dot) (classes_in trees)
     → b ≡ false → Sticks type trees left
     → Sticks rule.typed_end trees left
 end_type_sticks trees left b e h f =
-    other_sticks rule.dots type trees left (dots_heads (classes_in trees) ∙ (sym e ∙ h)) refl f
+    other_sticks rule.dots type trees left (dots_heads (one signs.Dot) (classes_in trees) ∙ (sym e ∙ h)) refl f
 
 pub type_read : (trees ty rest : List TokenTree) → Finds type trees rest → trees ≡ ty ++ rest
     → Reads (ByRule type) trees ty rest
@@ -831,30 +953,123 @@ reference_end trees = nothing_finds trees
 
 pub ruleset named = (named_kind, named_finds, named_sticks)
 
+-- ---- parameters that begin with `..`
+
+-- where no third `.` comes, the rest of a pattern after `..` reads the same as any rest of a pattern
+after_rest : (cs : List SignClass) → heads (one signs.Dot) cs ≡ false
+    → find rules rule.rest_after_dots cs ≡ find rules rule.pattern_rest cs
+unfolding find
+after_rest [] h = refl
+after_rest (c ∷ cs) h = go (rule.continues c) refl
+  where
+    go : (b : Bool) → rule.continues c ≡ b
+        → find rules rule.rest_after_dots (c ∷ cs) ≡ find rules rule.pattern_rest (c ∷ cs)
+    go true e =
+        scan_step rules (rule.rest_after_dots ∷ []) c cs (Some (One c ∷ [], rule.pattern_rest ∷ [])) (rw (e, h) refl)
+        ∙ sym (rest_more c cs e)
+    go false e =
+        find_other rules (Then (Sign (λ d. rule.continues d && not (is signs.Dot d))) rule.pattern_rest) angle_end
+        (c ∷ cs) (rw e refl) refl
+        ∙ sym (rest_skips c cs e)
+
+module _ (trees after : List TokenTree) (f : Finds rule.two_dots trees after) where
+  pub dots_finds : (rest : List TokenTree) → Finds (one signs.Dot) after rest
+      → Finds rule.dotted_parameter trees rest
+  dots_finds rest g =
+      then_finds rule.two_dots rule.after_dots trees after rest f
+      (first_finds (one signs.Dot) _ after rest (finds_heads (one signs.Dot) after rest refl g) g)
+
+  pub dots_kind : (pattern rest : List TokenTree) → pattern ≡ [] → Finds (one signs.Dot) after rest
+      → HasKind kinds.Variadic trees pattern rest
+  dots_kind pattern rest none g =
+      let read = dots_read trees rest (then_finds rule.two_dots (one signs.Dot) trees after rest f g) in
+      inl (none, read.0, read.1)
+
+  pub dots_sticks : (left : List TokenTree) (b : Bool) → b ≡ heads (one signs.Dot) (classes_in after) → b ≡ true
+      → Sticks (one signs.Dot) after left
+      → Sticks rule.dotted_parameter trees left
+  dots_sticks left b e h g =
+      then_fails rule.two_dots rule.after_dots trees after left f
+      (first_sticks (one signs.Dot) _ after left (sym e ∙ h) g)
+
+  pub dotted_remains : (mid : List TokenTree) → Finds rule.pattern_rest after mid → Remains mid trees
+  dotted_remains mid g = remains_on trees after mid f.remains g.remains
+
+  pub dotted_kind : (pattern mid rest : List TokenTree) (kind : ParameterKind) → Finds rule.pattern_rest after mid
+      → trees ≡ pattern ++ mid → HasPatternType kind mid rest
+      → HasKind kind trees pattern rest
+  dotted_kind pattern mid rest kind g whole h =
+      let dotted = then_finds rule.two_dots rule.pattern_rest trees after mid f g in
+      pattern_kind kind trees pattern mid rest
+      (first_finds rule.dotted_pattern rule.plain_pattern trees mid
+      (finds_heads rule.dotted_pattern trees mid refl dotted) dotted) whole h
+
+  module _ (b : Bool) (e : b ≡ heads (one signs.Dot) (classes_in after)) (h : b ≡ false) where
+    pub dotted_finds : (mid rest : List TokenTree) → Finds rule.pattern_rest after mid
+        → Finds rule.pattern_parameter mid rest
+        → Finds rule.dotted_parameter trees rest
+    dotted_finds mid rest g k =
+        let more = same_finds rule.rest_after_dots rule.pattern_rest after mid
+        (after_rest (classes_in after) (sym e ∙ h)) g in
+        then_finds rule.two_dots rule.after_dots trees after rest f
+        (other_finds (one signs.Dot) _ after rest (sym e ∙ h) refl
+        (then_finds rule.rest_after_dots rule.pattern_parameter after mid rest more k))
+
+    pub dotted_fails : (mid left : List TokenTree) → Finds rule.pattern_rest after mid
+        → Sticks rule.pattern_parameter mid left
+        → Sticks rule.dotted_parameter trees left
+    dotted_fails mid left g k =
+        let more = same_finds rule.rest_after_dots rule.pattern_rest after mid
+        (after_rest (classes_in after) (sym e ∙ h)) g in
+        then_fails rule.two_dots rule.after_dots trees after left f
+        (other_sticks (one signs.Dot) _ after left (sym e ∙ h) refl
+        (then_fails rule.rest_after_dots rule.pattern_parameter after mid left more k))
+
+    pub dotted_sticks : (left : List TokenTree) → Sticks rule.pattern_rest after left
+        → Sticks rule.dotted_parameter trees left
+    dotted_sticks left g =
+        let stuck = same_sticks rule.rest_after_dots rule.pattern_rest after left
+        (after_rest (classes_in after) (sym e ∙ h)) g in
+        then_fails rule.two_dots rule.after_dots trees after left f
+        (other_sticks (one signs.Dot) _ after left (sym e ∙ h) refl
+        (then_sticks rule.rest_after_dots rule.pattern_parameter after left stuck))
+
+pub dotted_begins : (trees left : List TokenTree) → Sticks rule.two_dots trees left
+    → Sticks rule.dotted_parameter trees left
+dotted_begins trees left f = then_sticks rule.two_dots rule.after_dots trees left f
+
+pub ruleset dotted = (
+  dots_finds,
+  dots_kind,
+  dots_sticks,
+  dotted_remains,
+  dotted_kind,
+  dotted_finds,
+  dotted_fails,
+  dotted_sticks,
+  dotted_begins,
+)
+
 -- ---- parameters
 
--- `...`, or a parameter with a pattern or a receiver
+-- a parameter that begins with `..`, or one with a receiver or another pattern
 abbrev bare_parameter : G
-bare_parameter = Either rule.dots rule.named_parameter
+bare_parameter = Either rule.dotted_parameter rule.named_parameter
 
-pub rest_dots : (trees rest : List TokenTree) (b : Bool) → b ≡ heads (one signs.Dot) (classes_in trees) → b ≡ true
-    → Finds rule.dots trees rest
-    → Finds rule.parameter_rest trees rest
-rest_dots trees rest b e h f =
-    mark_finds NamedPart bare_parameter trees rest
-    (first_finds rule.dots rule.named_parameter trees rest (dots_heads (classes_in trees) ∙ (sym e ∙ h)) f)
-
-pub rest_dots_sticks : (trees left : List TokenTree) (b : Bool) → b ≡ heads (one signs.Dot) (classes_in trees)
-    → b ≡ true → Sticks rule.dots trees left
-    → Sticks rule.parameter_rest trees left
-rest_dots_sticks trees left b e h f =
-    mark_sticks NamedPart bare_parameter trees left
-    (first_sticks rule.dots rule.named_parameter trees left (dots_heads (classes_in trees) ∙ (sym e ∙ h)) f)
-
-pub rest_variadic : (trees pattern rest : List TokenTree) → pattern ≡ [] → Finds rule.dots trees rest
-    → HasKind kinds.Variadic trees pattern rest
-rest_variadic trees pattern rest none f =
-    let read = dots_read trees rest f in inl (none, read.0, read.1)
+pub rest_dotted : (trees : List TokenTree) (b : Bool)
+    (result : Result (Named × Bor (List TokenTree)) (Bor (List TokenTree)))
+    → b ≡ heads (one signs.Dot) (classes_in trees) → b ≡ true → ReadsNamed rule.dotted_parameter trees result
+    → ReadsNamed rule.parameter_rest trees result
+rest_dotted trees b (Ok found) e h f = (
+  mark_finds NamedPart bare_parameter trees found.1.now
+      (first_finds rule.dotted_parameter rule.named_parameter trees found.1.now
+      (dots_heads rule.after_dots (classes_in trees) ∙ (sym e ∙ h)) f.0),
+  f.1,
+)
+rest_dotted trees b (Err left) e h f =
+    mark_sticks NamedPart bare_parameter trees left.now
+    (first_sticks rule.dotted_parameter rule.named_parameter trees left.now
+    (dots_heads rule.after_dots (classes_in trees) ∙ (sym e ∙ h)) f)
 
 pub rest_named : (trees : List TokenTree) (b : Bool)
     (result : Result (Named × Bor (List TokenTree)) (Bor (List TokenTree)))
@@ -862,15 +1077,16 @@ pub rest_named : (trees : List TokenTree) (b : Bool)
     → ReadsNamed rule.parameter_rest trees result
 rest_named trees b (Ok found) e h f = (
   mark_finds NamedPart bare_parameter trees found.1.now
-      (other_finds rule.dots rule.named_parameter trees found.1.now (dots_heads (classes_in trees) ∙ (sym e ∙ h)) refl
-      f.0),
+      (other_finds rule.dotted_parameter rule.named_parameter trees found.1.now
+      (dots_heads rule.after_dots (classes_in trees) ∙ (sym e ∙ h)) refl f.0),
   f.1,
 )
 rest_named trees b (Err left) e h f =
     mark_sticks NamedPart bare_parameter trees left.now
-    (other_sticks rule.dots rule.named_parameter trees left.now (dots_heads (classes_in trees) ∙ (sym e ∙ h)) refl f)
+    (other_sticks rule.dotted_parameter rule.named_parameter trees left.now
+    (dots_heads rule.after_dots (classes_in trees) ∙ (sym e ∙ h)) refl f)
 
-pub ruleset rests = (rest_dots, rest_dots_sticks, rest_variadic, rest_named)
+pub ruleset rests = (rest_dotted, rest_named)
 
 pub whole_finds : (trees after rest : List TokenTree) → Finds attributes trees after
     → Finds rule.parameter_rest after rest

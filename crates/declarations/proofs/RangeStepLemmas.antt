@@ -2,16 +2,15 @@
 use Rattle.std.proofs.Common.{◌≡◌, refl, sym, ◌∙◌, ap, ℕ, ◌+◌, ◌≤◌, ◌==◌, Bool, true, false, ◌&&◌, List}
 use Rattle.std.proofs.Common.{Option, Some, None, length, arith, if◌then◌else◌}
 use Rattle.pm_stream.specs.declared.stream.TokenTree.{TokenTree}
-use Rattle.item_tables.specs.Grammar.{after_angle, else_follow, ends, follow, range_state, after_range, shift_state}
-use Rattle.item_tables.specs.Grammar.{step}
-use Rattle.item_tables.specs.Grammar.{depth_after}
+use Rattle.item_tables.specs.Walk.{after_angle, after_range, else_for, for_step, range_state}
+use Rattle.item_tables.specs.Walk.{step}
+use Rattle.item_tables.specs.Walk.{depth_after}
 use Rattle.declarations.specs.Range.{in_range}
 use Rattle.declarations.specs.Tables.{StopsAt, Walked}
 use Rattle.declarations.specs.Signs.{BeginsWith, classes_of, signs}
 use Rattle.item_tables.specs.TypeStep.{may_end, step_of}
 use Rattle.declarations.specs.Walk.{Stops}
 use Rattle.item_tables.specs.declared.class.SignClass.{SignClass}
-use Rattle.item_tables.specs.declared.walk_state.Item.TheVariants as items
 use Rattle.item_tables.specs.declared.walk_state.Continuation.TheVariants as rules
 use Rattle.item_tables.specs.declared.walk_state.State.TheVariants as states
 use Rattle.item_tables.specs.declared.types.Turn.{Turn}
@@ -23,35 +22,34 @@ use Rattle.declarations.proofs.WalkedLemmas.{walked-more, walked-none}
 -- ---- one step
 
 same_range : (b : Bool) (state : TypeState)
-    → (if b then after_angle rules.Alone state else states.Range state) ≡ states.Range state
+    → (if b then after_angle rules.Outside state else states.Range state) ≡ states.Range state
 same_range true state = refl
 same_range false state = refl
 
 range_alone : (state : TypeState) (turn : Turn) (depth : ℕ)
-    → range_state rules.Alone state turn depth ≡ states.Range state
+    → range_state rules.Outside state turn depth ≡ states.Range state
 range_alone state turns.Stay depth = refl
 range_alone state turns.Open depth = refl
 range_alone state turns.Close depth = same_range (depth == 0) state
 
-ranged_alone : (state : TypeState) (depth : ℕ) (taken : TypeStep)
-    → after_range (in_range state depth) (Some taken) ≡ Some (in_range taken.state (depth_after taken.turn depth))
-ranged_alone state depth taken =
-    ap (λ s. Some (record { item = items.Alone; rule = rules.Alone; state = s; depth = depth_after taken.turn depth }))
+ranged_alone : (depth : ℕ) (taken : TypeStep)
+    → after_range rules.Outside depth (Some taken) ≡ Some (in_range taken.state (depth_after taken.turn depth))
+ranged_alone depth taken =
+    ap (λ s. Some (record { rule = rules.Outside; state = s; depth = depth_after taken.turn depth }))
     (range_alone taken.state taken.turn (depth_after taken.turn depth))
 
-no_follow : (b : Bool) (depth : ℕ) (class : SignClass)
-    → (if b then shift_state depth (follow items.Alone rules.Alone class) else None) ≡ None
-no_follow true depth class = refl
-no_follow false depth class = refl
+no_for : (b : Bool) (class : SignClass) → (if b then for_step rules.Outside class else None) ≡ None
+no_for true class = refl
+no_for false class = refl
 
 step_alone : (state : TypeState) (depth : ℕ) (class : SignClass) (o : Option TypeStep)
     → step_of state class (depth == 0) ≡ o
-    → step (in_range state depth) class ≡ after_range (in_range state depth) o
+    → step (in_range state depth) class ≡ after_range rules.Outside depth o
 step_alone state depth class None e =
-    ap (λ x. else_follow (after_range (in_range state depth) x) (in_range state depth) state class) e
-    ∙ no_follow ((depth == 0) && may_end state) depth class
+    ap (λ x. else_for (after_range rules.Outside depth x) rules.Outside depth state class) e
+    ∙ no_for ((depth == 0) && may_end state) class
 step_alone state depth class (Some taken) e =
-    ap (λ x. else_follow (after_range (in_range state depth) x) (in_range state depth) state class) e
+    ap (λ x. else_for (after_range rules.Outside depth x) rules.Outside depth state class) e
 
 -- a sign is a step
 pub step_taken : (state : TypeState) (depth : ℕ) (class : SignClass) (o : Option TypeStep) (taken : TypeStep)
@@ -60,7 +58,7 @@ pub step_taken : (state : TypeState) (depth : ℕ) (class : SignClass) (o : Opti
     → step (in_range state depth) class ≡ Some (in_range taken.state inner)
 step_taken state depth class o taken inner is some turn =
     step_alone state depth class (Some taken) (sym is ∙ some)
-    ∙ (ranged_alone state depth taken ∙ ap (λ n. Some (in_range taken.state n)) (sym turn))
+    ∙ (ranged_alone depth taken ∙ ap (λ n. Some (in_range taken.state n)) (sym turn))
 
 -- a sign is no step
 pub step_none : (state : TypeState) (depth : ℕ) (class : SignClass) (o : Option TypeStep)
@@ -92,13 +90,6 @@ range_more start trees left after state next depth inner class here begins steps
   room = let room = here.room in omega arith;
 }
 
-and_true : (a : Bool) → (a && true) ≡ a
-and_true true = refl
-and_true false = refl
-
-range_ends : (state : TypeState) (depth : ℕ) → ends (in_range state depth) ≡ ((depth == 0) && may_end state)
-range_ends state depth = and_true ((depth == 0) && may_end state)
-
 pub range_stops : (start : TypeState) (trees left : List TokenTree) (state : TypeState) (depth : ℕ) (ended : Bool)
     → InRange start trees left state depth → Stops step (in_range state depth) (classes_of (signs left))
     → ((depth == 0) && may_end state) ≡ ended
@@ -107,7 +98,7 @@ range_stops start trees left state depth ended here stops may = record {
   place = in_range state depth;
   walked = here.walked;
   stops = stops;
-  may_end = range_ends state depth ∙ may;
+  may_end = may;
 }
 
 pub ruleset walks = (range_start, range_more, range_stops)

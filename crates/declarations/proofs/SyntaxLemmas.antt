@@ -14,7 +14,7 @@ use Rattle.grammars.proofs.StopLemmas.{stop_none, stop_some}
 use Rattle.pm_stream.specs.declared.stream.TokenTree.{TokenTree}
 use Rattle.declarations.specs.Expected.{HasSigns, holds, holds_end}
 use Rattle.declarations.specs.Explore.{Explores, Sees}
-use Rattle.item_tables.specs.Grammar.{step}
+use Rattle.item_tables.specs.Walk.{step}
 use Rattle.declarations.specs.Reader.{classes_in}
 use Rattle.declarations.specs.Tables.{AreSteps, Walked}
 use Rattle.declarations.specs.Signs.{BeginsWith, classes_of, signs}
@@ -38,7 +38,7 @@ use Rattle.declarations.proofs.ReadingLemmas.{classes-append}
 use Rattle.declarations.proofs.StackLemmas.{left_after, left_at, stack_after}
 use Rattle.declarations.proofs.TableLemmas.{Meets, meet_ends, reads_by, step_lifted, table_walk}
 use Rattle.declarations.proofs.StartLemmas as begin
-use Rattle.declarations.proofs.RuleLemmas.{well_formed}
+use Rattle.declarations.proofs.RuleLemmas.{starts as table_start, well_formed}
 use Rattle.grammars.specs.Deterministic.{IsStart}
 
 abbrev Stack : Type 0
@@ -49,33 +49,21 @@ Stack = List G
 table_left : (table : Table) → left_at (start_of table) ≡ Some (flat_all (rule_of table ∷ []))
 table_left tables.Type = refl
 table_left tables.Bounds = refl
-table_left tables.Attributes = refl
-table_left tables.InnerAttributes = refl
-table_left tables.Visibility = refl
-table_left tables.Generics = refl
-table_left tables.Where = refl
+table_left tables.Target = refl
+table_left tables.TargetRest = refl
+table_left tables.Argument = refl
+table_left tables.ArgumentRest = refl
 table_left tables.Expression = refl
-table_left tables.Field = refl
-table_left tables.TupleField = refl
-table_left tables.Variant = refl
-table_left tables.TypeItem = refl
-table_left tables.AnyItem = refl
 
 -- a reading may begin with the rule of each table
 table_starts : (table : Table) → IsStart rules follows (rule_of table ∷ [])
 table_starts tables.Type = begin.type_starts
 table_starts tables.Bounds = begin.bounds_starts
-table_starts tables.Attributes = begin.attributes_starts
-table_starts tables.InnerAttributes = begin.inner_attributes_starts
-table_starts tables.Visibility = begin.visibility_starts
-table_starts tables.Generics = begin.generics_starts
-table_starts tables.Where = begin.where_clause_starts
+table_starts tables.Target = table_start (rule_of tables.Target) refl refl
+table_starts tables.TargetRest = table_start (rule_of tables.TargetRest) refl refl
+table_starts tables.Argument = table_start (rule_of tables.Argument) refl refl
+table_starts tables.ArgumentRest = table_start (rule_of tables.ArgumentRest) refl refl
 table_starts tables.Expression = begin.expression_starts
-table_starts tables.Field = begin.field_starts
-table_starts tables.TupleField = begin.tuple_field_starts
-table_starts tables.Variant = begin.variant_starts
-table_starts tables.TypeItem = begin.type_item_starts
-table_starts tables.AnyItem = begin.any_item_starts
 
 pub tables_read : TablesRead
 tables_read table = reads_by well_formed (start_of table) (rule_of table) (table_starts table) (table_left table)
@@ -154,11 +142,31 @@ guard_begins guards.Operand (classes.Word _) = refl
 guard_begins guards.Operand (classes.Keyword keywords.Async) = refl
 guard_begins guards.Operand (classes.Keyword _) = refl
 guard_begins guards.Operand _ = refl
-guard_begins guards.Impl (classes.Word words.Auto) = refl
-guard_begins guards.Impl (classes.Word _) = refl
-guard_begins guards.Impl (classes.Keyword keywords.Async) = refl
-guard_begins guards.Impl (classes.Keyword _) = refl
-guard_begins guards.Impl _ = refl
+guard_begins guards.Unrestricted (classes.Word words.Auto) = refl
+guard_begins guards.Unrestricted (classes.Word _) = refl
+guard_begins guards.Unrestricted (classes.Keyword keywords.Async) = refl
+guard_begins guards.Unrestricted (classes.Keyword _) = refl
+guard_begins guards.Unrestricted _ = refl
+guard_begins guards.Target (classes.Word words.Auto) = refl
+guard_begins guards.Target (classes.Word _) = refl
+guard_begins guards.Target (classes.Keyword keywords.Async) = refl
+guard_begins guards.Target (classes.Keyword _) = refl
+guard_begins guards.Target _ = refl
+guard_begins guards.PlainTarget (classes.Word words.Auto) = refl
+guard_begins guards.PlainTarget (classes.Word _) = refl
+guard_begins guards.PlainTarget (classes.Keyword keywords.Async) = refl
+guard_begins guards.PlainTarget (classes.Keyword _) = refl
+guard_begins guards.PlainTarget _ = refl
+guard_begins guards.Argument (classes.Word words.Auto) = refl
+guard_begins guards.Argument (classes.Word _) = refl
+guard_begins guards.Argument (classes.Keyword keywords.Async) = refl
+guard_begins guards.Argument (classes.Keyword _) = refl
+guard_begins guards.Argument _ = refl
+guard_begins guards.ArgumentRest (classes.Word words.Auto) = refl
+guard_begins guards.ArgumentRest (classes.Word _) = refl
+guard_begins guards.ArgumentRest (classes.Keyword keywords.Async) = refl
+guard_begins guards.ArgumentRest (classes.Keyword _) = refl
+guard_begins guards.ArgumentRest _ = refl
 
 -- after a first sign that passes the test, both have the same left to read
 guard_moves : (guard : Guard) (c : SignClass)
@@ -184,18 +192,42 @@ guard_moves guards.Operand (classes.Word _) = refl
 guard_moves guards.Operand (classes.Keyword keywords.Async) = refl
 guard_moves guards.Operand (classes.Keyword _) = refl
 guard_moves guards.Operand _ = refl
-guard_moves guards.Impl (classes.Word words.Auto) = refl
-guard_moves guards.Impl (classes.Word _) = refl
-guard_moves guards.Impl (classes.Keyword keywords.Async) = refl
-guard_moves guards.Impl (classes.Keyword _) = refl
-guard_moves guards.Impl _ = refl
+guard_moves guards.Unrestricted (classes.Word words.Auto) = refl
+guard_moves guards.Unrestricted (classes.Word _) = refl
+guard_moves guards.Unrestricted (classes.Keyword keywords.Async) = refl
+guard_moves guards.Unrestricted (classes.Keyword _) = refl
+guard_moves guards.Unrestricted _ = refl
+guard_moves guards.Target (classes.Word words.Auto) = refl
+guard_moves guards.Target (classes.Word _) = refl
+guard_moves guards.Target (classes.Keyword keywords.Async) = refl
+guard_moves guards.Target (classes.Keyword _) = refl
+guard_moves guards.Target _ = refl
+guard_moves guards.PlainTarget (classes.Word words.Auto) = refl
+guard_moves guards.PlainTarget (classes.Word _) = refl
+guard_moves guards.PlainTarget (classes.Keyword keywords.Async) = refl
+guard_moves guards.PlainTarget (classes.Keyword _) = refl
+guard_moves guards.PlainTarget _ = refl
+guard_moves guards.Argument (classes.Word words.Auto) = refl
+guard_moves guards.Argument (classes.Word _) = refl
+guard_moves guards.Argument (classes.Keyword keywords.Async) = refl
+guard_moves guards.Argument (classes.Keyword _) = refl
+guard_moves guards.Argument _ = refl
+guard_moves guards.ArgumentRest (classes.Word words.Auto) = refl
+guard_moves guards.ArgumentRest (classes.Word _) = refl
+guard_moves guards.ArgumentRest (classes.Keyword keywords.Async) = refl
+guard_moves guards.ArgumentRest (classes.Keyword _) = refl
+guard_moves guards.ArgumentRest _ = refl
 
 guard_needs : (guard : Guard) → is_nullable (guarded_rule guard) ≡ false
 guard_needs guards.Value = refl
 guard_needs guards.Angle = refl
 guard_needs guards.Word = refl
 guard_needs guards.Operand = refl
-guard_needs guards.Impl = refl
+guard_needs guards.Unrestricted = refl
+guard_needs guards.Target = refl
+guard_needs guards.PlainTarget = refl
+guard_needs guards.Argument = refl
+guard_needs guards.ArgumentRest = refl
 
 -- ---- stacks that have the same left to read
 

@@ -9,60 +9,40 @@ use Rattle.grammars.specs.Reading.{IsPiece}
 use Rattle.grammars.proofs.FlatLemmas.{ends_flat, flat_all, flat_stack_after, move, moves, step_flat, walk_flat}
 use Rattle.grammars.proofs.PieceLemmas.{piece_stops, piece_walk, walk_piece}
 use Rattle.declarations.specs.Tables.{IsFrom}
-use Rattle.item_tables.specs.Grammar.{ends, step}
+use Rattle.item_tables.specs.Walk.{ends, step}
 use Rattle.declarations.specs.Walk.{Stops, walk}
 use Rattle.declarations.specs.rules.Names.{G, Label, Name}
 use Rattle.declarations.specs.rules.Pieces.{ReadsBy}
 use Rattle.declarations.specs.rules.Rules.{follows, rules}
 use Rattle.item_tables.specs.declared.class.SignClass.{SignClass}
-use Rattle.item_tables.specs.declared.class.SignClass.TheVariants as signs
-use Rattle.item_tables.specs.declared.class.Keyword.TheVariants as keywords
-use Rattle.item_tables.specs.declared.class.Word.TheVariants as words
-use Rattle.item_tables.specs.declared.walk_state.Front.TheVariants as fronts
-use Rattle.item_tables.specs.declared.walk_state.Item.{Item}
-use Rattle.item_tables.specs.declared.walk_state.Item.TheVariants as items
 use Rattle.item_tables.specs.declared.walk_state.WalkState.{WalkState}
 use Rattle.item_tables.specs.declared.walk_state.Continuation.{Continuation}
-use Rattle.item_tables.specs.declared.walk_state.Spot.TheVariants as spots
 use Rattle.item_tables.specs.declared.walk_state.State.{State}
 use Rattle.item_tables.specs.declared.walk_state.State.TheVariants as states
 use Rattle.declarations.proofs.AgreeLemmas.{Agrees, EndsAgree}
-use Rattle.declarations.proofs.EndLemmas.{ends_agree}
-use Rattle.declarations.proofs.RangeLemmas.{range_agrees}
-use Rattle.declarations.proofs.SpotLemmas.{spot_agrees}
+use Rattle.declarations.proofs.RangeLemmas.{range_agrees, range_ends_agree}
+use Rattle.declarations.proofs.SpotLemmas.{spot_agrees, spot_ends_agree}
 use Rattle.declarations.proofs.StackLemmas.{left_at, left_after, stack_after, state_left}
 
 -- ---- steps
 
-angle_agrees : (rule : Continuation) (c : SignClass)
-    → Agrees (state_left (states.At (spots.Front fronts.ImplAngle)) 1 items.Impl rule)
-    (step (record { item = items.Impl; rule = rule; state = states.At (spots.Front fronts.ImplAngle); depth = 1 }) c) c
-angle_agrees rule (signs.Word words.Auto) = refl
-angle_agrees rule (signs.Word _) = refl
-angle_agrees rule (signs.Keyword keywords.Async) = refl
-angle_agrees rule (signs.Keyword _) = refl
-angle_agrees rule _ = refl
-
-word_agrees : (rule : Continuation) (c : SignClass)
-    → Agrees (state_left (states.At (spots.Front fronts.ImplWord)) 1 items.Impl rule)
-    (step (record { item = items.Impl; rule = rule; state = states.At (spots.Front fronts.ImplWord); depth = 1 }) c) c
-word_agrees rule (signs.Word words.Auto) = refl
-word_agrees rule (signs.Word _) = refl
-word_agrees rule (signs.Keyword keywords.Async) = refl
-word_agrees rule (signs.Keyword _) = refl
-word_agrees rule _ = refl
-
-state_agrees : (state : State) (depth : ℕ) (item : Item) (rule : Continuation) (c : SignClass)
-    → Agrees (state_left state depth item rule)
-    (step (record { item = item; rule = rule; state = state; depth = depth }) c) c
-state_agrees (states.Range state) depth item rule c = range_agrees depth state item rule c
-state_agrees (states.At spot) zero item rule c = spot_agrees spot item rule c
-state_agrees (states.At (spots.Front fronts.ImplAngle)) (suc zero) items.Impl rule c = angle_agrees rule c
-state_agrees (states.At (spots.Front fronts.ImplWord)) (suc zero) items.Impl rule c = word_agrees rule c
-state_agrees _ _ _ _ c = refl
+state_agrees : (state : State) (depth : ℕ) (rule : Continuation) (c : SignClass)
+    → Agrees (state_left state depth rule) (step (record { rule = rule; state = state; depth = depth }) c) c
+state_agrees (states.Range state) depth rule c = range_agrees depth state rule c
+state_agrees (states.At spot) zero rule c = spot_agrees spot c
+state_agrees (states.At spot) (suc depth) rule c = refl
 
 place_agrees : (place : WalkState) (c : SignClass) → Agrees (left_at place) (step place c) c
-place_agrees place c = state_agrees place.state place.depth place.item place.rule c
+place_agrees place c = state_agrees place.state place.depth place.rule c
+
+state_ends : (state : State) (depth : ℕ) (rule : Continuation)
+    → EndsAgree (state_left state depth rule) (record { rule = rule; state = state; depth = depth })
+state_ends (states.Range state) depth rule = range_ends_agree depth state rule
+state_ends (states.At spot) zero rule = spot_ends_agree spot
+state_ends (states.At spot) (suc depth) rule = refl
+
+ends_agree : (place : WalkState) → EndsAgree (left_at place) place
+ends_agree place = state_ends place.state place.depth place.rule
 
 -- ---- walks
 

@@ -9,7 +9,7 @@ use Rattle.grammars.specs.Find.{Found, Past, Stuck, find, front, scan}
 use Rattle.grammars.proofs.FindLemmas.{front_front, scan_step}
 use Rattle.grammars.proofs.FlatLemmas.{flat_all}
 use Rattle.pm_stream.specs.declared.stream.TokenTree.{TokenTree}
-use Rattle.item_tables.specs.Grammar.{step}
+use Rattle.item_tables.specs.Walk.{step}
 use Rattle.declarations.specs.Reader.{Remains, ReadsRule, classes_in}
 use Rattle.declarations.specs.Tables.{StopsAt}
 use Rattle.declarations.specs.Signs.{classes_of, signs}

@@ -7,7 +7,7 @@ use Rattle.declarations.proofs.WalkLemmas.{after, walk-append, walk-cons}
 use Rattle.declarations.specs.Signs.{BeginsWith, Sign, classes_of, signs, trees_of}
 use Rattle.declarations.specs.Tables.{Walked}
 use Rattle.declarations.specs.Walk.{walk}
-use Rattle.item_tables.specs.Grammar.{step}
+use Rattle.item_tables.specs.Walk.{step}
 use Rattle.item_tables.specs.declared.class.SignClass.{SignClass}
 use Rattle.item_tables.specs.declared.walk_state.WalkState.{WalkState}
 

@@ -65,7 +65,7 @@ abbrev pub patterns : List SignClass
 patterns =
     (signs.Keyword keywords.Mut) ∷ (signs.Keyword keywords.Other) ∷ signs.SelfType ∷ signs.Super ∷ signs.Crate ∷
     signs.Underscore ∷ signs.Truth ∷ signs.Literal ∷ signs.PathSeparator ∷ signs.Restriction ∷ signs.Parentheses ∷
-    signs.Brackets ∷ signs.Invisible ∷ signs.Less ∷ signs.LessJoint ∷ signs.Minus ∷ signs.And ∷ any_word
+    signs.Brackets ∷ signs.Invisible ∷ signs.Less ∷ signs.LessJoint ∷ signs.Minus ∷ signs.And ∷ signs.Dot ∷ any_word
 
 -- signs that can begin a function after `gen`
 abbrev pub functions : List SignClass
@@ -140,7 +140,7 @@ all_names =
     (mask_of (others no_operators), codes "an operator") ∷
     (one signs.Greater, codes "`>`") ∷
     (one signs.Colon, codes "`:`") ∷ (
-      mask_of (signs.Braces ∷ signs.Equals ∷ signs.Exclamation ∷ signs.Dot ∷ signs.Infix ∷ patterns),
+      mask_of (signs.Braces ∷ signs.Equals ∷ signs.Exclamation ∷ signs.Infix ∷ patterns),
       codes "more of the pattern",
     ) ∷
     (one signs.Equals, codes "`=`") ∷ (
@@ -158,7 +158,7 @@ all_names =
           signs.Crate ∷ signs.PathSeparator ∷ signs.Visibility ∷ signs.Invisible ∷ signs.Hash ∷ declarations),
       codes "an item",
     ) ∷
-    (mask_of (signs.SelfValue ∷ signs.Hash ∷ signs.Dot ∷ patterns), codes "a parameter") ∷
+    (mask_of (signs.SelfValue ∷ signs.Hash ∷ patterns), codes "a parameter") ∷
     (mask_of patterns, codes "a pattern") ∷
     (mask_of declarations, codes "an item") ∷
     (mask_of ((signs.Keyword keywords.Pub) ∷ signs.Visibility ∷ signs.Hash ∷ after_visibility), codes "a function") ∷ (

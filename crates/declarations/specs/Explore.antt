@@ -1,7 +1,10 @@
 -- How far a rule reads, and with what signs it can go on.
-use Rattle.std.specs.Prelude.{◌≡◌, ◌<◌, ◌||◌, true, false, List, [], ◌∷◌, ℕ, length}
+use Rattle.std.specs.Prelude.{◌≡◌, ◌<◌, ◌||◌, true, false, List, [], ◌∷◌, ℕ, length, Result, MatchResult}
+use Rattle.std.specs.Borrow.{Bor}
 use Rattle.grammars.specs.Deterministic.{IsStart}
-use Rattle.grammars.specs.Grammar.{Then, Either}
+use Rattle.grammars.specs.First.{may_begin}
+use Rattle.grammars.specs.Grammar.{Then, To, Either}
+use Rattle.grammars.specs.Machine.{is_nullable}
 use Rattle.grammars.specs.Next as machine
 use Rattle.pm_stream.specs.declared.stream.TokenTree.{TokenTree}
 use Rattle.declarations.specs.Expected.{Expects, HasSigns, holds, holds_end}
@@ -12,7 +15,13 @@ use Rattle.item_tables.specs.declared.class.SignClass.TheVariants as classes
 use Rattle.declarations.specs.declared.expected.Expected.{Expected}
 use Rattle.declarations.specs.declared.explore.Seen.{Seen}
 use Rattle.item_tables.specs.Classes.{is}
-use Rattle.declarations.specs.rules.Names.{G}
+use Rattle.declarations.specs.Signs.{BeginsWith}
+use Rattle.declarations.specs.Syntax.{test_of}
+use Rattle.declarations.specs.declared.syntax.Test.{Test}
+use Rattle.item_tables.specs.declared.class.SignClass.{SignClass}
+use Rattle.declarations.specs.rules.Fronts.{is_segment}
+use Rattle.declarations.specs.rules.Items.{call}
+use Rattle.declarations.specs.rules.Names.{Call, G, one}
 use Rattle.declarations.specs.rules.Pieces.{ByRule}
 use Rattle.declarations.specs.rules.Rules.{follows, rules}
 
@@ -25,6 +34,25 @@ pub record Explores (g : G) (trees left : List TokenTree) (next : Expected) : Ty
 -- what is seen by a rule
 abbrev pub Sees : G → List TokenTree → Seen → Type 0
 Sees g trees seen = Explores g trees seen.left.now seen.next
+
+-- what the rule `h` sees in the rest the rule `g` sees in the trees
+abbrev pub Onward : G → List TokenTree → G → List TokenTree → Type 0
+Onward g trees h rest =
+    (left : List TokenTree) (next : Expected) → Explores h rest left next → Explores g trees left next
+
+-- the result is the trees after a first sign that passes the test, or what is seen by each rule that needs such a sign
+abbrev pub Passes : Test → List TokenTree → Result (Bor (List TokenTree)) Seen → Type 0
+Passes test trees result =
+    MatchResult result
+    (λ rest. (class : SignClass) × BeginsWith trees class rest.now × (test_of test class ≡ true))
+    (λ seen. (seen.left.now ≡ trees)
+    × ((g : G) → ((c : SignClass) → may_begin g c ≡ test_of test c) → is_nullable g ≡ false → Sees g trees seen))
+
+-- the result is the trees after `::` and a segment of the path of a macro call, or what is seen there
+abbrev pub SeparatesCall : List TokenTree → Result (Bor (List TokenTree)) Seen → Type 0
+SeparatesCall trees result =
+    MatchResult result (λ rest. (length rest.now < length trees) × Onward call trees call rest.now)
+    (λ seen. Sees (Then (one classes.PathSeparator) (To is_segment Call)) trees seen)
 
 -- what is seen by two rules, one after the other, if the first may end
 abbrev pub Joins : Seen → Seen → Seen → Type 0

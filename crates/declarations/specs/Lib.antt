@@ -13,6 +13,7 @@ pub mod ExpectedText
 pub mod Syntax
 pub mod Explore
 pub mod ExplorePath
+pub mod ExploreItem
 pub mod Item
 pub mod ItemParts
 pub mod Ending

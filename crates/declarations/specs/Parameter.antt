@@ -89,12 +89,12 @@ ReadsFront g receiver trees result =
     (λ found. LeadsTo g trees (left_of found.0) found.1.now × Finds (front_of receiver found.0) trees found.1.now)
     (λ left. Sticks g trees left.now)
 
--- the result is a pattern, up to its `:`, or the trees from the error on
-abbrev pub ReadsPattern : List TokenTree → Result (Shape × Bor (List TokenTree)) (Bor (List TokenTree)) → Type 0
-ReadsPattern trees result =
+-- the result is a pattern by the rule, up to its `:`, or the trees from the error on
+abbrev pub ReadsPattern : G → List TokenTree → Result (Shape × Bor (List TokenTree)) (Bor (List TokenTree)) → Type 0
+ReadsPattern g trees result =
     MatchResult result
-    (λ found. (found.0 ≡ shapes.Pattern) × Finds rule.pattern trees found.1.now)
-    (λ left. Sticks rule.pattern trees left.now)
+    (λ found. (found.0 ≡ shapes.Pattern) × Finds g trees found.1.now)
+    (λ left. Sticks g trees left.now)
 
 -- the trees after a receiver begin with what a parameter of this kind has there
 abbrev pub HasSelfType : ParameterKind → List TokenTree → List TokenTree → Type 0

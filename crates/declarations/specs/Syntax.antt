@@ -1,16 +1,11 @@
 -- Rules of the grammar as data.
-use Rattle.std.specs.Prelude.{ℕ, suc, ◌+◌, Bool, false, not, ◌&&◌}
-use Rattle.grammars.specs.Grammar.{Nothing, Sign, Mark, Then, Either, Many}
+use Rattle.std.specs.Prelude.{ℕ, suc, ◌+◌, Bool, true, false, not, ◌&&◌, ◌||◌}
+use Rattle.grammars.specs.Grammar.{Nothing, Sign, To, Mark, Then, Either, Many}
 use Rattle.declarations.specs.Tables.{IsFrom}
 use Rattle.item_tables.specs.declared.class.SignClass.{SignClass}
 use Rattle.item_tables.specs.declared.class.SignClass.TheVariants as classes
 use Rattle.item_tables.specs.declared.class.Keyword.TheVariants as keywords
-use Rattle.item_tables.specs.declared.walk_state.Continuation.{Continuation}
 use Rattle.item_tables.specs.declared.walk_state.Continuation.TheVariants as places
-use Rattle.item_tables.specs.declared.walk_state.Item.TheVariants as items
-use Rattle.item_tables.specs.declared.walk_state.Part.TheVariants as parts_in
-use Rattle.item_tables.specs.declared.walk_state.Spot.TheVariants as spots
-use Rattle.item_tables.specs.declared.walk_state.State.{State}
 use Rattle.item_tables.specs.declared.walk_state.State.TheVariants as states
 use Rattle.item_tables.specs.declared.walk_state.WalkState.{WalkState}
 use Rattle.declarations.specs.declared.syntax.Guard.{Guard}
@@ -27,20 +22,20 @@ use Rattle.item_tables.specs.declared.types.TypeState.TheVariants as types
 use Rattle.item_tables.specs.Classes.{is, is_block, is_round, is_word, keyword, opens}
 use Rattle.declarations.specs.rules.Entries as entries
 use Rattle.declarations.specs.rules.Expressions.{expression}
-use Rattle.declarations.specs.rules.Fronts.{is_safe}
-use Rattle.declarations.specs.rules.ImplItems.{impl_keyword}
-use Rattle.declarations.specs.rules.Items.{any_item, type_item}
 use Rattle.declarations.specs.rules.Names as names
-use Rattle.declarations.specs.rules.Names.{G, Label, Outside, Range, comma_list}
+use Rattle.declarations.specs.rules.Names.{G, Inside, Label, Name, Outside, Range, Target, comma_list}
 use Rattle.declarations.specs.rules.Parameters as parameters
 use Rattle.declarations.specs.rules.Parts as parts
 use Rattle.declarations.specs.rules.Paths as paths
 use Rattle.declarations.specs.rules.Pieces.{ReadsBy}
-use Rattle.declarations.specs.rules.Types.{angle, bounds, other_operand, type}
-
--- the state in which a walk begins
-abbrev pub start : Continuation → State → WalkState
-start rule state = record { item = items.Alone; rule = rule; state = state; depth = 0 }
+use Rattle.declarations.specs.rules.Types.{all_operand, angle, bounds, named_operand, operand_but, other_operand}
+use Rattle.declarations.specs.rules.Types.{plain_continuation, range, type}
+use Rattle.declarations.specs.declared.syntax.Goal.TheVariants as goals
+use Rattle.declarations.specs.declared.syntax.Goal.{Goal}
+use Rattle.declarations.specs.rules.Items.{begins_call}
+use Rattle.declarations.specs.rules.Fronts as fronts
+use Rattle.declarations.specs.Range.{from_state, in_expression, in_range}
+use Rattle.declarations.specs.ItemRest.{is_call_group, is_crate_name, is_new_name, is_use_list}
 
 -- whether a sign passes the test
 abbrev pub test_of : Test → SignClass → Bool
@@ -50,18 +45,31 @@ test_of tests.Segment = entries.is_entry_segment
 test_of tests.Literal = entries.is_literal
 test_of tests.Constant = paths.is_constant
 test_of tests.List = entries.is_list
-test_of tests.Safe = is_safe
+test_of tests.Safe = fronts.is_safe
 test_of tests.Round = is_round
 test_of tests.Block = is_block
 test_of tests.Pattern = λ c. parameters.is_pattern c && not false
 test_of tests.PatternAfterAnd = λ c. parameters.is_pattern c && not (keyword keywords.Mut c)
 test_of tests.PatternFirst = λ c. parameters.is_pattern c && not (parameters.is_shared c)
 test_of tests.InPattern = parameters.continues
+test_of tests.AfterDots = λ c. parameters.continues c && not (is classes.Dot c)
 test_of tests.Opens = opens
 test_of tests.PathSegment = paths.is_segment
+test_of tests.NotSemicolon = λ c. not (is classes.Semicolon c)
+test_of tests.ItemSegment = fronts.is_segment
+test_of tests.BeginsCall = begins_call
+test_of tests.CallGroup = is_call_group
+test_of tests.NewName = is_new_name
+test_of tests.CrateName = is_crate_name
+test_of tests.UseList = is_use_list
+test_of tests.ConstantName = fronts.is_constant_name
 
 -- the label in the grammar
 abbrev pub label_of : Shown → Label
+label_of labels.Attributes = names.Attributes
+label_of labels.Visible = names.Visible
+label_of labels.Generics = names.Generics
+label_of labels.Where = names.Where
 label_of labels.Front = names.Front
 label_of labels.Named = names.Named
 label_of labels.Parameter = names.Parameter
@@ -79,37 +87,21 @@ label_of labels.Rest = names.Rest
 abbrev pub rule_of : Table → G
 rule_of tables.Type = type
 rule_of tables.Bounds = bounds
-rule_of tables.Attributes = parts.attributes
-rule_of tables.InnerAttributes = parts.inner_attributes
-rule_of tables.Visibility = parts.visibility
-rule_of tables.Generics = parts.generics
-rule_of tables.Where = parts.where_clause
+rule_of tables.Target = range types.Wanted Target
+rule_of tables.TargetRest = range types.Whole Target
+rule_of tables.Argument = range types.Wanted Inside
+rule_of tables.ArgumentRest = range types.Whole Inside
 rule_of tables.Expression = expression
-rule_of tables.Field = parts.field
-rule_of tables.TupleField = parts.tuple_field
-rule_of tables.Variant = parts.variant
-rule_of tables.TypeItem = type_item
-rule_of tables.AnyItem = any_item
-
--- the state in which the table begins
-abbrev pub state_of : Table → State
-state_of tables.Type = states.Range types.Wanted
-state_of tables.Bounds = states.Range types.Bound
-state_of tables.Attributes = states.At (spots.Before parts_in.Attributes)
-state_of tables.InnerAttributes = states.At spots.Inner
-state_of tables.Visibility = states.At (spots.Before parts_in.Visibility)
-state_of tables.Generics = states.At spots.Generics
-state_of tables.Where = states.At spots.Where
-state_of tables.Expression = states.At spots.Expression
-state_of tables.Field = states.At (spots.Before parts_in.Field)
-state_of tables.TupleField = states.At (spots.Before parts_in.TupleField)
-state_of tables.Variant = states.At (spots.Before parts_in.Variant)
-state_of tables.TypeItem = states.At (spots.Before parts_in.TypeItem)
-state_of tables.AnyItem = states.At (spots.Before parts_in.AnyItem)
 
 -- the state of the walk from which the table reads
 abbrev pub start_of : Table → WalkState
-start_of table = start places.Alone (state_of table)
+start_of tables.Type = in_range types.Wanted 0
+start_of tables.Bounds = in_range types.Bound 0
+start_of tables.Target = from_state places.Target (states.Range types.Wanted)
+start_of tables.TargetRest = from_state places.Target (states.Range types.Whole)
+start_of tables.Argument = from_state places.Inside (states.Range types.Wanted)
+start_of tables.ArgumentRest = from_state places.Inside (states.Range types.Whole)
+start_of tables.Expression = in_expression
 
 -- each table reads exactly the pieces of its rule
 abbrev pub TablesRead : Type 0
@@ -121,7 +113,13 @@ guarded_rule guards.Value = entries.entry_value
 guarded_rule guards.Angle = angle (Range types.Whole Outside)
 guarded_rule guards.Word = paths.word_type
 guarded_rule guards.Operand = other_operand Outside
-guarded_rule guards.Impl = impl_keyword
+guarded_rule guards.Unrestricted =
+    Either (named_operand Outside) (operand_but (is classes.Restriction) true Outside)
+guarded_rule guards.Target = Either (named_operand Target) (operand_but (is classes.Exclamation) true Target)
+guarded_rule guards.PlainTarget = Either (named_operand Target) (operand_but (is classes.Exclamation) false Target)
+guarded_rule guards.Argument = all_operand Inside
+guarded_rule guards.ArgumentRest =
+    Either (To (is classes.As) (Range types.Wanted Inside)) (plain_continuation Inside)
 
 -- the table that reads it
 abbrev pub table_of : Guard → Table
@@ -129,7 +127,11 @@ table_of guards.Value = tables.Expression
 table_of guards.Angle = tables.Type
 table_of guards.Word = tables.Type
 table_of guards.Operand = tables.Type
-table_of guards.Impl = tables.AnyItem
+table_of guards.Unrestricted = tables.Type
+table_of guards.Target = tables.Target
+table_of guards.PlainTarget = tables.Target
+table_of guards.Argument = tables.Argument
+table_of guards.ArgumentRest = tables.ArgumentRest
 
 -- the test of the first sign
 abbrev pub admits : Guard → SignClass → Bool
@@ -137,13 +139,56 @@ admits guards.Value c = not (entries.continues c)
 admits guards.Angle c = opens c
 admits guards.Word c = is_word c
 admits guards.Operand c = not (is_word c) && not (is classes.Lifetime c)
-admits guards.Impl c = keyword keywords.Impl c
+admits guards.Unrestricted c = not (is classes.Restriction c)
+admits guards.Target c = not (is classes.Exclamation c)
+admits guards.PlainTarget c = not (is classes.Exclamation c) && not (opens c)
+admits guards.Argument c = not (is_word c) && not (is classes.Lifetime c)
+admits guards.ArgumentRest c = not (is classes.Equals c) && not (is classes.Comma c || is classes.Colon c)
+
+-- the name of the rule
+abbrev pub name_of : Goal → Name
+name_of goals.Function = names.Function
+name_of goals.Qualified = names.Qualified
+name_of goals.Async = names.Async
+name_of goals.Constant = names.Constant
+name_of goals.Static = names.Static
+name_of goals.Alias = names.Alias
+name_of goals.Struct = names.Struct
+name_of goals.Enum = names.Enum
+name_of goals.Union = names.Union
+name_of goals.Trait = names.Trait
+name_of goals.Impl = names.Impl
+name_of goals.Module = names.Module
+name_of goals.Use = names.Use
+name_of goals.UsePath = names.UsePath
+name_of goals.Call = names.Call
+name_of goals.TargetRest = Range types.Whole Target
+
+-- a number for the named rule: that of its data in src/item_syntax.rt and src/impl_syntax.rt
+abbrev pub goal_size : Goal → ℕ
+goal_size goals.Function = 344
+goal_size goals.Qualified = 703
+goal_size goals.Static = 48
+goal_size goals.Alias = 376
+goal_size goals.Struct = 364
+goal_size goals.Enum = 317
+goal_size goals.Union = 317
+goal_size goals.Trait = 379
+goal_size goals.Module = 16
+goal_size goals.Async = 2825
+goal_size goals.Constant = 7316
+goal_size goals.TargetRest = 1
+goal_size goals.Impl = 2514
+goal_size goals.Call = 44
+goal_size goals.UsePath = 14
+goal_size goals.Use = 61
 
 -- a number for the rule, which is greater than those of its parts
 abbrev pub size_of : Syntax → ℕ
 size_of (forms.Then' p a q b) = suc (suc (size_of a + size_of b))
 size_of (forms.Either' p a q b) = suc (suc (size_of a + size_of b))
 size_of (forms.Many' p a) = suc (suc (size_of a))
+size_of (forms.To test goal) = suc (suc (goal_size goal))
 size_of (forms.List' p a) = suc (suc (size_of a))
 size_of _ = 1
 
@@ -154,6 +199,7 @@ grammar_of (forms.Sign test) = Sign (test_of test)
 grammar_of (forms.Mark label) = Mark (label_of label)
 grammar_of (forms.Table table) = rule_of table
 grammar_of (forms.Guarded guard) = guarded_rule guard
+grammar_of (forms.To test goal) = To (test_of test) (name_of goal)
 grammar_of (forms.Then' p a q b) = Then (grammar_of a) (grammar_of b)
 grammar_of (forms.Either' p a q b) = Either (grammar_of a) (grammar_of b)
 grammar_of (forms.Many' p a) = Many (grammar_of a)

@@ -1,7 +1,7 @@
 -- What the tables read: the walks over them, and where these stop.
 use Rattle.std.specs.Prelude.{◌≡◌, Bool, List, ◌++◌, Some, is_some}
 use Rattle.pm_stream.specs.declared.stream.TokenTree.{TokenTree}
-use Rattle.item_tables.specs.Grammar.{ends, step}
+use Rattle.item_tables.specs.Walk.{ends, step}
 use Rattle.declarations.specs.Expected.{HasSigns}
 use Rattle.declarations.specs.Signs.{Sign, classes_of, signs, trees_of}
 use Rattle.declarations.specs.Walk.{IsWalk, Stops, walk}

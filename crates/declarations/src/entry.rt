@@ -37,7 +37,7 @@ use crate::signs::first_sign;
 use crate::syntax::{ENTRY, ENTRY_REST, Syntax};
 use crate::walk::walk_past;
 use item_tables::class::SignClass;
-use item_tables::walk_state::{Continuation, Item, Spot, State, WalkState};
+use item_tables::walk_state::{Continuation, Spot, State, WalkState};
 use pm_span::Span;
 use pm_stream::{Group, TokenTree};
 use pm_token::Ident;
@@ -519,8 +519,7 @@ pub(crate) fn past_expression(trees: &[TokenTree]) -> Result<&[TokenTree], &[Tok
     ensures { ReadsRule expression trees.now result }
 {
     let start = WalkState {
-        item: Item::Alone,
-        rule: Continuation::Alone,
+        rule: Continuation::Outside,
         state: State::At(Spot::Expression),
         depth: 0,
     };

@@ -3,20 +3,29 @@ ghost use Rattle.std.specs.Prelude.{◌≡◌, ◌-◌, ◌≤◌, ◌&&◌, IfN
 ghost use Rattle.grammars.specs.First.{heads, may_begin};
 ghost use Rattle.grammars.specs.Grammar.{Many, Mark, Nothing, Sign};
 ghost use Rattle.declarations.specs.Expected.{HasSigns, holds};
-ghost use Rattle.declarations.specs.Explore.{BeginsFirst, Chooses, ExpectsComma, ExpectsWhole, Joins, Sees, StopsFirst};
+ghost use Rattle.declarations.specs.Explore.{BeginsFirst, Chooses, ExpectsComma, ExpectsWhole, Joins, Passes, Sees};
+ghost use Rattle.declarations.specs.Explore.{SeparatesCall, StopsFirst};
 ghost use Rattle.declarations.specs.Fault.{first_extent};
 ghost use Rattle.declarations.specs.Reader.{classes_in};
 ghost use Rattle.declarations.specs.Signs.{BeginsWith};
-ghost use Rattle.declarations.specs.Syntax.{admits, grammar_of, guarded_rule, label_of, rule_of, test_of};
+ghost use Rattle.declarations.specs.Syntax.{admits, grammar_of, guarded_rule, label_of, name_of, rule_of, test_of};
+ghost use Rattle.declarations.specs.rules.Items.{call, use_path};
+ghost use Rattle.declarations.specs.rules.Rules.{rules};
 ghost use Rattle.item_tables.specs.Classes.{any_of, is};
 ghost use Rattle.declarations.specs.rules.Names.{comma_list, one};
 ghost use Rattle.item_tables.specs.declared.class.SignClass.TheVariants as signs;
 
 use crate::expected::{CLASSES, Expected};
 use crate::fault::Fault;
+use crate::header_syntax::{
+    ALIAS, ASYNC_FRONT, CONST_FRONT, ENUM, FUNCTION_FRONT, FUNCTION_ITEM, MODULE, STATIC, STRUCT,
+    TRAIT,
+};
+use crate::impl_syntax::{IMPL_FRONT, TARGET_REST};
+use crate::item_syntax::{MARKED_CALL, USE, USE_END, USE_LIST};
 use crate::reader::is;
 use crate::signs::first_sign;
-use crate::syntax::{Guard, Label, Syntax, Table, Test, admits, passes, start_of, table_of};
+use crate::syntax::{Goal, Guard, Label, Syntax, Table, Test, admits, passes, start_of, table_of};
 use crate::walk::{steps_from, walk_from};
 use item_tables::class::SignClass;
 use pm_stream::TokenTree;
@@ -49,7 +58,7 @@ fn see_nothing(trees: &[TokenTree]) -> Seen<'_>
 }
 
 /// Reads by a label.
-fn see_mark(label: Label, trees: &[TokenTree]) -> Seen<'_>
+pub(crate) fn see_mark(label: Label, trees: &[TokenTree]) -> Seen<'_>
     ensures { Sees (Mark (label_of label)) trees.now result }
 {
     seen_nothing(trees)
@@ -68,6 +77,16 @@ fn passing(test: Test, classes: &[SignClass]) -> Expected
     found
 }
 
+/// The signs that pass the test.
+fn all_passing(test: Test) -> Expected
+    ensures { HasSigns result (test_of test) false }
+{
+    match test {
+        Test::Is(class) => Expected::nothing().with(class),
+        _ => passing(test, &CLASSES),
+    }
+}
+
 /// No sign is read, and one that passes the test could come.
 pub(crate) fn no_sign(test: Test, trees: &[TokenTree]) -> Seen<'_>
     ensures left { result.left.now ≡ trees.now }
@@ -75,7 +94,7 @@ pub(crate) fn no_sign(test: Test, trees: &[TokenTree]) -> Seen<'_>
 {
     Seen {
         left: trees,
-        next: passing(test, &CLASSES),
+        next: all_passing(test),
     }
 }
 
@@ -92,6 +111,32 @@ fn see_sign(test: Test, trees: &[TokenTree]) -> Seen<'_>
             }
         }
         None => no_sign(test, trees),
+    }
+}
+
+/// The trees after the first sign if it passes the test, or else what is seen there.
+fn first_that_passes(test: Test, trees: &[TokenTree]) -> Result<&[TokenTree], Seen<'_>>
+    ensures { Passes test trees.now result }
+{
+    match first_sign(trees) {
+        Some((class, rest)) => {
+            if passes(test, class) {
+                Ok(rest)
+            } else {
+                Err(no_sign(test, trees))
+            }
+        }
+        None => Err(no_sign(test, trees)),
+    }
+}
+
+/// The trees after `::` and a segment of the path of a macro call, or else what is seen there.
+fn past_separated(trees: &[TokenTree]) -> Result<&[TokenTree], Seen<'_>>
+    ensures { SeparatesCall trees.now result }
+{
+    match first_that_passes(Test::Is(SignClass::PathSeparator), trees) {
+        Ok(rest) => first_that_passes(Test::ItemSegment, rest),
+        Err(seen) => Err(seen),
     }
 }
 
@@ -170,14 +215,14 @@ pub(crate) fn stopped(first: Seen<'_>) -> Seen<'_>
 }
 
 /// What one of two rules sees. The first reads a sign.
-fn begun(first: Seen<'_>) -> Seen<'_>
+pub(crate) fn begun(first: Seen<'_>) -> Seen<'_>
     ensures { BeginsFirst first.entry result }
 {
     first
 }
 
 /// What one of two rules sees. The first reads no sign.
-fn choose<'a>(first: Seen<'a>, second: Seen<'a>) -> Seen<'a>
+pub(crate) fn choose<'a>(first: Seen<'a>, second: Seen<'a>) -> Seen<'a>
     ensures { Chooses first.entry second.entry result }
 {
     if second.left.len() < first.left.len() {
@@ -201,6 +246,10 @@ pub(crate) fn explore<'a>(syntax: &Syntax<'_>, trees: &'a [TokenTree]) -> Seen<'
         Syntax::Sign(test) => see_sign(*test, trees),
         Syntax::Table(table) => see_table(*table, trees),
         Syntax::Guarded(guard) => see_guarded(*guard, trees),
+        Syntax::To(test, goal) => match first_that_passes(*test, trees) {
+            Ok(rest) => explore_goal(*goal, rest),
+            Err(seen) => seen,
+        },
         Syntax::Then(first, second) => {
             let before = explore(first, trees);
             if before.next.has_end() {
@@ -219,6 +268,66 @@ pub(crate) fn explore<'a>(syntax: &Syntax<'_>, trees: &'a [TokenTree]) -> Seen<'
         }
         Syntax::Many(item) => explore_many(item, trees),
         Syntax::List(item) => explore_list(item, trees),
+    }
+}
+
+/// Reads by the named rule.
+#[cycle(explore)]
+fn explore_goal(goal: Goal, trees: &[TokenTree]) -> Seen<'_>
+    ensures { Sees (rules (name_of goal)) trees.now result }
+{
+    match goal {
+        Goal::Function => explore(&FUNCTION_ITEM, trees),
+        Goal::Qualified => explore(&FUNCTION_FRONT, trees),
+        Goal::Async => explore(&ASYNC_FRONT, trees),
+        Goal::Constant => explore(&CONST_FRONT, trees),
+        Goal::Static => explore(&STATIC, trees),
+        Goal::Alias => explore(&ALIAS, trees),
+        Goal::Struct => explore(&STRUCT, trees),
+        Goal::Enum => explore(&ENUM, trees),
+        Goal::Union => explore(&ENUM, trees),
+        Goal::Trait => explore(&TRAIT, trees),
+        Goal::Impl => explore(&IMPL_FRONT, trees),
+        Goal::Module => explore(&MODULE, trees),
+        Goal::Use => explore(&USE, trees),
+        Goal::UsePath => explore_use_path(trees),
+        Goal::Call => explore_call(trees),
+        Goal::TargetRest => explore(&TARGET_REST, trees),
+    }
+}
+
+/// Reads the rest of a macro call after a segment of its path.
+#[cycle(explore)]
+fn explore_call(trees: &[TokenTree]) -> Seen<'_>
+    ensures { Sees call trees.now result }
+{
+    let mut left = trees;
+    loop {
+        let one = explore(&MARKED_CALL, left);
+        if one.left.len() < left.len() {
+            return begun(one);
+        }
+        match past_separated(left) {
+            Ok(rest) => left = rest,
+            Err(two) => return choose(one, two),
+        }
+    }
+}
+
+/// Reads the rest of an import from a segment of its path, `*` or braces on.
+#[cycle(explore)]
+fn explore_use_path(trees: &[TokenTree]) -> Seen<'_>
+    ensures { Sees use_path trees.now result }
+{
+    let mut left = trees;
+    loop {
+        match first_that_passes(Test::ItemSegment, left) {
+            Ok(rest) => match first_that_passes(Test::Is(SignClass::PathSeparator), rest) {
+                Ok(after) => left = after,
+                Err(one) => return choose(one, explore(&USE_END, rest)),
+            },
+            Err(one) => return choose(one, explore(&USE_LIST, left)),
+        }
     }
 }
 

@@ -12,7 +12,8 @@ ghost use Rattle.declarations.specs.rules.Pieces.{ByRule};
 use crate::explore::{fault_at_comma, fault_at_sign, fault_by};
 use crate::fault::Fault;
 use crate::param_parts::{param_of, past_end, predicate_of};
-use crate::syntax::{GENERIC, PREDICATE, Test};
+use crate::part_syntax::{GENERIC, PREDICATE};
+use crate::syntax::Test;
 use item_tables::class::{Keyword, SignClass};
 use pm_stream::TokenTree;
 

@@ -74,7 +74,7 @@ pub(crate) fn separated_call<'a>(
 }
 
 /// Whether the sign begins a macro call and no other item.
-fn begins_call(class: SignClass) -> bool
+pub(crate) fn begins_call(class: SignClass) -> bool
     ensures { result ≡ begins_call class }
 {
     match class {

@@ -49,7 +49,7 @@ pub(crate) fn past_module(trees: &[TokenTree]) -> Result<&[TokenTree], &[TokenTr
 // ---- macro calls
 
 /// Whether the sign is a group of a macro call that `;` must follow.
-fn is_call_group(class: SignClass) -> bool
+pub(crate) fn is_call_group(class: SignClass) -> bool
     ensures { result ≡ is_call_group class }
 {
     match class {
@@ -232,7 +232,7 @@ fn past_use_end(trees: &[TokenTree]) -> Result<&[TokenTree], &[TokenTree]>
 }
 
 /// Whether the sign is `*` or braces.
-fn is_use_list(class: SignClass) -> bool
+pub(crate) fn is_use_list(class: SignClass) -> bool
     ensures { result ≡ is_use_list class }
 {
     match class {
@@ -338,7 +338,7 @@ pub(crate) fn past_use(trees: &[TokenTree]) -> Result<&[TokenTree], &[TokenTree]
 }
 
 /// Whether the sign is the name of an external crate, or `self`.
-fn is_crate_name(class: SignClass) -> bool
+pub(crate) fn is_crate_name(class: SignClass) -> bool
     ensures { result ≡ is_crate_name class }
 {
     is_name(class) || is(SignClass::SelfValue, class)

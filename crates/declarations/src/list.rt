@@ -14,7 +14,7 @@ use crate::explore::fault_at_comma;
 use crate::fault::Fault;
 use crate::field::{Field, parse_field, parse_tuple_field};
 use crate::item::Fields;
-use crate::syntax::{FIELD, TUPLE_FIELD, VARIANT};
+use crate::part_syntax::{FIELD, TUPLE_FIELD, VARIANT};
 use crate::variant::{Variant, parse_variant};
 use pm_stream::{Group, TokenTree};
 

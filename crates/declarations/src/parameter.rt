@@ -13,10 +13,11 @@ ghost use Rattle.declarations.specs.Reading.{FaultAt, IsOnly, Reads};
 ghost use Rattle.item_tables.specs.Classes.{opens};
 ghost use Rattle.declarations.specs.rules.Names.{one};
 ghost use Rattle.declarations.specs.rules.Parameters.{after_and, after_and_mut, after_mut, continues, dots};
-ghost use Rattle.declarations.specs.rules.Parameters.{function_parameter, is_pattern, may_mutate, named_parameter};
-ghost use Rattle.declarations.specs.rules.Parameters.{parameter_rest, pattern, pattern_angle, pattern_rest};
-ghost use Rattle.declarations.specs.rules.Parameters.{pattern_sign, pattern_signs, receiver, receiver_rest};
-ghost use Rattle.declarations.specs.rules.Parameters.{self_type, two_dots, pattern_parameter};
+ghost use Rattle.declarations.specs.rules.Parameters.{dotted_parameter, dotted_pattern, function_parameter, is_pattern};
+ghost use Rattle.declarations.specs.rules.Parameters.{may_mutate, named_parameter, parameter_rest, pattern};
+ghost use Rattle.declarations.specs.rules.Parameters.{pattern_angle, pattern_rest, pattern_sign, pattern_signs};
+ghost use Rattle.declarations.specs.rules.Parameters.{plain_pattern, receiver, receiver_rest, self_type, two_dots};
+ghost use Rattle.declarations.specs.rules.Parameters.{pattern_parameter};
 ghost use Rattle.declarations.specs.rules.Parts.{attribute, attributes};
 ghost use Rattle.declarations.specs.rules.Pieces.{ByRule};
 ghost use Rattle.declarations.specs.rules.Types.{type};
@@ -109,7 +110,7 @@ fn opens(class: SignClass) -> bool
     }
 }
 
-/// Whether a pattern can begin with the sign.
+/// Whether a pattern that does not begin with `..` can begin with the sign.
 fn may_begin(class: SignClass) -> bool
     ensures { result ≡ (is_pattern class || opens class) }
 {
@@ -237,14 +238,42 @@ fn pattern_rest(trees: &[TokenTree]) -> Result<&[TokenTree], &[TokenTree]>
     perhaps_angle(pattern_signs(trees))
 }
 
-/// Whether a pattern can begin with the first sign.
-#[tactic(auto, using(crate::proofs::ParameterLemmas::patterns))]
-fn begins_pattern(trees: &[TokenTree]) -> bool
-    ensures { result ≡ heads pattern (classes_in trees.now) }
+/// Skips `..`.
+#[tactic(auto, using(crate::proofs::ReaderLemmas::steps))]
+fn two_dots(trees: &[TokenTree]) -> Result<&[TokenTree], &[TokenTree]>
+    ensures { ReadsRule (two_dots) trees.now result }
+{
+    past(past(trees, SignClass::Dot)?, SignClass::Dot)
+}
+
+/// Skips a pattern that begins with `..`.
+#[tactic(auto, using(crate::proofs::ReaderLemmas::steps))]
+fn dotted_pattern(trees: &[TokenTree]) -> Result<&[TokenTree], &[TokenTree]>
+    ensures { ReadsRule dotted_pattern trees.now result }
+{
+    pattern_rest(two_dots(trees)?)
+}
+
+/// Whether a pattern that does not begin with `..` can begin with the first sign.
+#[tactic(auto, using(crate::proofs::ParameterLemmas::plain_patterns))]
+fn begins_plain(trees: &[TokenTree]) -> bool
+    ensures { result ≡ heads plain_pattern (classes_in trees.now) }
 {
     match first_sign(trees) {
         Some((class, _)) => may_begin(class),
         None => false,
+    }
+}
+
+/// Skips a pattern that does not begin with `..`.
+#[tactic(auto, using(crate::proofs::ParameterLemmas::plain_patterns))]
+fn plain_pattern(trees: &[TokenTree]) -> Result<&[TokenTree], &[TokenTree]>
+    ensures { ReadsRule plain_pattern trees.now result }
+{
+    if begins_plain(trees) {
+        pattern_rest(trees)
+    } else {
+        Err(trees)
     }
 }
 
@@ -253,10 +282,10 @@ fn begins_pattern(trees: &[TokenTree]) -> bool
 fn past_pattern(trees: &[TokenTree]) -> Result<&[TokenTree], &[TokenTree]>
     ensures { ReadsRule pattern trees.now result }
 {
-    if begins_pattern(trees) {
-        pattern_rest(trees)
+    if begins(trees, SignClass::Dot) {
+        dotted_pattern(trees)
     } else {
-        Err(trees)
+        plain_pattern(trees)
     }
 }
 
@@ -275,20 +304,12 @@ fn may_mutate(trees: &[TokenTree]) -> Result<&[TokenTree], &[TokenTree]>
     }
 }
 
-/// Skips `..`.
-#[tactic(auto, using(crate::proofs::ReaderLemmas::steps))]
-fn two_dots(trees: &[TokenTree]) -> Result<&[TokenTree], &[TokenTree]>
-    ensures { ReadsRule (two_dots) trees.now result }
-{
-    past(past(trees, SignClass::Dot)?, SignClass::Dot)
-}
-
 /// Skips `...`.
 #[tactic(auto, using(crate::proofs::ReaderLemmas::steps))]
 fn dots(trees: &[TokenTree]) -> Result<&[TokenTree], &[TokenTree]>
     ensures { ReadsRule dots trees.now result }
 {
-    two_dots(past(trees, SignClass::Dot)?)
+    past(two_dots(trees)?, SignClass::Dot)
 }
 
 /// What a parameter begins with after its `mut`, and the trees from the `:` or the end on.
@@ -310,9 +331,19 @@ fn after_mut(trees: &[TokenTree]) -> Result<(Shape, &[TokenTree]), &[TokenTree]>
 
 /// Reads a pattern, up to its `:`.
 fn pattern_shape(trees: &[TokenTree]) -> Result<(Shape, &[TokenTree]), &[TokenTree]>
-    ensures { ReadsPattern trees.now result }
+    ensures { ReadsPattern pattern trees.now result }
 {
     match past_pattern(trees) {
+        Ok(rest) => Ok((Shape::Pattern, rest)),
+        Err(left) => Err(left),
+    }
+}
+
+/// Reads a pattern that does not begin with `..`, up to its `:`.
+fn plain_shape(trees: &[TokenTree]) -> Result<(Shape, &[TokenTree]), &[TokenTree]>
+    ensures { ReadsPattern plain_pattern trees.now result }
+{
+    match plain_pattern(trees) {
         Ok(rest) => Ok((Shape::Pattern, rest)),
         Err(left) => Err(left),
     }
@@ -360,7 +391,7 @@ fn after_and(trees: &[TokenTree]) -> Result<(Shape, &[TokenTree]), &[TokenTree]>
     }
 }
 
-/// Reads a receiver or a pattern, up to the `:` or the end.
+/// Reads a receiver, or a pattern that does not begin with `..`, up to the `:` or the end.
 #[tactic(auto, using(crate::proofs::ParameterLemmas::fronts))]
 fn named_front(trees: &[TokenTree]) -> Result<(Shape, &[TokenTree]), &[TokenTree]>
     ensures { ReadsFront named_parameter receiver trees.now result }
@@ -376,7 +407,7 @@ fn named_front(trees: &[TokenTree]) -> Result<(Shape, &[TokenTree]), &[TokenTree
             if is(SignClass::And, class) {
                 return after_and(rest);
             }
-            pattern_shape(trees)
+            plain_shape(trees)
         }
         None => Err(trees),
     }
@@ -461,7 +492,7 @@ pub struct Named<'a> {
     pub kind: ParameterKind<'a>,
 }
 
-/// A receiver, or a pattern with its type, and the trees after it.
+/// A receiver, or a pattern with its type that does not begin with `..`, and the trees after it.
 #[tactic(auto, using(crate::proofs::ParameterLemmas::named))]
 fn named_of(trees: &[TokenTree]) -> Result<(Named<'_>, &[TokenTree]), &[TokenTree]>
     ensures { ReadsNamed named_parameter trees.now result }
@@ -478,22 +509,48 @@ fn named_of(trees: &[TokenTree]) -> Result<(Named<'_>, &[TokenTree]), &[TokenTre
     }
 }
 
+/// `...`, or a pattern that begins with `..` and its type, and the trees after it.
+#[tactic(auto, using(crate::proofs::ParameterLemmas::dotted))]
+fn dotted_of(trees: &[TokenTree]) -> Result<(Named<'_>, &[TokenTree]), &[TokenTree]>
+    ensures { ReadsNamed dotted_parameter trees.now result }
+{
+    match two_dots(trees) {
+        Ok(after) => {
+            if begins(after, SignClass::Dot) {
+                match past(after, SignClass::Dot) {
+                    Ok(rest) => Ok((
+                        Named {
+                            pattern: &[],
+                            kind: ParameterKind::Variadic,
+                        },
+                        rest,
+                    )),
+                    Err(left) => Err(left),
+                }
+            } else {
+                match pattern_rest(after) {
+                    Ok(from_end) => match pattern_parameter(from_end) {
+                        Ok((kind, rest)) => {
+                            let pattern = part(trees, from_end);
+                            Ok((Named { pattern, kind }, rest))
+                        }
+                        Err(left) => Err(left),
+                    },
+                    Err(left) => Err(left),
+                }
+            }
+        }
+        Err(left) => Err(left),
+    }
+}
+
 /// A receiver, a pattern with its type, or `...`, and the trees after it.
 #[tactic(auto, using(crate::proofs::ParameterLemmas::rests))]
 fn rest_of(trees: &[TokenTree]) -> Result<(Named<'_>, &[TokenTree]), &[TokenTree]>
     ensures { ReadsNamed parameter_rest trees.now result }
 {
     if begins(trees, SignClass::Dot) {
-        match dots(trees) {
-            Ok(rest) => Ok((
-                Named {
-                    pattern: &[],
-                    kind: ParameterKind::Variadic,
-                },
-                rest,
-            )),
-            Err(left) => Err(left),
-        }
+        dotted_of(trees)
     } else {
         named_of(trees)
     }
@@ -550,8 +607,8 @@ pub fn parse_parameter(trees: &[TokenTree]) -> Result<(Parameter<'_>, &[TokenTre
 ///
 /// A pattern is not parsed; only its end is found, which is before the first sign that can be in no pattern, such as
 /// `:`. The pattern is one of a parameter: it has no `self`, and `|` only in groups. A keyword such as `in` does not
-/// end it. The call is for trees of a macro's own grammar, such as the parameters of a closure. For `(a, b): (A, B)`
-/// the pattern is `(a, b)`.
+/// end it. It may begin with `..`, and `...` alone is a pattern here. The call is for trees of a macro's own grammar,
+/// such as the parameters of a closure. For `(a, b): (A, B)` the pattern is `(a, b)`.
 #[tactic(auto, using(crate::proofs::ParameterLemmas::splits))]
 pub fn split_pattern(trees: &[TokenTree]) -> Result<(&[TokenTree], &[TokenTree]), Fault>
     ensures ok { IfOk result (λ found. Reads (ByRule pattern) trees.now found.0.now found.1.now) }

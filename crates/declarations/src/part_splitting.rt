@@ -16,13 +16,14 @@ use crate::function::{past_generics, past_where};
 use crate::generic_argument::past_bounds;
 use crate::inner::past_inner_attributes;
 use crate::item::item_of;
+use crate::item_syntax::TYPE_ITEM;
 use crate::parameter::{past_attributes, past_type};
 use crate::part_list::{Element, past_list};
-use crate::reader::part;
-use crate::syntax::{
+use crate::part_syntax::{
     ATTRIBUTES, BOUNDS, EXPRESSION, FIELDS, GENERICS, INNER_ATTRIBUTES, TUPLE_FIELDS, TYPE,
-    TYPE_ITEM, VARIANTS, WHERE,
+    VARIANTS, WHERE,
 };
+use crate::reader::part;
 use crate::variant::parse_variant;
 use pm_stream::TokenTree;
 

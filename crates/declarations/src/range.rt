@@ -1,7 +1,7 @@
 //! The walk over a type or bounds alone.
 ghost use Rattle.std.specs.Prelude.{◌≡◌, ◌+◌, ◌≤◌, ◌<◌, ◌^◌, ◌==◌, ◌&&◌, IfNone, IfSome};
 ghost use Rattle.std.specs.Prelude.{MatchResult, None, Some, false, length, true};
-ghost use Rattle.item_tables.specs.Grammar.{step, depth_after};
+ghost use Rattle.item_tables.specs.Walk.{step};
 ghost use Rattle.declarations.specs.Range.{in_range};
 ghost use Rattle.declarations.specs.Tables.{StopsAt};
 ghost use Rattle.declarations.specs.Signs.{BeginsWith, classes_of, signs};
@@ -11,7 +11,8 @@ ghost use Rattle.item_tables.specs.declared.class.SignClass.{SignClass as ClassV
 
 use crate::signs::first_sign;
 use item_tables::class::SignClass;
-use item_tables::types::{Turn, TypeState, may_end, type_step};
+use item_tables::types::{TypeState, may_end, type_step};
+use item_tables::walk_state::depth_after;
 use pm_stream::TokenTree;
 
 /// Skips a type or bounds from a state on. At an error it returns the trees after the longest prefix that can go on.
@@ -72,17 +73,4 @@ fn range_step(state: TypeState, depth: usize, class: SignClass) -> Option<(TypeS
 {
     let taken = type_step(state, class, depth == 0)?;
     Some((taken.state, depth_after(taken.turn, depth)))
-}
-
-/// The number of open angle brackets after a sign.
-fn depth_after(turn: Turn, depth: usize) -> usize
-    requires { depth + 1 < 2 ^ 64 }
-    ensures value { result ≡ depth_after turn depth }
-    ensures most { result ≤ depth + 1 }
-{
-    match turn {
-        Turn::Stay => depth,
-        Turn::Open => depth + 1,
-        Turn::Close => depth.saturating_sub(1),
-    }
 }

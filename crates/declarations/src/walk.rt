@@ -2,7 +2,7 @@
 ghost use Rattle.std.specs.Prelude.{◌≡◌, ◌+◌, ◌≤◌, ◌<◌, ◌^◌, ◌&&◌, IfNone, IfSome, MatchResult};
 ghost use Rattle.std.specs.Prelude.{false, is_some, length, true};
 ghost use Rattle.item_tables.specs.Classes.{any_of, is};
-ghost use Rattle.item_tables.specs.Grammar.{step};
+ghost use Rattle.item_tables.specs.Walk.{step};
 ghost use Rattle.declarations.specs.Expected.{HasSigns};
 ghost use Rattle.declarations.specs.Signs.{BeginsWith, classes_of, signs};
 ghost use Rattle.declarations.specs.Tables.{AreSteps, StopsAt, Walked};

@@ -1,156 +1,168 @@
 -- The steps of the walk over an expression, up to its end. A step says where a sign leads.
-use Rattle.std.specs.Prelude.{Option, None}
+use Rattle.std.specs.Prelude.{Bool, true, false, Option, None}
 use Rattle.item_tables.specs.Moves.{open_angle, to_spot}
 use Rattle.item_tables.specs.declared.class.SignClass.{SignClass}
 use Rattle.item_tables.specs.declared.class.SignClass.TheVariants as signs
-use Rattle.item_tables.specs.declared.walk_state.Item.{Item}
-use Rattle.item_tables.specs.declared.walk_state.Item.TheVariants as items
-use Rattle.item_tables.specs.declared.walk_state.Part.TheVariants as parts
 use Rattle.item_tables.specs.declared.walk_state.Continuation.TheVariants as rules
 use Rattle.item_tables.specs.declared.walk_state.Shift.{Shift}
+use Rattle.item_tables.specs.declared.walk_state.Spot.{Spot}
 use Rattle.item_tables.specs.declared.walk_state.Spot.TheVariants as spots
 
--- the step after a whole variant in a list
-abbrev pub variant_end : Item → SignClass → Option Shift
-variant_end items.Variants signs.Comma = to_spot items.Variants (spots.Before parts.Variant)
-variant_end _ _ = None
-
 -- the step where an operand must come
-abbrev pub expression : Item → SignClass → Option Shift
-expression item signs.Restriction = to_spot item spots.ExpressionWhole
-expression item signs.Parentheses = to_spot item spots.ExpressionWhole
-expression item signs.Brackets = to_spot item spots.ExpressionWhole
-expression item signs.Braces = to_spot item spots.ExpressionWhole
-expression item signs.Block = to_spot item spots.ExpressionWhole
-expression item signs.Invisible = to_spot item spots.ExpressionWhole
-expression item (signs.Word _) = to_spot item spots.ExpressionWhole
-expression item signs.SelfValue = to_spot item spots.ExpressionWhole
-expression item signs.SelfType = to_spot item spots.ExpressionWhole
-expression item signs.Super = to_spot item spots.ExpressionWhole
-expression item signs.Crate = to_spot item spots.ExpressionWhole
-expression item signs.Underscore = to_spot item spots.ExpressionWhole
-expression item signs.Truth = to_spot item spots.ExpressionWhole
-expression item signs.Literal = to_spot item spots.ExpressionWhole
-expression item signs.Await = to_spot item spots.ExpressionWhole
-expression item signs.Less = open_angle item rules.Angle
-expression item signs.LessJoint = open_angle item rules.Angle
-expression item signs.Lifetime = to_spot item spots.ExpressionOpen
-expression item signs.Jump = to_spot item spots.ExpressionOpen
-expression item signs.Dot = to_spot item spots.ExpressionRange
-expression item signs.Minus = to_spot item spots.Expression
-expression item signs.Star = to_spot item spots.Expression
-expression item signs.And = to_spot item spots.Expression
-expression item signs.Exclamation = to_spot item spots.Expression
-expression item signs.Equals = to_spot item spots.Expression
-expression item signs.Greater = to_spot item spots.Expression
-expression item signs.PathSeparator = to_spot item spots.Expression
-expression item signs.Bars = to_spot item spots.Expression
-expression item (signs.Keyword _) = to_spot item spots.Expression
-expression item signs.Hash = to_spot item spots.ExpressionHash
-expression item signs.Bar = to_spot item spots.Closure
-expression item signs.Arrow = to_spot item spots.Cast
-expression item _ = None
+abbrev pub expression : SignClass → Option Shift
+expression signs.Restriction = to_spot spots.ExpressionWhole
+expression signs.Parentheses = to_spot spots.ExpressionWhole
+expression signs.Brackets = to_spot spots.ExpressionWhole
+expression signs.Braces = to_spot spots.ExpressionWhole
+expression signs.Block = to_spot spots.ExpressionWhole
+expression signs.Invisible = to_spot spots.ExpressionWhole
+expression (signs.Word _) = to_spot spots.ExpressionWhole
+expression signs.SelfValue = to_spot spots.ExpressionWhole
+expression signs.SelfType = to_spot spots.ExpressionWhole
+expression signs.Super = to_spot spots.ExpressionWhole
+expression signs.Crate = to_spot spots.ExpressionWhole
+expression signs.Underscore = to_spot spots.ExpressionWhole
+expression signs.Truth = to_spot spots.ExpressionWhole
+expression signs.Literal = to_spot spots.ExpressionWhole
+expression signs.Await = to_spot spots.ExpressionWhole
+expression signs.Less = open_angle rules.Angle
+expression signs.LessJoint = open_angle rules.Angle
+expression signs.Lifetime = to_spot spots.ExpressionOpen
+expression signs.Jump = to_spot spots.ExpressionOpen
+expression signs.Dot = to_spot spots.ExpressionRange
+expression signs.Minus = to_spot spots.Expression
+expression signs.Star = to_spot spots.Expression
+expression signs.And = to_spot spots.Expression
+expression signs.Exclamation = to_spot spots.Expression
+expression signs.Equals = to_spot spots.Expression
+expression signs.Greater = to_spot spots.Expression
+expression signs.PathSeparator = to_spot spots.Expression
+expression signs.Bars = to_spot spots.Expression
+expression (signs.Keyword _) = to_spot spots.Expression
+expression signs.Hash = to_spot spots.ExpressionHash
+expression signs.Bar = to_spot spots.Closure
+expression signs.Arrow = to_spot spots.Cast
+expression _ = None
 
 -- the step where an operand may come, or what follows an operand
-abbrev pub expression_open : Item → SignClass → Option Shift
-expression_open item signs.Dot = to_spot item spots.ExpressionOpen
-expression_open item signs.Question = to_spot item spots.ExpressionWhole
-expression_open item signs.Plus = to_spot item spots.Expression
-expression_open item signs.Infix = to_spot item spots.Expression
-expression_open item signs.Colon = to_spot item spots.Expression
-expression_open item signs.Comma = variant_end item signs.Comma
-expression_open item class = expression item class
+abbrev pub expression_open : SignClass → Option Shift
+expression_open signs.Dot = to_spot spots.ExpressionOpen
+expression_open signs.Question = to_spot spots.ExpressionWhole
+expression_open signs.Plus = to_spot spots.Expression
+expression_open signs.Infix = to_spot spots.Expression
+expression_open signs.Colon = to_spot spots.Expression
+expression_open class = expression class
 
 -- the step after an operand of an expression or of a cast
-abbrev pub operator : Item → SignClass → Option Shift
-operator item signs.Restriction = to_spot item spots.ExpressionWhole
-operator item signs.Parentheses = to_spot item spots.ExpressionWhole
-operator item signs.Brackets = to_spot item spots.ExpressionWhole
-operator item signs.Braces = to_spot item spots.ExpressionWhole
-operator item signs.Block = to_spot item spots.ExpressionWhole
-operator item signs.Invisible = to_spot item spots.ExpressionWhole
-operator item signs.Question = to_spot item spots.ExpressionWhole
-operator item signs.Await = to_spot item spots.ExpressionWhole
-operator item signs.Jump = to_spot item spots.ExpressionOpen
-operator item signs.Dot = to_spot item spots.ExpressionDot
-operator item signs.As = to_spot item spots.Cast
-operator item signs.Arrow = to_spot item spots.Cast
-operator item signs.Minus = to_spot item spots.Expression
-operator item signs.Star = to_spot item spots.Expression
-operator item signs.And = to_spot item spots.Expression
-operator item signs.Exclamation = to_spot item spots.Expression
-operator item signs.Equals = to_spot item spots.Expression
-operator item signs.Greater = to_spot item spots.Expression
-operator item signs.Plus = to_spot item spots.Expression
-operator item signs.Infix = to_spot item spots.Expression
-operator item signs.Colon = to_spot item spots.Expression
-operator item signs.Bar = to_spot item spots.Expression
-operator item signs.Bars = to_spot item spots.Expression
-operator item signs.LessEquals = to_spot item spots.Expression
-operator item (signs.Keyword _) = to_spot item spots.Expression
-operator item signs.Comma = variant_end item signs.Comma
-operator item _ = None
+abbrev pub operator : SignClass → Option Shift
+operator signs.Restriction = to_spot spots.ExpressionWhole
+operator signs.Parentheses = to_spot spots.ExpressionWhole
+operator signs.Brackets = to_spot spots.ExpressionWhole
+operator signs.Braces = to_spot spots.ExpressionWhole
+operator signs.Block = to_spot spots.ExpressionWhole
+operator signs.Invisible = to_spot spots.ExpressionWhole
+operator signs.Question = to_spot spots.ExpressionWhole
+operator signs.Await = to_spot spots.ExpressionWhole
+operator signs.Jump = to_spot spots.ExpressionOpen
+operator signs.Dot = to_spot spots.ExpressionDot
+operator signs.As = to_spot spots.Cast
+operator signs.Arrow = to_spot spots.Cast
+operator signs.Minus = to_spot spots.Expression
+operator signs.Star = to_spot spots.Expression
+operator signs.And = to_spot spots.Expression
+operator signs.Exclamation = to_spot spots.Expression
+operator signs.Equals = to_spot spots.Expression
+operator signs.Greater = to_spot spots.Expression
+operator signs.Plus = to_spot spots.Expression
+operator signs.Infix = to_spot spots.Expression
+operator signs.Colon = to_spot spots.Expression
+operator signs.Bar = to_spot spots.Expression
+operator signs.Bars = to_spot spots.Expression
+operator signs.LessEquals = to_spot spots.Expression
+operator (signs.Keyword _) = to_spot spots.Expression
+operator _ = None
 
 -- the step after an operand of an expression
-abbrev pub expression_whole : Item → SignClass → Option Shift
-expression_whole item signs.PathSeparator = to_spot item spots.Expression
-expression_whole item signs.Less = to_spot item spots.Expression
-expression_whole item signs.LessJoint = to_spot item spots.ExpressionLess
-expression_whole item class = operator item class
+abbrev pub expression_whole : SignClass → Option Shift
+expression_whole signs.PathSeparator = to_spot spots.Expression
+expression_whole signs.Less = to_spot spots.Expression
+expression_whole signs.LessJoint = to_spot spots.ExpressionLess
+expression_whole class = operator class
 
 -- the step after a `Joint` `<` that is an operator. A second mark may belong to the operator, as in `<<`
-abbrev pub expression_less : Item → SignClass → Option Shift
-expression_less item signs.Less = to_spot item spots.Expression
-expression_less item signs.LessJoint = to_spot item spots.Expression
-expression_less item signs.LessEquals = to_spot item spots.Expression
-expression_less item class = expression item class
+abbrev pub expression_less : SignClass → Option Shift
+expression_less signs.Less = to_spot spots.Expression
+expression_less signs.LessJoint = to_spot spots.Expression
+expression_less signs.LessEquals = to_spot spots.Expression
+expression_less class = expression class
 
 -- the step after an operand and `.`
-abbrev pub expression_dot : Item → SignClass → Option Shift
-expression_dot item signs.Dot = to_spot item spots.ExpressionOpen
-expression_dot item class = expression item class
+abbrev pub expression_dot : SignClass → Option Shift
+expression_dot signs.Dot = to_spot spots.ExpressionOpen
+expression_dot class = expression class
 
 -- the step within the bars of a closure
-abbrev pub closure : Item → SignClass → Option Shift
-closure item signs.Bar = to_spot item spots.Expression
-closure item signs.Less = open_angle item rules.ClosureAngle
-closure item signs.LessJoint = open_angle item rules.ClosureAngle
-closure item signs.Semicolon = None
-closure item _ = to_spot item spots.Closure
+abbrev pub closure : SignClass → Option Shift
+closure signs.Bar = to_spot spots.Expression
+closure signs.Less = open_angle rules.ClosureAngle
+closure signs.LessJoint = open_angle rules.ClosureAngle
+closure signs.Semicolon = None
+closure _ = to_spot spots.Closure
 
 -- the step where the type of a cast must come
-abbrev pub cast : Item → SignClass → Option Shift
-cast item signs.Restriction = to_spot item spots.ExpressionWhole
-cast item signs.Parentheses = to_spot item spots.ExpressionWhole
-cast item signs.Brackets = to_spot item spots.ExpressionWhole
-cast item signs.Braces = to_spot item spots.ExpressionWhole
-cast item signs.Block = to_spot item spots.ExpressionWhole
-cast item signs.Invisible = to_spot item spots.ExpressionWhole
-cast item (signs.Word _) = to_spot item spots.CastWhole
-cast item signs.SelfValue = to_spot item spots.CastWhole
-cast item signs.SelfType = to_spot item spots.CastWhole
-cast item signs.Super = to_spot item spots.CastWhole
-cast item signs.Crate = to_spot item spots.CastWhole
-cast item signs.Underscore = to_spot item spots.CastWhole
-cast item signs.Truth = to_spot item spots.CastWhole
-cast item signs.Less = open_angle item rules.CastAngle
-cast item signs.LessJoint = open_angle item rules.CastAngle
-cast item signs.Lifetime = to_spot item spots.Cast
-cast item signs.PathSeparator = to_spot item spots.Cast
-cast item signs.Arrow = to_spot item spots.Cast
-cast item signs.Star = to_spot item spots.Cast
-cast item signs.And = to_spot item spots.Cast
-cast item signs.Exclamation = to_spot item spots.Cast
-cast item signs.As = to_spot item spots.Cast
-cast item signs.Jump = to_spot item spots.Cast
-cast item signs.Await = to_spot item spots.Cast
-cast item signs.Literal = to_spot item spots.Cast
-cast item (signs.Keyword _) = to_spot item spots.Cast
-cast item _ = None
+abbrev pub cast : SignClass → Option Shift
+cast signs.Restriction = to_spot spots.ExpressionWhole
+cast signs.Parentheses = to_spot spots.ExpressionWhole
+cast signs.Brackets = to_spot spots.ExpressionWhole
+cast signs.Braces = to_spot spots.ExpressionWhole
+cast signs.Block = to_spot spots.ExpressionWhole
+cast signs.Invisible = to_spot spots.ExpressionWhole
+cast (signs.Word _) = to_spot spots.CastWhole
+cast signs.SelfValue = to_spot spots.CastWhole
+cast signs.SelfType = to_spot spots.CastWhole
+cast signs.Super = to_spot spots.CastWhole
+cast signs.Crate = to_spot spots.CastWhole
+cast signs.Underscore = to_spot spots.CastWhole
+cast signs.Truth = to_spot spots.CastWhole
+cast signs.Less = open_angle rules.CastAngle
+cast signs.LessJoint = open_angle rules.CastAngle
+cast signs.Lifetime = to_spot spots.Cast
+cast signs.PathSeparator = to_spot spots.Cast
+cast signs.Arrow = to_spot spots.Cast
+cast signs.Star = to_spot spots.Cast
+cast signs.And = to_spot spots.Cast
+cast signs.Exclamation = to_spot spots.Cast
+cast signs.As = to_spot spots.Cast
+cast signs.Jump = to_spot spots.Cast
+cast signs.Await = to_spot spots.Cast
+cast signs.Literal = to_spot spots.Cast
+cast (signs.Keyword _) = to_spot spots.Cast
+cast _ = None
 
 -- the step after a name in the type of a cast
-abbrev pub cast_whole : Item → SignClass → Option Shift
-cast_whole item signs.PathSeparator = to_spot item spots.Cast
-cast_whole item signs.Less = open_angle item rules.CastAngle
-cast_whole item signs.LessJoint = open_angle item rules.CastAngle
-cast_whole item class = operator item class
+abbrev pub cast_whole : SignClass → Option Shift
+cast_whole signs.PathSeparator = to_spot spots.Cast
+cast_whole signs.Less = open_angle rules.CastAngle
+cast_whole signs.LessJoint = open_angle rules.CastAngle
+cast_whole class = operator class
+
+-- the step from a state of an expression
+abbrev pub spot_step : Spot → SignClass → Option Shift
+spot_step spots.Expression class = expression class
+spot_step spots.ExpressionOpen class = expression_open class
+spot_step spots.ExpressionWhole class = expression_whole class
+spot_step spots.ExpressionLess class = expression_less class
+spot_step spots.ExpressionDot class = expression_dot class
+spot_step spots.ExpressionRange signs.Dot = to_spot spots.ExpressionOpen
+spot_step spots.ExpressionHash signs.Brackets = to_spot spots.Expression
+spot_step spots.Closure class = closure class
+spot_step spots.Cast class = cast class
+spot_step spots.CastWhole class = cast_whole class
+spot_step _ _ = None
+
+-- whether an expression may end in this state
+abbrev pub spot_ends : Spot → Bool
+spot_ends spots.ExpressionOpen = true
+spot_ends spots.ExpressionWhole = true
+spot_ends spots.CastWhole = true
+spot_ends _ = false

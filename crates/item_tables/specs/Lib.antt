@@ -2,6 +2,4 @@ pub mod Classes
 pub mod TypeStep
 pub mod Moves
 pub mod Expression
-pub mod Header
-pub mod Front
-pub mod Grammar
+pub mod Walk

@@ -1,227 +1,46 @@
-//! The states of the walk over a declaration, and the moves from one state to another.
-ghost use Rattle.std.specs.Prelude.{◌≡◌};
-ghost use Rattle.item_tables.specs.Moves.{at_spot, close_to, move_to, open_angle, to_bounds, to_front, to_spot};
-ghost use Rattle.item_tables.specs.Moves.{to_type, turn_to, type_from};
+//! The states of the walk over a type, over bounds or over an expression, and its steps.
+ghost use Rattle.std.specs.Prelude.{◌≡◌, ◌+◌, ◌≤◌, ◌<◌, ◌^◌, IfSome};
+ghost use Rattle.item_tables.specs.Moves.{open_angle, to_spot};
+ghost use Rattle.item_tables.specs.Walk.{after_angle, depth_after, ends, ends_inside, for_step, is_outside};
+ghost use Rattle.item_tables.specs.Walk.{range_ends, range_state, range_step, shift_state, step};
 
-use crate::class::Word;
-use crate::types::{Turn, TypeState};
+use crate::class::{Keyword, SignClass};
+use crate::expression::{spot_ends, spot_step};
+use crate::types::{Turn, TypeState, may_end, type_step};
 
-/// The item that the walk is in.
-#[derive(Clone, Copy)]
-pub enum Item {
-    /// No item: a part is read on its own.
-    Alone,
-    /// The list of an enum's variants.
-    Variants,
-    /// A struct, before its fields.
-    Struct,
-    /// A struct, after its fields in parentheses.
-    Tuple,
-    /// An enum.
-    Enum,
-    /// A union.
-    Union,
-    /// A function, before its parameters.
-    Function,
-    /// A function, after its parameters.
-    Returning,
-    /// A constant.
-    Constant,
-    /// A static.
-    Static,
-    /// A type alias, before its `=`.
-    Alias,
-    /// A type alias, after its `=`.
-    Aliased,
-    /// A trait.
-    Trait,
-    /// A trait alias, after its `=`.
-    TraitAlias,
-    /// An implementation.
-    Impl,
-    /// A module.
-    Module,
-    /// An import.
-    Use,
-    /// An `extern crate` item.
-    ExternCrate,
-    /// An `extern` block.
-    ExternBlock,
-    /// A `macro` item.
-    Macro,
-    /// A macro call.
-    Call,
-    /// An item in a group without delimiters.
-    Group,
-}
-
-/// A part that can begin with attributes or a visibility.
-#[derive(Clone, Copy)]
-pub enum Part {
-    /// Attributes on their own.
-    Attributes,
-    /// A visibility on its own.
-    Visibility,
-    /// A named field.
-    Field,
-    /// A field without a name.
-    TupleField,
-    /// A variant.
-    Variant,
-    /// A generic parameter.
-    Parameter,
-    /// A struct, an enum or a union.
-    TypeItem,
-    /// Any item.
-    AnyItem,
-}
-
-/// What may follow the type or the bounds that the walk is in.
+/// What is read, and what may follow its outermost angle brackets.
 #[derive(Clone, Copy)]
 pub enum Continuation {
-    /// Nothing.
-    Alone,
-    /// `,` and a named field.
-    Fields,
-    /// `,` and a field without a name.
-    TupleFields,
-    /// `,` and a generic parameter, or `>`.
-    Parameter,
-    /// `,` and a generic parameter, or `>`, or `=` and a type.
-    TypeParameter,
-    /// `,` and a generic parameter, or `>`, or `=` and a constant.
-    ConstParameter,
-    /// `:` and bounds.
-    Bounded,
-    /// `,` and a predicate, or what follows a where clause.
-    Predicate,
-    /// A where clause, or what ends an item: a body, `;`, or `=` and a value.
-    Header,
-    /// `for` and a type, or a where clause, or the body of an `impl`.
+    /// A type or bounds, outside of angle brackets.
+    Outside,
+    /// Arguments within angle brackets, up to their `>`.
+    Inside,
+    /// The type after `impl`, which `for` and another type may follow.
     Target,
-    /// The rest of an expression, after its angle brackets.
+    /// The generic arguments of an expression.
     Angle,
-    /// The rest of a cast, after the angle brackets of its type.
+    /// The generic arguments of the type of a cast.
     CastAngle,
-    /// The rest of a closure's parameters, after their angle brackets.
+    /// The generic arguments of a type within the bars of a closure.
     ClosureAngle,
 }
 
-/// A state before the name of an item, or before what it has instead of a name.
-#[derive(Clone, Copy)]
-pub enum Front {
-    /// After `auto`.
-    Auto,
-    /// After `default`.
-    Default,
-    /// After `default unsafe`.
-    DefaultUnsafe,
-    /// After `safe`.
-    Safe,
-    /// After `async`.
-    Async,
-    /// After `gen`.
-    Gen,
-    /// After the `unsafe` or `safe` of what must be a function.
-    Qualified,
-    /// After `const`.
-    Const,
-    /// After `const safe`.
-    ConstSafe,
-    /// After `const gen`.
-    ConstGen,
-    /// After `extern`.
-    Extern,
-    /// After `unsafe extern`.
-    UnsafeExtern,
-    /// After `extern` and an ABI.
-    ExternAbi,
-    /// After the `extern` of what must be a function.
-    FunctionExtern,
-    /// After the `extern` and the ABI of what must be a function.
-    FunctionAbi,
-    /// After `unsafe`.
-    Unsafe,
-    /// After `static`.
-    Static,
-    /// Before a name that no generics may follow.
-    PlainName,
-    /// After a word that may be in the path of a macro call, or begin an item.
-    CallWord(Word),
-    /// Before a segment of the path of a macro call.
-    CallPath,
-    /// After the `!` of a macro call.
-    CallName,
-    /// After the name in a macro call, as of `macro_rules! name`.
-    CallGroup,
-    /// After `macro`.
-    MacroName,
-    /// After the name of a `macro`.
-    MacroParameters,
-    /// After the parameters of a `macro`.
-    MacroBody,
-    /// After `impl`.
-    Impl,
-    /// After `impl <`, which may begin parameters or a type.
-    ImplAngle,
-    /// After `impl <` and a word, which may be a parameter or begin a type.
-    ImplWord,
-    /// After the `const` of an implementation.
-    ImplConst,
-    /// After the `!` of an implementation, which may itself be its type.
-    ImplNot,
-    /// After `use`.
-    Use,
-    /// Before a segment of the path of an import.
-    UsePath,
-    /// After a word of the path of an import.
-    UseSegment,
-    /// After `extern crate`.
-    CrateName,
-    /// After the name of an external crate.
-    CrateNamed,
-    /// After `as`.
-    Rename,
-    /// Before the expression of a constant.
-    UntilFirst,
-    /// Within the expression of a constant, which `;` ends.
-    Until,
-    /// Before the `;` that ends an item.
-    Semicolon,
-}
-
-/// A state outside of types and bounds.
+/// A state of an expression, outside of its angle brackets.
 #[derive(Clone, Copy)]
 pub enum Spot {
-    /// Before a part.
-    Before(Part),
-    /// After the `#` of an attribute of the part.
-    Hash(Part),
-    /// After an attribute of the part.
-    Attributed(Part),
-    /// After the `pub` of the part.
-    Public(Part),
-    /// After the whole visibility of the part.
-    Visible(Part),
-    /// After a field's name.
-    FieldName,
-    /// After a variant's name, where the variant may end.
-    VariantName,
-    /// After a variant's fields.
-    VariantEnd,
-    /// Where an operand of an expression must come.
+    /// Where an operand must come.
     Expression,
-    /// Where an operand may come, or the expression may end.
+    /// Where an operand may come, or the end.
     ExpressionOpen,
-    /// After an operand of an expression.
+    /// After an operand.
     ExpressionWhole,
     /// After a `Joint` `<` that is an operator.
     ExpressionLess,
     /// After an operand and `.`.
     ExpressionDot,
-    /// After the `.` that begins a range.
+    /// After the first `.` of a `..` that begins a range.
     ExpressionRange,
-    /// After the `#` of an attribute in an expression.
+    /// After the `#` of an attribute.
     ExpressionHash,
     /// Within the bars of a closure.
     Closure,
@@ -229,38 +48,6 @@ pub enum Spot {
     Cast,
     /// After the type of a cast.
     CastWhole,
-    /// Before `<` and generic parameters, which may be left out.
-    Generics,
-    /// After a lifetime that is a generic parameter.
-    LifetimeName,
-    /// After the name of a type parameter.
-    TypeName,
-    /// Before the name of a constant parameter.
-    ConstName,
-    /// Before the `:` of a constant parameter.
-    ConstColon,
-    /// Before the default of a constant parameter.
-    ConstDefault,
-    /// After the `-` of the default of a constant parameter.
-    ConstMinus,
-    /// After the default of a constant parameter, if the default is no type.
-    ConstEnd,
-    /// After generic parameters, or after the fields of a tuple struct.
-    AfterGenerics,
-    /// Before `where`. The where clause may be left out.
-    Where,
-    /// Before a predicate, or at the end of a where clause.
-    Predicate,
-    /// Before an item's name, which generics may follow.
-    Name,
-    /// Before the name of an item.
-    Front(Front),
-    /// After an item.
-    ItemEnd,
-    /// Before an inner attribute, or at the end of inner attributes.
-    Inner,
-    /// After the `#!` of an inner attribute.
-    InnerHash,
 }
 
 /// What may come next.
@@ -268,29 +55,25 @@ pub enum Spot {
 pub enum State {
     /// A sign of a type or of bounds.
     Range(TypeState),
-    /// A sign outside of types and bounds.
+    /// A sign of an expression.
     At(Spot),
 }
 
-/// A state of the walk over a declaration.
+/// A state of the walk.
 #[derive(Clone, Copy)]
 pub struct WalkState {
-    /// The item that the walk is in.
-    pub item: Item,
-    /// What may follow the type or the bounds that the walk is in.
+    /// What is read, and what may follow its outermost angle brackets.
     pub rule: Continuation,
     /// What may come next.
     pub state: State,
-    /// The number of angle brackets of a type that are open.
+    /// The number of angle brackets that are open.
     pub depth: usize,
 }
 
-/// A move to another state, outside of types and bounds.
+/// A move to another state, from a state of an expression.
 #[derive(Clone, Copy)]
 pub struct Shift {
-    /// The item that the walk is in then.
-    pub item: Item,
-    /// What may follow the type or the bounds that the walk is in then.
+    /// What may follow the outermost angle brackets then.
     pub rule: Continuation,
     /// What may come then.
     pub state: State,
@@ -298,78 +81,178 @@ pub struct Shift {
     pub turn: Turn,
 }
 
-/// A type that can begin in a state.
-#[derive(Clone, Copy)]
-pub struct TypeStart {
-    /// What may follow the type.
-    pub rule: Continuation,
-    /// What may come first within the type.
-    pub state: TypeState,
+impl WalkState {
+    /// The state that a sign of this class leads to, or `None` if the sign cannot come next.
+    pub fn step(self, class: SignClass) -> Option<WalkState>
+        requires { self.depth + 1 < 2 ^ 64 }
+        ensures value { result ≡ step self class }
+        ensures depth { IfSome result (λ next. next.depth ≤ self.depth + 1) }
+    {
+        match self.state {
+            State::Range(state) => {
+                if let Some(next) = range_step(self.rule, self.depth, state, class) {
+                    return Some(next);
+                }
+                if self.depth == 0 && may_end(state) {
+                    for_step(self.rule, class)
+                } else {
+                    None
+                }
+            }
+            State::At(spot) => shift_state(self.depth, spot_step(spot, class)),
+        }
+    }
+
+    /// Whether what is read may end in this state.
+    pub fn may_end(self) -> bool
+        ensures { result ≡ ends self }
+    {
+        match self.state {
+            State::Range(state) => self.depth == 0 && range_ends(self.rule, state),
+            State::At(spot) => spot_ends(spot),
+        }
+    }
 }
 
-pub(crate) fn turn_to(item: Item, rule: Continuation, state: State, turn: Turn) -> Option<Shift>
-    ensures { result ≡ turn_to item rule state turn }
+/// Whether a type may end in this state. Arguments may also end where one may begin.
+fn range_ends(rule: Continuation, state: TypeState) -> bool
+    ensures { result ≡ range_ends rule state }
 {
-    Some(Shift {
-        item,
+    match (rule, state) {
+        (Continuation::Inside, TypeState::Argument) => true,
+        _ => may_end(state),
+    }
+}
+
+/// Whether no angle bracket is open. The arguments within brackets are read as if one were.
+fn is_outside(rule: Continuation, depth: usize) -> bool
+    ensures { result ≡ is_outside rule depth }
+{
+    match rule {
+        Continuation::Inside => false,
+        _ => depth == 0,
+    }
+}
+
+/// Whether the sign closes the brackets around the arguments, which are not part of what is read.
+fn ends_inside(rule: Continuation, depth: usize, turn: Turn) -> bool
+    ensures { result ≡ ends_inside rule depth turn }
+{
+    match (rule, turn) {
+        (Continuation::Inside, Turn::Close) => depth == 0,
+        _ => false,
+    }
+}
+
+/// The step within a type or bounds.
+fn range_step(
+    rule: Continuation,
+    depth: usize,
+    state: TypeState,
+    class: SignClass,
+) -> Option<WalkState>
+    requires { depth + 1 < 2 ^ 64 }
+    ensures value { result ≡ range_step rule depth state class }
+    ensures depth { IfSome result (λ next. next.depth ≤ depth + 1) }
+{
+    let taken = type_step(state, class, is_outside(rule, depth))?;
+    if ends_inside(rule, depth, taken.turn) {
+        return None;
+    }
+    let inner = depth_after(taken.turn, depth);
+    Some(WalkState {
         rule,
-        state,
-        turn,
+        state: range_state(rule, taken.state, taken.turn, inner),
+        depth: inner,
     })
 }
 
-fn move_to(item: Item, rule: Continuation, state: State) -> Option<Shift>
-    ensures { result ≡ move_to item rule state }
+/// The number of open angle brackets after a sign.
+pub fn depth_after(turn: Turn, depth: usize) -> usize
+    requires { depth + 1 < 2 ^ 64 }
+    ensures value { result ≡ depth_after turn depth }
+    ensures most { result ≤ depth + 1 }
 {
-    turn_to(item, rule, state, Turn::Stay)
+    match turn {
+        Turn::Stay => depth,
+        Turn::Open => depth + 1,
+        Turn::Close => depth.saturating_sub(1),
+    }
 }
 
-pub(crate) fn at_spot(item: Item, rule: Continuation, spot: Spot) -> Option<Shift>
-    ensures { result ≡ at_spot item rule spot }
+/// The step after the type of an `impl`: `for`, and the type for which it is.
+fn for_step(rule: Continuation, class: SignClass) -> Option<WalkState>
+    ensures value { result ≡ for_step rule class }
+    ensures depth { IfSome result (λ next. next.depth ≡ 0) }
 {
-    move_to(item, rule, State::At(spot))
+    match (rule, class) {
+        (Continuation::Target, SignClass::Keyword(Keyword::For)) => Some(WalkState {
+            rule: Continuation::Outside,
+            state: State::Range(TypeState::Wanted),
+            depth: 0,
+        }),
+        _ => None,
+    }
 }
 
-pub(crate) fn to_spot(item: Item, spot: Spot) -> Option<Shift>
-    ensures { result ≡ to_spot item spot }
+fn shift_state(depth: usize, shift: Option<Shift>) -> Option<WalkState>
+    requires { depth + 1 < 2 ^ 64 }
+    ensures value { result ≡ shift_state depth shift }
+    ensures depth { IfSome result (λ next. next.depth ≤ depth + 1) }
 {
-    at_spot(item, Continuation::Alone, spot)
+    let Shift { rule, state, turn } = shift?;
+    Some(WalkState {
+        rule,
+        state,
+        depth: depth_after(turn, depth),
+    })
 }
 
-pub(crate) fn to_front(item: Item, front: Front) -> Option<Shift>
-    ensures { result ≡ to_front item front }
+/// The state after the angle brackets of an expression.
+fn after_angle(rule: Continuation, state: TypeState) -> State
+    ensures { result ≡ after_angle rule state }
 {
-    to_spot(item, Spot::Front(front))
+    match rule {
+        Continuation::Angle => State::At(Spot::ExpressionWhole),
+        Continuation::CastAngle => State::At(Spot::CastWhole),
+        Continuation::ClosureAngle => State::At(Spot::Closure),
+        _ => State::Range(state),
+    }
 }
 
-/// The move out of the angle brackets of generic parameters.
-pub(crate) fn close_to(item: Item, spot: Spot) -> Option<Shift>
-    ensures { result ≡ close_to item spot }
+/// The state after a step within a type. The step may close the angle brackets of an expression.
+fn range_state(rule: Continuation, state: TypeState, turn: Turn, depth: usize) -> State
+    ensures { result ≡ range_state rule state turn depth }
 {
-    turn_to(item, Continuation::Alone, State::At(spot), Turn::Close)
+    match turn {
+        Turn::Close => {
+            if depth == 0 {
+                after_angle(rule, state)
+            } else {
+                State::Range(state)
+            }
+        }
+        Turn::Stay | Turn::Open => State::Range(state),
+    }
 }
 
-pub(crate) fn to_type(item: Item, rule: Continuation) -> Option<Shift>
-    ensures { result ≡ to_type item rule }
+pub(crate) fn to_spot(spot: Spot) -> Option<Shift>
+    ensures { result ≡ to_spot spot }
 {
-    move_to(item, rule, State::Range(TypeState::Wanted))
+    Some(Shift {
+        rule: Continuation::Outside,
+        state: State::At(spot),
+        turn: Turn::Stay,
+    })
 }
 
-pub(crate) fn to_bounds(item: Item, rule: Continuation) -> Option<Shift>
-    ensures { result ≡ to_bounds item rule }
+/// The move into angle brackets.
+pub(crate) fn open_angle(rule: Continuation) -> Option<Shift>
+    ensures { result ≡ open_angle rule }
 {
-    move_to(item, rule, State::Range(TypeState::Bound))
-}
-
-/// The move into the angle brackets of an expression.
-pub(crate) fn open_angle(item: Item, rule: Continuation) -> Option<Shift>
-    ensures { result ≡ open_angle item rule }
-{
-    turn_to(item, rule, State::Range(TypeState::Argument), Turn::Open)
-}
-
-pub(crate) fn type_from(rule: Continuation, state: TypeState) -> Option<TypeStart>
-    ensures { result ≡ type_from rule state }
-{
-    Some(TypeStart { rule, state })
+    Some(Shift {
+        rule,
+        state: State::Range(TypeState::Argument),
+        turn: Turn::Open,
+    })
 }

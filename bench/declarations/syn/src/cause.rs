@@ -4,7 +4,7 @@ use crate::functions::Function;
 use quote::ToTokens;
 use syn::spanned::Spanned;
 use syn::visit::{self, Visit};
-use syn::{BoundLifetimes, DeriveInput, File, FnArg, GenericParam, ItemImpl, Pat, Type, TypeParam};
+use syn::{BoundLifetimes, DeriveInput, File, FnArg, GenericParam, ItemImpl, Type, TypeParam};
 
 /// An item that syn has, but not as a derive would be given it.
 pub const NO_DERIVE: &str = "syn has an item that it doesn't take for a derive";
@@ -48,9 +48,6 @@ impl<'ast> Visit<'ast> for Rejected {
 
     fn visit_fn_arg(&mut self, input: &'ast FnArg) {
         if let FnArg::Typed(typed) = input {
-            if matches!(*typed.pat, Pat::Rest(_)) {
-                self.cause = Some("ours reads no pattern that begins with `..`");
-            }
             // For a type alone syn makes a pattern and a colon that have the place of the type.
             if typed.pat.span().start() == typed.colon_token.span().start() {
                 self.cause = Some("syn reads a parameter that is a type alone, as edition 2015 has in traits");

@@ -12,7 +12,7 @@ use crate::declarations::signs::first_sign;
 use crate::declarations::syntax::{ENTRY, ENTRY_REST, Syntax};
 use crate::declarations::walk::walk_past;
 use crate::item_tables::class::SignClass;
-use crate::item_tables::walk_state::{Continuation, Item, Spot, State, WalkState};
+use crate::item_tables::walk_state::{Continuation, Spot, State, WalkState};
 use crate::pm_span::Span;
 use crate::pm_stream::{Group, TokenTree};
 use crate::pm_token::Ident;
@@ -446,8 +446,7 @@ fn literal(trees: &[TokenTree]) -> Result<&[TokenTree], &[TokenTree]>
 pub(crate) fn past_expression(trees: &[TokenTree]) -> Result<&[TokenTree], &[TokenTree]>
 {
     let start = WalkState {
-        item: Item::Alone,
-        rule: Continuation::Alone,
+        rule: Continuation::Outside,
         state: State::At(Spot::Expression),
         depth: 0,
     };

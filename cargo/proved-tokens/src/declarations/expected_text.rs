@@ -27,7 +27,7 @@ const NAMES: [(u128, &str); 104] = [
     (0x8_0000_0003_5fff_ffff, "a name"),
     (0x8_1000_6010_1a7f_777f, "an item"),
     (0x8_9281_ce14_bf00_801f, "a parameter"),
-    (0x8_0281_ce14_bd00_801f, "a pattern"),
+    (0x8_8281_ce14_bd00_801f, "a pattern"),
     (0x8_0000_0000_007e_776f, "an item"),
     (0x8_1000_2000_0021_0666, "a function"),
     (0x1000_2000_0005_0108, "a struct, an enum or a union"),

@@ -3,9 +3,15 @@
 
 use crate::declarations::expected::{CLASSES, Expected};
 use crate::declarations::fault::Fault;
+use crate::declarations::header_syntax::{
+    ALIAS, ASYNC_FRONT, CONST_FRONT, ENUM, FUNCTION_FRONT, FUNCTION_ITEM, MODULE, STATIC, STRUCT,
+    TRAIT,
+};
+use crate::declarations::impl_syntax::{IMPL_FRONT, TARGET_REST};
+use crate::declarations::item_syntax::{MARKED_CALL, USE, USE_END, USE_LIST};
 use crate::declarations::reader::is;
 use crate::declarations::signs::first_sign;
-use crate::declarations::syntax::{Guard, Label, Syntax, Table, Test, admits, passes, start_of, table_of};
+use crate::declarations::syntax::{Goal, Guard, Label, Syntax, Table, Test, admits, passes, start_of, table_of};
 use crate::declarations::walk::{steps_from, walk_from};
 use crate::item_tables::class::SignClass;
 use crate::pm_stream::TokenTree;
@@ -35,7 +41,7 @@ fn see_nothing(trees: &[TokenTree]) -> Seen<'_>
 }
 
 /// Reads by a label.
-fn see_mark(label: Label, trees: &[TokenTree]) -> Seen<'_>
+pub(crate) fn see_mark(label: Label, trees: &[TokenTree]) -> Seen<'_>
 {
     seen_nothing(trees)
 }
@@ -52,12 +58,21 @@ fn passing(test: Test, classes: &[SignClass]) -> Expected
     found
 }
 
+/// The signs that pass the test.
+fn all_passing(test: Test) -> Expected
+{
+    match test {
+        Test::Is(class) => Expected::nothing().with(class),
+        _ => passing(test, &CLASSES),
+    }
+}
+
 /// No sign is read, and one that passes the test could come.
 pub(crate) fn no_sign(test: Test, trees: &[TokenTree]) -> Seen<'_>
 {
     Seen {
         left: trees,
-        next: passing(test, &CLASSES),
+        next: all_passing(test),
     }
 }
 
@@ -73,6 +88,30 @@ fn see_sign(test: Test, trees: &[TokenTree]) -> Seen<'_>
             }
         }
         None => no_sign(test, trees),
+    }
+}
+
+/// The trees after the first sign if it passes the test, or else what is seen there.
+fn first_that_passes(test: Test, trees: &[TokenTree]) -> Result<&[TokenTree], Seen<'_>>
+{
+    match first_sign(trees) {
+        Some((class, rest)) => {
+            if passes(test, class) {
+                Ok(rest)
+            } else {
+                Err(no_sign(test, trees))
+            }
+        }
+        None => Err(no_sign(test, trees)),
+    }
+}
+
+/// The trees after `::` and a segment of the path of a macro call, or else what is seen there.
+fn past_separated(trees: &[TokenTree]) -> Result<&[TokenTree], Seen<'_>>
+{
+    match first_that_passes(Test::Is(SignClass::PathSeparator), trees) {
+        Ok(rest) => first_that_passes(Test::ItemSegment, rest),
+        Err(seen) => Err(seen),
     }
 }
 
@@ -145,13 +184,13 @@ pub(crate) fn stopped(first: Seen<'_>) -> Seen<'_>
 }
 
 /// What one of two rules sees. The first reads a sign.
-fn begun(first: Seen<'_>) -> Seen<'_>
+pub(crate) fn begun(first: Seen<'_>) -> Seen<'_>
 {
     first
 }
 
 /// What one of two rules sees. The first reads no sign.
-fn choose<'a>(first: Seen<'a>, second: Seen<'a>) -> Seen<'a>
+pub(crate) fn choose<'a>(first: Seen<'a>, second: Seen<'a>) -> Seen<'a>
 {
     if second.left.len() < first.left.len() {
         second
@@ -172,6 +211,10 @@ pub(crate) fn explore<'a>(syntax: &Syntax<'_>, trees: &'a [TokenTree]) -> Seen<'
         Syntax::Sign(test) => see_sign(*test, trees),
         Syntax::Table(table) => see_table(*table, trees),
         Syntax::Guarded(guard) => see_guarded(*guard, trees),
+        Syntax::To(test, goal) => match first_that_passes(*test, trees) {
+            Ok(rest) => explore_goal(*goal, rest),
+            Err(seen) => seen,
+        },
         Syntax::Then(first, second) => {
             let before = explore(first, trees);
             if before.next.has_end() {
@@ -190,6 +233,60 @@ pub(crate) fn explore<'a>(syntax: &Syntax<'_>, trees: &'a [TokenTree]) -> Seen<'
         }
         Syntax::Many(item) => explore_many(item, trees),
         Syntax::List(item) => explore_list(item, trees),
+    }
+}
+
+/// Reads by the named rule.
+fn explore_goal(goal: Goal, trees: &[TokenTree]) -> Seen<'_>
+{
+    match goal {
+        Goal::Function => explore(&FUNCTION_ITEM, trees),
+        Goal::Qualified => explore(&FUNCTION_FRONT, trees),
+        Goal::Async => explore(&ASYNC_FRONT, trees),
+        Goal::Constant => explore(&CONST_FRONT, trees),
+        Goal::Static => explore(&STATIC, trees),
+        Goal::Alias => explore(&ALIAS, trees),
+        Goal::Struct => explore(&STRUCT, trees),
+        Goal::Enum => explore(&ENUM, trees),
+        Goal::Union => explore(&ENUM, trees),
+        Goal::Trait => explore(&TRAIT, trees),
+        Goal::Impl => explore(&IMPL_FRONT, trees),
+        Goal::Module => explore(&MODULE, trees),
+        Goal::Use => explore(&USE, trees),
+        Goal::UsePath => explore_use_path(trees),
+        Goal::Call => explore_call(trees),
+        Goal::TargetRest => explore(&TARGET_REST, trees),
+    }
+}
+
+/// Reads the rest of a macro call after a segment of its path.
+fn explore_call(trees: &[TokenTree]) -> Seen<'_>
+{
+    let mut left = trees;
+    loop {
+        let one = explore(&MARKED_CALL, left);
+        if one.left.len() < left.len() {
+            return begun(one);
+        }
+        match past_separated(left) {
+            Ok(rest) => left = rest,
+            Err(two) => return choose(one, two),
+        }
+    }
+}
+
+/// Reads the rest of an import from a segment of its path, `*` or braces on.
+fn explore_use_path(trees: &[TokenTree]) -> Seen<'_>
+{
+    let mut left = trees;
+    loop {
+        match first_that_passes(Test::ItemSegment, left) {
+            Ok(rest) => match first_that_passes(Test::Is(SignClass::PathSeparator), rest) {
+                Ok(after) => left = after,
+                Err(one) => return choose(one, explore(&USE_END, rest)),
+            },
+            Err(one) => return choose(one, explore(&USE_LIST, left)),
+        }
     }
 }
 

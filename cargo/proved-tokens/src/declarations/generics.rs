@@ -4,7 +4,8 @@
 use crate::declarations::explore::{fault_at_comma, fault_at_sign, fault_by};
 use crate::declarations::fault::Fault;
 use crate::declarations::param_parts::{param_of, past_end, predicate_of};
-use crate::declarations::syntax::{GENERIC, PREDICATE, Test};
+use crate::declarations::part_syntax::{GENERIC, PREDICATE};
+use crate::declarations::syntax::Test;
 use crate::item_tables::class::{Keyword, SignClass};
 use crate::pm_stream::TokenTree;
 

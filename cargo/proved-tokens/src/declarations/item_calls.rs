@@ -58,7 +58,7 @@ pub(crate) fn separated_call<'a>(
 }
 
 /// Whether the sign begins a macro call and no other item.
-fn begins_call(class: SignClass) -> bool
+pub(crate) fn begins_call(class: SignClass) -> bool
 {
     match class {
         SignClass::Word(Word::Plain) | SignClass::SelfValue | SignClass::Super | SignClass::Crate =>

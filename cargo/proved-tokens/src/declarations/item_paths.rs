@@ -31,7 +31,7 @@ pub(crate) fn past_module(trees: &[TokenTree]) -> Result<&[TokenTree], &[TokenTr
 // ---- macro calls
 
 /// Whether the sign is a group of a macro call that `;` must follow.
-fn is_call_group(class: SignClass) -> bool
+pub(crate) fn is_call_group(class: SignClass) -> bool
 {
     match class {
         SignClass::Parentheses | SignClass::Restriction | SignClass::Brackets => true,
@@ -186,7 +186,7 @@ fn past_use_end(trees: &[TokenTree]) -> Result<&[TokenTree], &[TokenTree]>
 }
 
 /// Whether the sign is `*` or braces.
-fn is_use_list(class: SignClass) -> bool
+pub(crate) fn is_use_list(class: SignClass) -> bool
 {
     match class {
         SignClass::Star | SignClass::Braces => true,
@@ -277,7 +277,7 @@ pub(crate) fn past_use(trees: &[TokenTree]) -> Result<&[TokenTree], &[TokenTree]
 }
 
 /// Whether the sign is the name of an external crate, or `self`.
-fn is_crate_name(class: SignClass) -> bool
+pub(crate) fn is_crate_name(class: SignClass) -> bool
 {
     is_name(class) || is(SignClass::SelfValue, class)
 }

@@ -5,7 +5,7 @@ use crate::declarations::explore::fault_at_comma;
 use crate::declarations::fault::Fault;
 use crate::declarations::field::{Field, parse_field, parse_tuple_field};
 use crate::declarations::item::Fields;
-use crate::declarations::syntax::{FIELD, TUPLE_FIELD, VARIANT};
+use crate::declarations::part_syntax::{FIELD, TUPLE_FIELD, VARIANT};
 use crate::declarations::variant::{Variant, parse_variant};
 use crate::pm_stream::{Group, TokenTree};
 

@@ -84,7 +84,7 @@ fn opens(class: SignClass) -> bool
     }
 }
 
-/// Whether a pattern can begin with the sign.
+/// Whether a pattern that does not begin with `..` can begin with the sign.
 fn may_begin(class: SignClass) -> bool
 {
     is_pattern(class) || opens(class)
@@ -188,8 +188,20 @@ fn pattern_rest(trees: &[TokenTree]) -> Result<&[TokenTree], &[TokenTree]>
     perhaps_angle(pattern_signs(trees))
 }
 
-/// Whether a pattern can begin with the first sign.
-fn begins_pattern(trees: &[TokenTree]) -> bool
+/// Skips `..`.
+fn two_dots(trees: &[TokenTree]) -> Result<&[TokenTree], &[TokenTree]>
+{
+    past(past(trees, SignClass::Dot)?, SignClass::Dot)
+}
+
+/// Skips a pattern that begins with `..`.
+fn dotted_pattern(trees: &[TokenTree]) -> Result<&[TokenTree], &[TokenTree]>
+{
+    pattern_rest(two_dots(trees)?)
+}
+
+/// Whether a pattern that does not begin with `..` can begin with the first sign.
+fn begins_plain(trees: &[TokenTree]) -> bool
 {
     match first_sign(trees) {
         Some((class, _)) => may_begin(class),
@@ -197,13 +209,23 @@ fn begins_pattern(trees: &[TokenTree]) -> bool
     }
 }
 
-/// Skips a pattern.
-fn past_pattern(trees: &[TokenTree]) -> Result<&[TokenTree], &[TokenTree]>
+/// Skips a pattern that does not begin with `..`.
+fn plain_pattern(trees: &[TokenTree]) -> Result<&[TokenTree], &[TokenTree]>
 {
-    if begins_pattern(trees) {
+    if begins_plain(trees) {
         pattern_rest(trees)
     } else {
         Err(trees)
+    }
+}
+
+/// Skips a pattern.
+fn past_pattern(trees: &[TokenTree]) -> Result<&[TokenTree], &[TokenTree]>
+{
+    if begins(trees, SignClass::Dot) {
+        dotted_pattern(trees)
+    } else {
+        plain_pattern(trees)
     }
 }
 
@@ -220,16 +242,10 @@ fn may_mutate(trees: &[TokenTree]) -> Result<&[TokenTree], &[TokenTree]>
     }
 }
 
-/// Skips `..`.
-fn two_dots(trees: &[TokenTree]) -> Result<&[TokenTree], &[TokenTree]>
-{
-    past(past(trees, SignClass::Dot)?, SignClass::Dot)
-}
-
 /// Skips `...`.
 fn dots(trees: &[TokenTree]) -> Result<&[TokenTree], &[TokenTree]>
 {
-    two_dots(past(trees, SignClass::Dot)?)
+    past(two_dots(trees)?, SignClass::Dot)
 }
 
 /// What a parameter begins with after its `mut`, and the trees from the `:` or the end on.
@@ -251,6 +267,15 @@ fn after_mut(trees: &[TokenTree]) -> Result<(Shape, &[TokenTree]), &[TokenTree]>
 fn pattern_shape(trees: &[TokenTree]) -> Result<(Shape, &[TokenTree]), &[TokenTree]>
 {
     match past_pattern(trees) {
+        Ok(rest) => Ok((Shape::Pattern, rest)),
+        Err(left) => Err(left),
+    }
+}
+
+/// Reads a pattern that does not begin with `..`, up to its `:`.
+fn plain_shape(trees: &[TokenTree]) -> Result<(Shape, &[TokenTree]), &[TokenTree]>
+{
+    match plain_pattern(trees) {
         Ok(rest) => Ok((Shape::Pattern, rest)),
         Err(left) => Err(left),
     }
@@ -294,7 +319,7 @@ fn after_and(trees: &[TokenTree]) -> Result<(Shape, &[TokenTree]), &[TokenTree]>
     }
 }
 
-/// Reads a receiver or a pattern, up to the `:` or the end.
+/// Reads a receiver, or a pattern that does not begin with `..`, up to the `:` or the end.
 fn named_front(trees: &[TokenTree]) -> Result<(Shape, &[TokenTree]), &[TokenTree]>
 {
     match first_sign(trees) {
@@ -308,7 +333,7 @@ fn named_front(trees: &[TokenTree]) -> Result<(Shape, &[TokenTree]), &[TokenTree
             if is(SignClass::And, class) {
                 return after_and(rest);
             }
-            pattern_shape(trees)
+            plain_shape(trees)
         }
         None => Err(trees),
     }
@@ -385,7 +410,7 @@ pub struct Named<'a> {
     pub kind: ParameterKind<'a>,
 }
 
-/// A receiver, or a pattern with its type, and the trees after it.
+/// A receiver, or a pattern with its type that does not begin with `..`, and the trees after it.
 fn named_of(trees: &[TokenTree]) -> Result<(Named<'_>, &[TokenTree]), &[TokenTree]>
 {
     match named_front(trees) {
@@ -400,20 +425,44 @@ fn named_of(trees: &[TokenTree]) -> Result<(Named<'_>, &[TokenTree]), &[TokenTre
     }
 }
 
+/// `...`, or a pattern that begins with `..` and its type, and the trees after it.
+fn dotted_of(trees: &[TokenTree]) -> Result<(Named<'_>, &[TokenTree]), &[TokenTree]>
+{
+    match two_dots(trees) {
+        Ok(after) => {
+            if begins(after, SignClass::Dot) {
+                match past(after, SignClass::Dot) {
+                    Ok(rest) => Ok((
+                        Named {
+                            pattern: &[],
+                            kind: ParameterKind::Variadic,
+                        },
+                        rest,
+                    )),
+                    Err(left) => Err(left),
+                }
+            } else {
+                match pattern_rest(after) {
+                    Ok(from_end) => match pattern_parameter(from_end) {
+                        Ok((kind, rest)) => {
+                            let pattern = part(trees, from_end);
+                            Ok((Named { pattern, kind }, rest))
+                        }
+                        Err(left) => Err(left),
+                    },
+                    Err(left) => Err(left),
+                }
+            }
+        }
+        Err(left) => Err(left),
+    }
+}
+
 /// A receiver, a pattern with its type, or `...`, and the trees after it.
 fn rest_of(trees: &[TokenTree]) -> Result<(Named<'_>, &[TokenTree]), &[TokenTree]>
 {
     if begins(trees, SignClass::Dot) {
-        match dots(trees) {
-            Ok(rest) => Ok((
-                Named {
-                    pattern: &[],
-                    kind: ParameterKind::Variadic,
-                },
-                rest,
-            )),
-            Err(left) => Err(left),
-        }
+        dotted_of(trees)
     } else {
         named_of(trees)
     }
@@ -485,8 +534,8 @@ pub fn parse_parameter(trees: &[TokenTree]) -> Result<(Parameter<'_>, &[TokenTre
 ///
 /// A pattern is not parsed; only its end is found, which is before the first sign that can be in no pattern, such as
 /// `:`. The pattern is one of a parameter: it has no `self`, and `|` only in groups. A keyword such as `in` does not
-/// end it. The call is for trees of a macro's own grammar, such as the parameters of a closure. For `(a, b): (A, B)`
-/// the pattern is `(a, b)`.
+/// end it. It may begin with `..`, and `...` alone is a pattern here. The call is for trees of a macro's own grammar,
+/// such as the parameters of a closure. For `(a, b): (A, B)` the pattern is `(a, b)`.
 ///
 /// # Contract
 ///

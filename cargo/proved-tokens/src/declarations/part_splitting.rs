@@ -10,13 +10,14 @@ use crate::declarations::function::{past_generics, past_where};
 use crate::declarations::generic_argument::past_bounds;
 use crate::declarations::inner::past_inner_attributes;
 use crate::declarations::item::item_of;
+use crate::declarations::item_syntax::TYPE_ITEM;
 use crate::declarations::parameter::{past_attributes, past_type};
 use crate::declarations::part_list::{Element, past_list};
-use crate::declarations::reader::part;
-use crate::declarations::syntax::{
+use crate::declarations::part_syntax::{
     ATTRIBUTES, BOUNDS, EXPRESSION, FIELDS, GENERICS, INNER_ATTRIBUTES, TUPLE_FIELDS, TYPE,
-    TYPE_ITEM, VARIANTS, WHERE,
+    VARIANTS, WHERE,
 };
+use crate::declarations::reader::part;
 use crate::declarations::variant::parse_variant;
 use crate::pm_stream::TokenTree;
 

@@ -3,7 +3,8 @@
 
 use crate::declarations::signs::first_sign;
 use crate::item_tables::class::SignClass;
-use crate::item_tables::types::{Turn, TypeState, may_end, type_step};
+use crate::item_tables::types::{TypeState, may_end, type_step};
+use crate::item_tables::walk_state::depth_after;
 use crate::pm_stream::TokenTree;
 
 /// Skips a type or bounds from a state on. At an error it returns the trees after the longest prefix that can go on.
@@ -50,14 +51,4 @@ fn range_step(state: TypeState, depth: usize, class: SignClass) -> Option<(TypeS
 {
     let taken = type_step(state, class, depth == 0)?;
     Some((taken.state, depth_after(taken.turn, depth)))
-}
-
-/// The number of open angle brackets after a sign.
-fn depth_after(turn: Turn, depth: usize) -> usize
-{
-    match turn {
-        Turn::Stay => depth,
-        Turn::Open => depth + 1,
-        Turn::Close => depth.saturating_sub(1),
-    }
 }

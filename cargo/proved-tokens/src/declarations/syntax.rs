@@ -4,12 +4,17 @@
 use crate::declarations::entry::{continues as continues_value, is_literal, is_segment};
 use crate::declarations::function::{is_block, is_name, is_safe};
 use crate::declarations::generic_argument::is_constant;
+use crate::declarations::item_calls::begins_call;
+use crate::declarations::item_paths::{
+    is_call_group, is_crate_name, is_new_name, is_segment as is_item_segment, is_use_list,
+};
 use crate::declarations::parameter::{continues, is_pattern};
+use crate::declarations::part_syntax::{ATTRIBUTES, GENERICS, VISIBILITY, WHERE};
 use crate::declarations::reader::is;
 use crate::declarations::type_path::{is_round, is_segment as is_path_segment, opens};
 use crate::item_tables::class::{Keyword, SignClass, Word};
 use crate::item_tables::types::TypeState;
-use crate::item_tables::walk_state::{Continuation, Item, Part, Spot, State, WalkState};
+use crate::item_tables::walk_state::{Continuation, Spot, State, WalkState};
 
 /// A test of one sign.
 #[derive(Clone, Copy)]
@@ -40,15 +45,41 @@ pub enum Test {
     PatternFirst,
     /// What can be in a pattern after its first sign.
     InPattern,
+    /// What can be in the pattern of a parameter after its first `..`.
+    AfterDots,
     /// `<`
     Opens,
     /// The name of a segment of a type's path.
     PathSegment,
+    /// Any sign except `;`.
+    NotSemicolon,
+    /// A segment of the path of a macro call or of an import.
+    ItemSegment,
+    /// What begins a macro call and no other item.
+    BeginsCall,
+    /// A group of a macro call that `;` must follow.
+    CallGroup,
+    /// A name or `_`.
+    NewName,
+    /// The name of an external crate, or `self`.
+    CrateName,
+    /// `*` or braces at the end of an import's path.
+    UseList,
+    /// The name of a constant, which after `const` belongs to nothing else.
+    ConstantName,
 }
 
 /// A label of a part.
 #[derive(Clone, Copy)]
 pub enum Label {
+    /// Attributes.
+    Attributes,
+    /// A visibility.
+    Visible,
+    /// Generic parameters.
+    Generics,
+    /// A where clause.
+    Where,
     /// The qualifiers of a function.
     Front,
     /// A name, a path or a pattern.
@@ -75,35 +106,23 @@ pub enum Label {
     Rest,
 }
 
-/// A rule that the tables read.
+/// A rule that a table reads.
 #[derive(Clone, Copy)]
 pub enum Table {
     /// A type.
     Type,
     /// Bounds.
     Bounds,
-    /// Attributes.
-    Attributes,
-    /// Inner attributes.
-    InnerAttributes,
-    /// A visibility, or nothing.
-    Visibility,
-    /// Generic parameters, or nothing.
-    Generics,
-    /// A where clause, or nothing.
-    Where,
+    /// The type after `impl`, which `for` and another type may follow.
+    Target,
+    /// The rest of such a type after an operand.
+    TargetRest,
+    /// Arguments within angle brackets, up to their `>`.
+    Argument,
+    /// The rest of such arguments after an operand.
+    ArgumentRest,
     /// An expression.
     Expression,
-    /// A named field.
-    Field,
-    /// A field without a name.
-    TupleField,
-    /// A variant.
-    Variant,
-    /// A struct, an enum or a union.
-    TypeItem,
-    /// An item of any kind.
-    AnyItem,
 }
 
 /// A rule that reads what a table reads, if its first sign passes a test.
@@ -117,11 +136,56 @@ pub enum Guard {
     Word,
     /// A type that begins with neither a word nor a lifetime.
     Operand,
-    /// `impl` and what follows it.
-    Impl,
+    /// A type that does not begin with parentheses that can be a restriction.
+    Unrestricted,
+    /// The type after `impl`, if it does not begin with `!`.
+    Target,
+    /// The type after `impl`, if it begins neither with `!` nor with `<`.
+    PlainTarget,
+    /// Arguments that begin with neither a word nor a lifetime.
+    Argument,
+    /// The rest of an argument that no generic parameter has.
+    ArgumentRest,
 }
 
-/// A rule of the grammar, without the rules that only tables read.
+/// A named rule, to which a sign can lead.
+#[derive(Clone, Copy)]
+pub enum Goal {
+    /// A function after `fn`.
+    Function,
+    /// A function from its `extern` or its `fn` on.
+    Qualified,
+    /// A function after `async`.
+    Async,
+    /// An item after `const`.
+    Constant,
+    /// A static after its keyword.
+    Static,
+    /// A type alias after its keyword.
+    Alias,
+    /// A struct after its keyword.
+    Struct,
+    /// An enum after its keyword.
+    Enum,
+    /// A union after its keyword.
+    Union,
+    /// A trait after its keyword.
+    Trait,
+    /// An `impl` after its keyword.
+    Impl,
+    /// A module after its keyword.
+    Module,
+    /// An import after its keyword.
+    Use,
+    /// The rest of an import from a segment of its path, `*` or braces on.
+    UsePath,
+    /// The rest of a macro call after a segment of its path.
+    Call,
+    /// The rest of the type after `impl`, after an operand.
+    TargetRest,
+}
+
+/// A rule of the grammar, apart from types, bounds and expressions, which tables read.
 #[derive(Clone, Copy)]
 pub enum Syntax<'a> {
     /// Nothing.
@@ -134,6 +198,8 @@ pub enum Syntax<'a> {
     Table(Table),
     /// What a table reads, if the first sign passes a test.
     Guarded(Guard),
+    /// A sign that passes the test, and then the named rule.
+    To(Test, Goal),
     /// The first rule, and then the second.
     Then(&'a Syntax<'a>, &'a Syntax<'a>),
     /// One of the two rules.
@@ -172,32 +238,43 @@ pub(crate) fn passes(test: Test, class: SignClass) -> bool
         Test::PatternFirst => is_pattern(class)
             && !(is(SignClass::Keyword(Keyword::Mut), class) || is(SignClass::And, class)),
         Test::InPattern => continues(class),
+        Test::AfterDots => continues(class) && !is(SignClass::Dot, class),
         Test::Opens => opens(class),
         Test::PathSegment => is_path_segment(class),
+        Test::NotSemicolon => !is(SignClass::Semicolon, class),
+        Test::ItemSegment => is_item_segment(class),
+        Test::BeginsCall => begins_call(class),
+        Test::CallGroup => is_call_group(class),
+        Test::NewName => is_new_name(class),
+        Test::CrateName => is_crate_name(class),
+        Test::UseList => is_use_list(class),
+        Test::ConstantName => is_constant_name(class),
     }
+}
+
+/// Whether the sign is the name of a constant, and after `const` belongs to nothing else.
+fn is_constant_name(class: SignClass) -> bool
+{
+    (is_name(class)
+        && !(is(SignClass::Word(Word::Safe), class) || is(SignClass::Word(Word::Gen), class)))
+        || is(SignClass::Underscore, class)
 }
 
 /// The state of the walk from which a table reads.
 pub(crate) fn start_of(table: Table) -> WalkState
 {
+    let (rule, state) = match table {
+        Table::Type => (Continuation::Outside, State::Range(TypeState::Wanted)),
+        Table::Bounds => (Continuation::Outside, State::Range(TypeState::Bound)),
+        Table::Target => (Continuation::Target, State::Range(TypeState::Wanted)),
+        Table::TargetRest => (Continuation::Target, State::Range(TypeState::Whole)),
+        Table::Argument => (Continuation::Inside, State::Range(TypeState::Wanted)),
+        Table::ArgumentRest => (Continuation::Inside, State::Range(TypeState::Whole)),
+        Table::Expression => (Continuation::Outside, State::At(Spot::Expression)),
+    };
     WalkState {
-        item: Item::Alone,
-        rule: Continuation::Alone,
-        state: match table {
-            Table::Type => State::Range(TypeState::Wanted),
-            Table::Bounds => State::Range(TypeState::Bound),
-            Table::Attributes => State::At(Spot::Before(Part::Attributes)),
-            Table::InnerAttributes => State::At(Spot::Inner),
-            Table::Visibility => State::At(Spot::Before(Part::Visibility)),
-            Table::Generics => State::At(Spot::Generics),
-            Table::Where => State::At(Spot::Where),
-            Table::Expression => State::At(Spot::Expression),
-            Table::Field => State::At(Spot::Before(Part::Field)),
-            Table::TupleField => State::At(Spot::Before(Part::TupleField)),
-            Table::Variant => State::At(Spot::Before(Part::Variant)),
-            Table::TypeItem => State::At(Spot::Before(Part::TypeItem)),
-            Table::AnyItem => State::At(Spot::Before(Part::AnyItem)),
-        },
+        rule,
+        state,
         depth: 0,
     }
 }
@@ -207,8 +284,10 @@ pub(crate) fn table_of(guard: Guard) -> Table
 {
     match guard {
         Guard::Value => Table::Expression,
-        Guard::Angle | Guard::Word | Guard::Operand => Table::Type,
-        Guard::Impl => Table::AnyItem,
+        Guard::Angle | Guard::Word | Guard::Operand | Guard::Unrestricted => Table::Type,
+        Guard::Target | Guard::PlainTarget => Table::Target,
+        Guard::Argument => Table::Argument,
+        Guard::ArgumentRest => Table::ArgumentRest,
     }
 }
 
@@ -219,57 +298,14 @@ pub(crate) fn admits(guard: Guard, class: SignClass) -> bool
         Guard::Value => !continues_value(class),
         Guard::Angle => opens(class),
         Guard::Word => is_name(class),
-        Guard::Operand => !is_name(class) && !is(SignClass::Lifetime, class),
-        Guard::Impl => is(SignClass::Keyword(Keyword::Impl), class),
+        Guard::Operand | Guard::Argument => !is_name(class) && !is(SignClass::Lifetime, class),
+        Guard::Unrestricted => !is(SignClass::Restriction, class),
+        Guard::Target => !is(SignClass::Exclamation, class),
+        Guard::PlainTarget => !is(SignClass::Exclamation, class) && !opens(class),
+        Guard::ArgumentRest => !is(SignClass::Equals, class)
+            && !(is(SignClass::Comma, class) || is(SignClass::Colon, class)),
     }
 }
-
-// ---- the rules that one table reads
-
-/// A type.
-pub(crate) const TYPE: Syntax<'static> = Syntax::Table(Table::Type);
-
-/// Bounds.
-pub(crate) const BOUNDS: Syntax<'static> = Syntax::Table(Table::Bounds);
-
-/// Attributes.
-pub(crate) const ATTRIBUTES: Syntax<'static> = Syntax::Table(Table::Attributes);
-
-/// An expression.
-pub(crate) const EXPRESSION: Syntax<'static> = Syntax::Table(Table::Expression);
-
-/// Generic parameters, or nothing.
-pub(crate) const GENERICS: Syntax<'static> = Syntax::Table(Table::Generics);
-
-/// A where clause, or nothing.
-pub(crate) const WHERE: Syntax<'static> = Syntax::Table(Table::Where);
-
-/// A named field.
-pub(crate) const FIELD: Syntax<'static> = Syntax::Table(Table::Field);
-
-/// A field without a name.
-pub(crate) const TUPLE_FIELD: Syntax<'static> = Syntax::Table(Table::TupleField);
-
-/// A variant.
-pub(crate) const VARIANT: Syntax<'static> = Syntax::Table(Table::Variant);
-
-/// Named fields.
-pub(crate) const FIELDS: Syntax<'static> = Syntax::List(&FIELD);
-
-/// Fields without names.
-pub(crate) const TUPLE_FIELDS: Syntax<'static> = Syntax::List(&TUPLE_FIELD);
-
-/// Variants.
-pub(crate) const VARIANTS: Syntax<'static> = Syntax::List(&VARIANT);
-
-/// A struct, an enum or a union.
-pub(crate) const TYPE_ITEM: Syntax<'static> = Syntax::Table(Table::TypeItem);
-
-/// Inner attributes.
-pub(crate) const INNER_ATTRIBUTES: Syntax<'static> = Syntax::Table(Table::InnerAttributes);
-
-/// An item of any kind.
-pub(crate) const ANY_ITEM: Syntax<'static> = Syntax::Table(Table::AnyItem);
 
 // ---- the rules of functions
 
@@ -373,7 +409,7 @@ const FUNCTION_END: Syntax<'static> = Syntax::Either(
 );
 
 /// What follows the name of a function and its generic parameters.
-const FUNCTION_REST: Syntax<'static> = Syntax::Then(
+pub(crate) const FUNCTION_REST: Syntax<'static> = Syntax::Then(
     &Syntax::Mark(Label::Fields),
     &Syntax::Then(
         &Syntax::Sign(Test::Round),
@@ -388,16 +424,16 @@ const FUNCTION_REST: Syntax<'static> = Syntax::Then(
                 ),
                 &Syntax::Nothing,
             ),
-            &Syntax::Then(&Syntax::Table(Table::Where), &FUNCTION_END),
+            &Syntax::Then(&WHERE, &FUNCTION_END),
         ),
     ),
 );
 
 /// A function.
 pub(crate) const FUNCTION: Syntax<'static> = Syntax::Then(
-    &Syntax::Table(Table::Attributes),
+    &ATTRIBUTES,
     &Syntax::Then(
-        &Syntax::Table(Table::Visibility),
+        &VISIBILITY,
         &Syntax::Then(
             &Syntax::Mark(Label::Front),
             &Syntax::Then(
@@ -406,7 +442,7 @@ pub(crate) const FUNCTION: Syntax<'static> = Syntax::Then(
                     &Syntax::Sign(Test::Is(SignClass::Keyword(Keyword::Fn))),
                     &Syntax::Then(
                         &Syntax::Then(&Syntax::Mark(Label::Named), &Syntax::Sign(Test::Word)),
-                        &Syntax::Then(&Syntax::Table(Table::Generics), &FUNCTION_REST),
+                        &Syntax::Then(&GENERICS, &FUNCTION_REST),
                     ),
                 ),
             ),
@@ -426,20 +462,26 @@ const PATTERN_REST: Syntax<'static> = Syntax::Then(
     &Syntax::Either(&PATTERN_ANGLE, &Syntax::Nothing),
 );
 
+/// `..`
+const TWO_DOTS: Syntax<'static> = Syntax::Then(
+    &Syntax::Sign(Test::Is(SignClass::Dot)),
+    &Syntax::Sign(Test::Is(SignClass::Dot)),
+);
+
+/// A pattern that begins with `..`.
+const DOTTED_PATTERN: Syntax<'static> = Syntax::Then(&TWO_DOTS, &PATTERN_REST);
+
 /// A pattern.
 pub(crate) const PATTERN: Syntax<'static> = Syntax::Either(
-    &Syntax::Then(&Syntax::Sign(Test::Pattern), &PATTERN_REST),
-    &PATTERN_ANGLE,
+    &DOTTED_PATTERN,
+    &Syntax::Either(
+        &Syntax::Then(&Syntax::Sign(Test::Pattern), &PATTERN_REST),
+        &PATTERN_ANGLE,
+    ),
 );
 
 /// `...`
-const DOTS: Syntax<'static> = Syntax::Then(
-    &Syntax::Sign(Test::Is(SignClass::Dot)),
-    &Syntax::Then(
-        &Syntax::Sign(Test::Is(SignClass::Dot)),
-        &Syntax::Sign(Test::Is(SignClass::Dot)),
-    ),
-);
+const DOTS: Syntax<'static> = Syntax::Then(&TWO_DOTS, &Syntax::Sign(Test::Is(SignClass::Dot)));
 
 /// `:` and a type or `...`
 const TYPED: Syntax<'static> = Syntax::Then(
@@ -477,7 +519,7 @@ const MAY_MUTATE: Syntax<'static> = Syntax::Either(
 /// A pattern and its type.
 const TYPED_PATTERN: Syntax<'static> = Syntax::Then(&PATTERN, &TYPED);
 
-/// A receiver, or a pattern and its type.
+/// A receiver, or a pattern and its type, which does not begin with `..`.
 const NAMED_PARAMETER: Syntax<'static> = Syntax::Either(
     &Syntax::Then(&Syntax::Sign(Test::Is(SignClass::SelfValue)), &SELF_TYPE),
     &Syntax::Either(
@@ -505,11 +547,14 @@ const NAMED_PARAMETER: Syntax<'static> = Syntax::Either(
                             &Syntax::Sign(Test::Is(SignClass::SelfValue)),
                             &Syntax::Then(
                                 &Syntax::Either(
-                                    &Syntax::Then(
-                                        &Syntax::Sign(Test::PatternAfterAnd),
-                                        &PATTERN_REST,
+                                    &DOTTED_PATTERN,
+                                    &Syntax::Either(
+                                        &Syntax::Then(
+                                            &Syntax::Sign(Test::PatternAfterAnd),
+                                            &PATTERN_REST,
+                                        ),
+                                        &PATTERN_ANGLE,
                                     ),
-                                    &PATTERN_ANGLE,
                                 ),
                                 &TYPED,
                             ),
@@ -528,131 +573,26 @@ const NAMED_PARAMETER: Syntax<'static> = Syntax::Either(
     ),
 );
 
+/// The rest of a parameter after `..`.
+const AFTER_DOTS: Syntax<'static> = Syntax::Either(
+    &Syntax::Sign(Test::Is(SignClass::Dot)),
+    &Syntax::Then(
+        &Syntax::Either(
+            &Syntax::Then(&Syntax::Sign(Test::AfterDots), &PATTERN_REST),
+            &Syntax::Either(&PATTERN_ANGLE, &Syntax::Nothing),
+        ),
+        &TYPED,
+    ),
+);
+
 /// A parameter of a function.
 pub(crate) const PARAMETER: Syntax<'static> = Syntax::Then(
     &Syntax::Mark(Label::Parameter),
     &Syntax::Then(
-        &Syntax::Table(Table::Attributes),
+        &ATTRIBUTES,
         &Syntax::Then(
             &Syntax::Mark(Label::Named),
-            &Syntax::Either(&DOTS, &NAMED_PARAMETER),
-        ),
-    ),
-);
-
-/// `:` and bounds, or nothing.
-const WITH_BOUNDS: Syntax<'static> = Syntax::Either(
-    &Syntax::Then(
-        &Syntax::Mark(Label::Rest),
-        &Syntax::Then(
-            &Syntax::Sign(Test::Is(SignClass::Colon)),
-            &Syntax::Then(&Syntax::Mark(Label::Bounds), &Syntax::Table(Table::Bounds)),
-        ),
-    ),
-    &Syntax::Nothing,
-);
-
-/// `=` and a type.
-const DEFAULT_TYPE: Syntax<'static> = Syntax::Then(
-    &Syntax::Mark(Label::Rest),
-    &Syntax::Then(
-        &Syntax::Sign(Test::Is(SignClass::Equals)),
-        &Syntax::Then(&Syntax::Mark(Label::Default), &Syntax::Table(Table::Type)),
-    ),
-);
-
-/// `=` and the default of a constant, or nothing.
-const WITH_CONSTANT: Syntax<'static> = Syntax::Either(
-    &Syntax::Then(
-        &Syntax::Mark(Label::Rest),
-        &Syntax::Then(
-            &Syntax::Sign(Test::Is(SignClass::Equals)),
-            &Syntax::Then(
-                &Syntax::Mark(Label::Default),
-                &Syntax::Either(
-                    &Syntax::Then(
-                        &Syntax::Sign(Test::Is(SignClass::Minus)),
-                        &Syntax::Sign(Test::Is(SignClass::Literal)),
-                    ),
-                    &Syntax::Either(
-                        &Syntax::Sign(Test::Is(SignClass::Literal)),
-                        &Syntax::Either(
-                            &Syntax::Sign(Test::Block),
-                            &Syntax::Either(
-                                &Syntax::Sign(Test::Is(SignClass::Truth)),
-                                &Syntax::Table(Table::Type),
-                            ),
-                        ),
-                    ),
-                ),
-            ),
-        ),
-    ),
-    &Syntax::Nothing,
-);
-
-/// A generic parameter.
-pub(crate) const GENERIC: Syntax<'static> = Syntax::Then(
-    &Syntax::Mark(Label::Parameter),
-    &Syntax::Then(
-        &Syntax::Table(Table::Attributes),
-        &Syntax::Either(
-            &Syntax::Then(
-                &Syntax::Mark(Label::Named),
-                &Syntax::Then(&Syntax::Sign(Test::Is(SignClass::Lifetime)), &WITH_BOUNDS),
-            ),
-            &Syntax::Either(
-                &Syntax::Then(
-                    &Syntax::Mark(Label::Named),
-                    &Syntax::Then(
-                        &Syntax::Sign(Test::Word),
-                        &Syntax::Then(
-                            &WITH_BOUNDS,
-                            &Syntax::Either(&DEFAULT_TYPE, &Syntax::Nothing),
-                        ),
-                    ),
-                ),
-                &Syntax::Then(
-                    &Syntax::Mark(Label::Rest),
-                    &Syntax::Then(
-                        &Syntax::Sign(Test::Is(SignClass::Keyword(Keyword::Const))),
-                        &Syntax::Then(
-                            &Syntax::Mark(Label::Named),
-                            &Syntax::Then(
-                                &Syntax::Sign(Test::Word),
-                                &Syntax::Then(
-                                    &Syntax::Mark(Label::Rest),
-                                    &Syntax::Then(
-                                        &Syntax::Sign(Test::Is(SignClass::Colon)),
-                                        &Syntax::Then(
-                                            &Syntax::Mark(Label::Bounds),
-                                            &Syntax::Then(
-                                                &Syntax::Table(Table::Type),
-                                                &WITH_CONSTANT,
-                                            ),
-                                        ),
-                                    ),
-                                ),
-                            ),
-                        ),
-                    ),
-                ),
-            ),
-        ),
-    ),
-);
-
-/// A predicate of a where clause.
-pub(crate) const PREDICATE: Syntax<'static> = Syntax::Then(
-    &Syntax::Mark(Label::Bounded),
-    &Syntax::Then(
-        &Syntax::Table(Table::Type),
-        &Syntax::Then(
-            &Syntax::Mark(Label::Rest),
-            &Syntax::Then(
-                &Syntax::Sign(Test::Is(SignClass::Colon)),
-                &Syntax::Then(&Syntax::Mark(Label::Bounds), &Syntax::Table(Table::Bounds)),
-            ),
+            &Syntax::Either(&Syntax::Then(&TWO_DOTS, &AFTER_DOTS), &NAMED_PARAMETER),
         ),
     ),
 );
@@ -731,18 +671,15 @@ const IMPL_QUALIFIERS: Syntax<'static> = Syntax::Then(
 
 /// An impl.
 pub(crate) const IMPL: Syntax<'static> = Syntax::Then(
-    &Syntax::Table(Table::Attributes),
+    &ATTRIBUTES,
     &Syntax::Then(
-        &Syntax::Table(Table::Visibility),
+        &VISIBILITY,
         &Syntax::Then(
             &Syntax::Mark(Label::Front),
-            &Syntax::Then(&IMPL_QUALIFIERS, &Syntax::Guarded(Guard::Impl)),
+            &Syntax::Then(
+                &IMPL_QUALIFIERS,
+                &Syntax::To(Test::Is(SignClass::Keyword(Keyword::Impl)), Goal::Impl),
+            ),
         ),
     ),
-);
-
-/// A file.
-pub(crate) const FILE: Syntax<'static> = Syntax::Then(
-    &Syntax::Table(Table::InnerAttributes),
-    &Syntax::Many(&Syntax::Table(Table::AnyItem)),
 );

@@ -2,10 +2,10 @@
 //! The steps of the walk over an expression, up to its end. A step says where a sign leads.
 
 use crate::item_tables::class::SignClass;
-use crate::item_tables::walk_state::{Continuation, Item, Part, Shift, Spot, open_angle, to_spot};
+use crate::item_tables::walk_state::{Continuation, Shift, Spot, open_angle, to_spot};
 
 /// The step where an operand must come.
-pub(crate) fn expression(item: Item, class: SignClass) -> Option<Shift>
+fn expression(class: SignClass) -> Option<Shift>
 {
     match class {
         SignClass::Restriction
@@ -22,10 +22,10 @@ pub(crate) fn expression(item: Item, class: SignClass) -> Option<Shift>
         | SignClass::Underscore
         | SignClass::Truth
         | SignClass::Literal
-        | SignClass::Await => to_spot(item, Spot::ExpressionWhole),
-        SignClass::Less | SignClass::LessJoint => open_angle(item, Continuation::Angle),
-        SignClass::Lifetime | SignClass::Jump => to_spot(item, Spot::ExpressionOpen),
-        SignClass::Dot => to_spot(item, Spot::ExpressionRange),
+        | SignClass::Await => to_spot(Spot::ExpressionWhole),
+        SignClass::Less | SignClass::LessJoint => open_angle(Continuation::Angle),
+        SignClass::Lifetime | SignClass::Jump => to_spot(Spot::ExpressionOpen),
+        SignClass::Dot => to_spot(Spot::ExpressionRange),
         SignClass::Minus
         | SignClass::Star
         | SignClass::And
@@ -34,28 +34,27 @@ pub(crate) fn expression(item: Item, class: SignClass) -> Option<Shift>
         | SignClass::Greater
         | SignClass::PathSeparator
         | SignClass::Bars
-        | SignClass::Keyword(_) => to_spot(item, Spot::Expression),
-        SignClass::Hash => to_spot(item, Spot::ExpressionHash),
-        SignClass::Bar => to_spot(item, Spot::Closure),
-        SignClass::Arrow => to_spot(item, Spot::Cast),
+        | SignClass::Keyword(_) => to_spot(Spot::Expression),
+        SignClass::Hash => to_spot(Spot::ExpressionHash),
+        SignClass::Bar => to_spot(Spot::Closure),
+        SignClass::Arrow => to_spot(Spot::Cast),
         _ => None,
     }
 }
 
 /// The step where an operand may come, or what follows an operand.
-pub(crate) fn expression_open(item: Item, class: SignClass) -> Option<Shift>
+fn expression_open(class: SignClass) -> Option<Shift>
 {
     match class {
-        SignClass::Dot => to_spot(item, Spot::ExpressionOpen),
-        SignClass::Question => to_spot(item, Spot::ExpressionWhole),
-        SignClass::Plus | SignClass::Infix | SignClass::Colon => to_spot(item, Spot::Expression),
-        SignClass::Comma => variant_end(item, SignClass::Comma),
-        _ => expression(item, class),
+        SignClass::Dot => to_spot(Spot::ExpressionOpen),
+        SignClass::Question => to_spot(Spot::ExpressionWhole),
+        SignClass::Plus | SignClass::Infix | SignClass::Colon => to_spot(Spot::Expression),
+        _ => expression(class),
     }
 }
 
 /// The step after an operand of an expression or of a cast.
-fn operator(item: Item, class: SignClass) -> Option<Shift>
+fn operator(class: SignClass) -> Option<Shift>
 {
     match class {
         SignClass::Restriction
@@ -65,10 +64,10 @@ fn operator(item: Item, class: SignClass) -> Option<Shift>
         | SignClass::Block
         | SignClass::Invisible
         | SignClass::Question
-        | SignClass::Await => to_spot(item, Spot::ExpressionWhole),
-        SignClass::Jump => to_spot(item, Spot::ExpressionOpen),
-        SignClass::Dot => to_spot(item, Spot::ExpressionDot),
-        SignClass::As | SignClass::Arrow => to_spot(item, Spot::Cast),
+        | SignClass::Await => to_spot(Spot::ExpressionWhole),
+        SignClass::Jump => to_spot(Spot::ExpressionOpen),
+        SignClass::Dot => to_spot(Spot::ExpressionDot),
+        SignClass::As | SignClass::Arrow => to_spot(Spot::Cast),
         SignClass::Minus
         | SignClass::Star
         | SignClass::And
@@ -81,56 +80,52 @@ fn operator(item: Item, class: SignClass) -> Option<Shift>
         | SignClass::Bar
         | SignClass::Bars
         | SignClass::LessEquals
-        | SignClass::Keyword(_) => to_spot(item, Spot::Expression),
-        SignClass::Comma => variant_end(item, SignClass::Comma),
+        | SignClass::Keyword(_) => to_spot(Spot::Expression),
         _ => None,
     }
 }
 
 /// The step after an operand of an expression.
-pub(crate) fn expression_whole(item: Item, class: SignClass) -> Option<Shift>
+fn expression_whole(class: SignClass) -> Option<Shift>
 {
     match class {
-        SignClass::PathSeparator | SignClass::Less => to_spot(item, Spot::Expression),
-        SignClass::LessJoint => to_spot(item, Spot::ExpressionLess),
-        _ => operator(item, class),
+        SignClass::PathSeparator | SignClass::Less => to_spot(Spot::Expression),
+        SignClass::LessJoint => to_spot(Spot::ExpressionLess),
+        _ => operator(class),
     }
 }
 
 /// The step after a `Joint` `<` that is an operator. A second mark may belong to the operator, as in `<<`.
-pub(crate) fn expression_less(item: Item, class: SignClass) -> Option<Shift>
+fn expression_less(class: SignClass) -> Option<Shift>
 {
     match class {
-        SignClass::Less | SignClass::LessJoint | SignClass::LessEquals => to_spot(
-            item,
-            Spot::Expression,
-        ),
-        _ => expression(item, class),
+        SignClass::Less | SignClass::LessJoint | SignClass::LessEquals => to_spot(Spot::Expression),
+        _ => expression(class),
     }
 }
 
 /// The step after an operand and `.`.
-pub(crate) fn expression_dot(item: Item, class: SignClass) -> Option<Shift>
+fn expression_dot(class: SignClass) -> Option<Shift>
 {
     match class {
-        SignClass::Dot => to_spot(item, Spot::ExpressionOpen),
-        _ => expression(item, class),
+        SignClass::Dot => to_spot(Spot::ExpressionOpen),
+        _ => expression(class),
     }
 }
 
 /// The step within the bars of a closure.
-pub(crate) fn closure(item: Item, class: SignClass) -> Option<Shift>
+fn closure(class: SignClass) -> Option<Shift>
 {
     match class {
-        SignClass::Bar => to_spot(item, Spot::Expression),
-        SignClass::Less | SignClass::LessJoint => open_angle(item, Continuation::ClosureAngle),
+        SignClass::Bar => to_spot(Spot::Expression),
+        SignClass::Less | SignClass::LessJoint => open_angle(Continuation::ClosureAngle),
         SignClass::Semicolon => None,
-        _ => to_spot(item, Spot::Closure),
+        _ => to_spot(Spot::Closure),
     }
 }
 
 /// The step where the type of a cast must come.
-pub(crate) fn cast(item: Item, class: SignClass) -> Option<Shift>
+fn cast(class: SignClass) -> Option<Shift>
 {
     match class {
         SignClass::Restriction
@@ -138,15 +133,15 @@ pub(crate) fn cast(item: Item, class: SignClass) -> Option<Shift>
         | SignClass::Brackets
         | SignClass::Braces
         | SignClass::Block
-        | SignClass::Invisible => to_spot(item, Spot::ExpressionWhole),
+        | SignClass::Invisible => to_spot(Spot::ExpressionWhole),
         SignClass::Word(_)
         | SignClass::SelfValue
         | SignClass::SelfType
         | SignClass::Super
         | SignClass::Crate
         | SignClass::Underscore
-        | SignClass::Truth => to_spot(item, Spot::CastWhole),
-        SignClass::Less | SignClass::LessJoint => open_angle(item, Continuation::CastAngle),
+        | SignClass::Truth => to_spot(Spot::CastWhole),
+        SignClass::Less | SignClass::LessJoint => open_angle(Continuation::CastAngle),
         SignClass::Lifetime
         | SignClass::PathSeparator
         | SignClass::Arrow
@@ -157,26 +152,44 @@ pub(crate) fn cast(item: Item, class: SignClass) -> Option<Shift>
         | SignClass::Jump
         | SignClass::Await
         | SignClass::Literal
-        | SignClass::Keyword(_) => to_spot(item, Spot::Cast),
+        | SignClass::Keyword(_) => to_spot(Spot::Cast),
         _ => None,
     }
 }
 
 /// The step after a name in the type of a cast.
-pub(crate) fn cast_whole(item: Item, class: SignClass) -> Option<Shift>
+fn cast_whole(class: SignClass) -> Option<Shift>
 {
     match class {
-        SignClass::PathSeparator => to_spot(item, Spot::Cast),
-        SignClass::Less | SignClass::LessJoint => open_angle(item, Continuation::CastAngle),
-        _ => operator(item, class),
+        SignClass::PathSeparator => to_spot(Spot::Cast),
+        SignClass::Less | SignClass::LessJoint => open_angle(Continuation::CastAngle),
+        _ => operator(class),
     }
 }
 
-/// The step after a whole variant in a list.
-pub(crate) fn variant_end(item: Item, class: SignClass) -> Option<Shift>
+/// The step from a state of an expression.
+pub(crate) fn spot_step(spot: Spot, class: SignClass) -> Option<Shift>
 {
-    match (item, class) {
-        (Item::Variants, SignClass::Comma) => to_spot(item, Spot::Before(Part::Variant)),
+    match (spot, class) {
+        (Spot::Expression, _) => expression(class),
+        (Spot::ExpressionOpen, _) => expression_open(class),
+        (Spot::ExpressionWhole, _) => expression_whole(class),
+        (Spot::ExpressionLess, _) => expression_less(class),
+        (Spot::ExpressionDot, _) => expression_dot(class),
+        (Spot::ExpressionRange, SignClass::Dot) => to_spot(Spot::ExpressionOpen),
+        (Spot::ExpressionHash, SignClass::Brackets) => to_spot(Spot::Expression),
+        (Spot::Closure, _) => closure(class),
+        (Spot::Cast, _) => cast(class),
+        (Spot::CastWhole, _) => cast_whole(class),
         _ => None,
+    }
+}
+
+/// Whether an expression may end in this state.
+pub(crate) fn spot_ends(spot: Spot) -> bool
+{
+    match spot {
+        Spot::ExpressionOpen | Spot::ExpressionWhole | Spot::CastWhole => true,
+        _ => false,
     }
 }

@@ -40,23 +40,35 @@ pattern_angle = Then (angle (Range types.Whole Outside)) (perhaps (one signs.Bra
 abbrev pub pattern_rest : G
 pattern_rest = Then pattern_signs (perhaps pattern_angle)
 
--- a pattern whose first sign does not pass the test
-abbrev pub pattern_but : (SignClass → Bool) → G
-pattern_but without = Either (Then (Sign (λ c. is_pattern c && not (without c))) pattern_rest) pattern_angle
-
--- a pattern
-abbrev pub pattern : G
-pattern = pattern_but (λ c. false)
-
--- ---- what follows a pattern or a receiver
-
 -- `..`
 abbrev pub two_dots : G
 two_dots = Then (one signs.Dot) (one signs.Dot)
 
+-- a pattern that begins with `..`
+abbrev pub dotted_pattern : G
+dotted_pattern = Then two_dots pattern_rest
+
+-- a pattern whose first sign is no `.` and does not pass the test
+abbrev pub plain_but : (SignClass → Bool) → G
+plain_but without = Either (Then (Sign (λ c. is_pattern c && not (without c))) pattern_rest) pattern_angle
+
+-- a pattern that does not begin with `..`
+abbrev pub plain_pattern : G
+plain_pattern = plain_but (λ c. false)
+
+-- a pattern whose first sign does not pass the test
+abbrev pub pattern_but : (SignClass → Bool) → G
+pattern_but without = Either dotted_pattern (plain_but without)
+
+-- a pattern
+abbrev pub pattern : G
+pattern = Either dotted_pattern plain_pattern
+
+-- ---- what follows a pattern or a receiver
+
 -- `...`
 abbrev pub dots : G
-dots = Then (one signs.Dot) two_dots
+dots = Then two_dots (one signs.Dot)
 
 -- `:` and a type
 abbrev pub with_type : G
@@ -115,18 +127,30 @@ after_and = alt (
 abbrev pub is_shared : SignClass → Bool
 is_shared c = keyword keywords.Mut c || is signs.And c
 
--- a parameter after its attributes, except `...`: a receiver, or a pattern and its type
+-- a parameter after its attributes that does not begin with `..`: a receiver, or a pattern and its type
 abbrev pub named_parameter : G
 named_parameter = alt (
     Then (one signs.SelfValue) self_type
     ∷ Then (key keywords.Mut) after_mut
     ∷ Then (one signs.And) after_and
-    ∷ Then (pattern_but is_shared) pattern_parameter
+    ∷ Then (plain_but is_shared) pattern_parameter
     ∷ [])
+
+-- the rest of a pattern after `..`, which a third `.` does not continue
+abbrev pub rest_after_dots : G
+rest_after_dots = Either (Then (Sign (λ c. continues c && not (is signs.Dot c))) pattern_rest) (perhaps pattern_angle)
+
+-- the rest of a parameter after `..`: the third `.` of `...`, or the rest of a pattern and its type
+abbrev pub after_dots : G
+after_dots = Either (one signs.Dot) (Then rest_after_dots pattern_parameter)
+
+-- a parameter after its attributes, if it begins with `..`
+abbrev pub dotted_parameter : G
+dotted_parameter = Then two_dots after_dots
 
 -- a parameter after its attributes
 abbrev pub parameter_rest : G
-parameter_rest = Then (Mark Named) (Either dots named_parameter)
+parameter_rest = Then (Mark Named) (Either dotted_parameter named_parameter)
 
 -- a parameter of a function: attributes, and then a receiver, a pattern and its type, or `...`
 abbrev pub function_parameter : G

@@ -331,7 +331,7 @@ fn an_error_of_a_function_or_an_impl_has_the_signs_that_can_come_next(
 
 #[test]
 fn an_error_of_a_part_has_the_signs_that_can_come_next(rt: HostRuntime) -> Result<(), Fail> {
-    let rows: [Row<'_>; 7] = [
+    let rows: [Row<'_>; 9] = [
         (
             Call::Parameter,
             "& mut ;",
@@ -352,8 +352,35 @@ fn an_error_of_a_part_has_the_signs_that_can_come_next(rt: HostRuntime) -> Resul
             Call::Pattern,
             ":",
             0,
-            &[NAME, SignClass::Parentheses, SignClass::Less],
+            &[
+                NAME,
+                SignClass::Parentheses,
+                SignClass::Less,
+                SignClass::Dot,
+            ],
             &[SignClass::Colon, SignClass::SelfValue],
+            false,
+        ),
+        (
+            Call::Pattern,
+            ". 5",
+            1,
+            &[SignClass::Dot],
+            &[NAME, SignClass::Literal],
+            false,
+        ),
+        (
+            Call::Parameter,
+            "..",
+            2,
+            &[
+                NAME,
+                SignClass::Dot,
+                SignClass::Equals,
+                SignClass::Less,
+                SignClass::Colon,
+            ],
+            &[SignClass::Comma, SignClass::Bar],
             false,
         ),
         (
@@ -735,6 +762,29 @@ fn check_text(
         assert_eq!(rt; shown.as_str(), printed, "{text:?}");
     } else {
         assert!(rt; false, "{call:?} reads {text:?}");
+    }
+    Ok(())
+}
+
+#[test]
+fn an_error_of_a_pattern_says_what_was_expected(rt: HostRuntime) -> Result<(), Fail> {
+    let rows: [(Call, &str, &str); 5] = [
+        (Call::Pattern, ":", "expected a pattern"),
+        (Call::Pattern, ". 5", "expected `.`"),
+        (Call::Parameter, "& mut ;", "expected a pattern or `self`"),
+        (
+            Call::Parameter,
+            ".. ;",
+            "expected `:` or more of the pattern",
+        ),
+        (
+            Call::Parameter,
+            "..5 ;",
+            "expected `:` or more of the pattern",
+        ),
+    ];
+    for (call, text, printed) in rows {
+        check_text(&rt, call, text, printed)?;
     }
     Ok(())
 }

@@ -146,6 +146,28 @@ fn patterns_end_at_their_colons(rt: HostRuntime) {
 }
 
 #[test]
+fn a_pattern_may_begin_with_two_dots(rt: HostRuntime) {
+    check(
+        &rt,
+        &[
+            ("..: A", &[Parts::Typed(0, 2, 1)]),
+            (
+                "..5: u8, x: u8",
+                &[Parts::Typed(0, 3, 1), Parts::Typed(0, 1, 1)],
+            ),
+            ("..=9: u8,", &[Parts::Typed(0, 4, 1)]),
+            ("..=a::B: &u8", &[Parts::Typed(0, 7, 2)]),
+            ("#[a] ..=9: u8", &[Parts::Typed(2, 4, 1)]),
+            ("..: ...", &[Parts::Variadic(0, 2)]),
+            ("&..: &A", &[Parts::Typed(0, 3, 2)]),
+            // The crate syn reads no pattern here and in the next row.
+            ("mut ..5: u8", &[Parts::Typed(0, 4, 1)]),
+            ("..P::<T> { x }: P<T>", &[Parts::Typed(0, 9, 4)]),
+        ],
+    );
+}
+
+#[test]
 fn types_end_at_their_commas(rt: HostRuntime) {
     check(
         &rt,
@@ -189,6 +211,9 @@ fn dots_are_the_last(rt: HostRuntime) {
                 &[Parts::Typed(0, 1, 1), Parts::Variadic(0, 0)],
             ),
             ("#[a] mut rest: ...", &[Parts::Variadic(2, 2)]),
+            ("#[a] ...,", &[Parts::Variadic(2, 0)]),
+            ("...: u8", &[Parts::Fault(3)]),
+            ("....", &[Parts::Fault(3)]),
         ],
     );
 }
@@ -213,7 +238,10 @@ fn a_fault_ends_the_parameters(rt: HostRuntime) {
             ("x: u8 = 1", &[Parts::Fault(3)]),
             ("x: A, , y: B", &[Parts::Typed(0, 1, 1), Parts::Fault(0)]),
             ("#[a]", &[Parts::Fault(2)]),
+            (".", &[Parts::Fault(1)]),
+            (". x: u8", &[Parts::Fault(1)]),
             ("..", &[Parts::Fault(2)]),
+            ("..5 | 7: u8", &[Parts::Fault(3)]),
             ("fn x: u8", &[Parts::Fault(0)]),
             // The crate syn reads this as `self` with `...`.
             ("self: ...", &[Parts::Fault(2)]),
@@ -234,6 +262,22 @@ fn pattern_of(trees: &[TokenTree]) -> Option<(usize, usize)> {
     match split_pattern(trees) {
         Ok((pattern, rest)) => Some((pattern.len(), rest.len())),
         Err(_) => None,
+    }
+}
+
+#[test]
+fn dots_can_begin_a_pattern_alone(rt: HostRuntime) {
+    let rows: &[(&str, Option<(usize, usize)>)] = &[
+        ("..", Some((2, 0))),
+        ("..5 | 7", Some((3, 2))),
+        ("..=9: u8", Some((4, 2))),
+        ("...", Some((3, 0))),
+        (". 5", None),
+    ];
+    for &(text, wanted) in rows {
+        let stream = parsed(&rt, text);
+        check_answer(&rt, text, &pattern_of(stream.trees()), &wanted);
+        release(stream);
     }
 }
 

@@ -1,10 +1,19 @@
-use Rattle.std.proofs.Common.{◌∙◌, refl, sym, arith}
-use Rattle.declarations.specs.Syntax.{grammar_of}
+use Rattle.std.proofs.Common.{◌∙◌, ap, refl, sym, length, arith}
+use Rattle.grammars.specs.Grammar.{Sign, Then, To}
+use Rattle.declarations.specs.Syntax.{grammar_of, name_of, test_of}
 use Rattle.declarations.proofs.ExploreLemmas.{lists_element, lists_end, lists_more, lists_none, lists_stuck}
 use Rattle.declarations.proofs.ExploreLemmas.{sees_within}
 use Rattle.declarations.proofs.ExploreLemmas.{repeats_end, repeats_more, repeats_none, repeats_stuck}
 use Rattle.item_tables.specs.declared.class.SignClass.TheVariants as classes
 use Rattle.declarations.proofs.ReaderLemmas.{remains_sign, remains_within}
+use Rattle.declarations.proofs.GoalLemmas.{import_goes, onward_on, onward_self, segment_goes, segmented}
+use Rattle.declarations.proofs.GoalLemmas.{segmented_begins, separated, to_seen}
+use Rattle.declarations.specs.ItemRest.{is_use_list}
+use Rattle.item_tables.specs.Classes.{is}
+use Rattle.declarations.specs.rules.Items.{call, call_name, use_path}
+use Rattle.declarations.specs.rules.Bodies.{semicolon}
+use Rattle.declarations.specs.rules.Fronts.{as_name}
+use Rattle.declarations.specs.rules.Names.{UsePath, one}
 use Rattle.declarations.proofs.explore.+explore.Goals as goal
 
 -- ---- lists
@@ -125,3 +134,97 @@ explore-returns-else-one-trees t c =
     rw c.in-Either.is
     (c.choose.ensures (grammar_of c.in-Either.first.now) (grammar_of c.in-Either.second.now) c.args.trees.now
     c.explore-one.ensures (λ less. omega arith) c.explore-else-one-trees.ensures)
+
+pub explore-returns-in-Ok : goal.explore-returns-in-Ok
+explore-returns-in-Ok t c =
+    let found = c.in-Ok.ensures in
+    rw c.in-To.is
+    (to_seen (test_of c.in-To.test) (name_of c.in-To.goal) c.args.trees.now c.in-Ok.rest.now found.0
+    c.explore_goal.result found.1 found.2 c.explore_goal.ensures)
+
+pub explore-returns-in-Err : goal.explore-returns-in-Err
+explore-returns-in-Err t c =
+    rw c.in-To.is
+    (c.in-Err.ensures.1 (To (test_of c.in-To.test) (name_of c.in-To.goal)) (λ x. refl) refl)
+
+-- ---- macro calls
+
+pub explore_call-loop-left-init : goal.explore_call-loop-left-init
+explore_call-loop-left-init t c = onward_self call c.args.trees.now
+
+pub explore_call-loop-left-preserved : goal.explore_call-loop-left-preserved
+explore_call-loop-left-preserved t c =
+    onward_on call c.args.trees.now c.loop-left.left.now c.in-Ok.rest.now c.loop-left.invariant c.in-Ok.ensures.1
+
+pub explore_call-loop-left-smaller : goal.explore_call-loop-left-smaller
+explore_call-loop-left-smaller t c = let fewer = c.in-Ok.ensures.0 in omega arith
+
+pub explore_call-returns-then-one-left : goal.explore_call-returns-then-one-left
+explore_call-returns-then-one-left t c =
+    c.loop-left.invariant c.begun.result.left.now c.begun.result.next
+    (c.begun.ensures (Then (one classes.Exclamation) call_name) separated c.loop-left.left.now c.explore-one.ensures
+    c.if-one-left.true)
+
+pub explore_call-returns-in-Err : goal.explore_call-returns-in-Err
+explore_call-returns-in-Err t c =
+    c.loop-left.invariant c.choose.result.left.now c.choose.result.next
+    (c.choose.ensures (Then (one classes.Exclamation) call_name) separated c.loop-left.left.now c.explore-one.ensures
+    (λ less. let not = c.if-one-left.false in omega arith) c.in-Err.ensures)
+
+-- ---- imports
+
+pub explore_use_path-loop-rest-init : goal.explore_use_path-loop-rest-init
+explore_use_path-loop-rest-init t c = onward_self use_path c.args.trees.now
+
+pub explore_use_path-loop-rest-preserved : goal.explore_use_path-loop-rest-preserved
+explore_use_path-loop-rest-preserved t c =
+    let one = c.in-Ok.ensures in
+    let two = c.in-Ok-first_that_passes.ensures in
+    onward_on use_path c.args.trees.now c.loop-rest.left.now c.in-Ok-first_that_passes.after.now c.loop-rest.invariant
+    (import_goes c.loop-rest.left.now c.in-Ok.rest.now one.0 one.1 one.2 c.in-Ok-first_that_passes.after.now two.0
+    two.1 two.2).1
+
+pub explore_use_path-returns-in-Err-first_that_passes : goal.explore_use_path-returns-in-Err-first_that_passes
+explore_use_path-returns-in-Err-first_that_passes t c =
+    let one = c.in-Ok.ensures in
+    let stuck = c.in-Err-first_that_passes.ensures in
+    c.loop-rest.invariant c.choose.result.left.now c.choose.result.next
+    (segment_goes c.loop-rest.left.now c.in-Ok.rest.now one.0 one.1 one.2 c.choose.result.left.now
+    c.choose.result.next
+    (c.choose.ensures (To (is classes.PathSeparator) UsePath) (Then as_name semicolon) c.in-Ok.rest.now
+    (stuck.1 (To (is classes.PathSeparator) UsePath) (λ x. refl) refl)
+    (λ less. let same = ap length stuck.0 in omega arith) c.explore.ensures))
+
+pub explore_use_path-returns-in-Err : goal.explore_use_path-returns-in-Err
+explore_use_path-returns-in-Err t c =
+    let stuck = c.in-Err.ensures in
+    c.loop-rest.invariant c.choose-in-Err.result.left.now c.choose-in-Err.result.next
+    (c.choose-in-Err.ensures segmented (Then (Sign is_use_list) semicolon) c.loop-rest.left.now
+    (stuck.1 segmented segmented_begins refl) (λ less. let same = ap length stuck.0 in omega arith)
+    c.explore-in-Err.ensures)
+
+-- ---- named rules
+
+pub explore_goal-returns-in-Function : goal.explore_goal-returns-in-Function
+explore_goal-returns-in-Function t c = rw c.in-Function.is c.explore.ensures
+
+pub explore_goal-returns-in-Constant : goal.explore_goal-returns-in-Constant
+explore_goal-returns-in-Constant t c = rw c.in-Constant.is c.explore-in-Constant.ensures
+
+pub explore_goal-returns-in-Alias : goal.explore_goal-returns-in-Alias
+explore_goal-returns-in-Alias t c = rw c.in-Alias.is c.explore-in-Alias.ensures
+
+pub explore_goal-returns-in-Struct : goal.explore_goal-returns-in-Struct
+explore_goal-returns-in-Struct t c = rw c.in-Struct.is c.explore-in-Struct.ensures
+
+pub explore_goal-returns-in-Enum : goal.explore_goal-returns-in-Enum
+explore_goal-returns-in-Enum t c = rw c.in-Enum.is c.explore-in-Enum.ensures
+
+pub explore_goal-returns-in-Union : goal.explore_goal-returns-in-Union
+explore_goal-returns-in-Union t c = rw c.in-Union.is c.explore-in-Union.ensures
+
+pub explore_goal-returns-in-Trait : goal.explore_goal-returns-in-Trait
+explore_goal-returns-in-Trait t c = rw c.in-Trait.is c.explore-in-Trait.ensures
+
+pub explore_goal-returns-in-Impl : goal.explore_goal-returns-in-Impl
+explore_goal-returns-in-Impl t c = rw c.in-Impl.is c.explore-in-Impl.ensures

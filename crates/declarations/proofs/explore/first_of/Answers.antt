@@ -1,6 +1,6 @@
 use Rattle.std.proofs.Common.{◌∙◌, ◌&&◌, ap, is_some}
 use Rattle.declarations.specs.Expected.{holds}
-use Rattle.item_tables.specs.Grammar.{step}
+use Rattle.item_tables.specs.Walk.{step}
 use Rattle.declarations.specs.Syntax.{admits, start_of}
 use Rattle.declarations.proofs.ExpectedLemmas.{all_steps}
 use Rattle.declarations.proofs.SyntaxLemmas.{guard_first}

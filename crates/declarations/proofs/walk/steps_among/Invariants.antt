@@ -1,5 +1,5 @@
 use Rattle.std.proofs.Common.{false, ◌&&◌, take, is_some}
-use Rattle.item_tables.specs.Grammar.{step}
+use Rattle.item_tables.specs.Walk.{step}
 use Rattle.declarations.specs.Expected.{HasSigns}
 use Rattle.item_tables.specs.Classes.{any_of, is}
 use Rattle.declarations.proofs.walk.steps_among.Given as goal

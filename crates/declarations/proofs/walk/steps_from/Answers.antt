@@ -1,5 +1,5 @@
 use Rattle.std.proofs.Common.{◌≡◌, ◌∙◌, false, is_some, true}
-use Rattle.item_tables.specs.Grammar.{ends, step}
+use Rattle.item_tables.specs.Walk.{ends, step}
 use Rattle.declarations.proofs.ExpectedLemmas.{any_class}
 use Rattle.declarations.proofs.walk.steps_from.Goals as goal
 

@@ -1,0 +1,13 @@
+use Rattle.std.proofs.Common.{arith}
+use Rattle.declarations.specs.ExploreItem.{default_item, from_gen}
+use Rattle.declarations.proofs.explore_item.see_from_default.Goals as goal
+
+pub returns-then-one-trees : goal.returns-then-one-trees
+returns-then-one-trees c =
+    c.begun.ensures default_item from_gen c.args.trees.now c.explore-one.ensures c.if-one-trees.true
+
+pub returns-else-one-trees : goal.returns-else-one-trees
+returns-else-one-trees c =
+    let all = c.if-one-trees.false in
+    c.choose.ensures default_item from_gen c.args.trees.now c.explore-one.ensures (λ less. omega arith)
+    c.see_from_gen.ensures
