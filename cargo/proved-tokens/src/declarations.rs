@@ -29,6 +29,7 @@ mod front;
 mod function;
 mod generic_argument;
 mod generics;
+mod goal_syntax;
 mod header_syntax;
 mod impl_syntax;
 mod implementation;

@@ -1,8 +1,8 @@
 -- How far named rules read, and the loops over the paths of macro calls and of imports.
-use Rattle.std.proofs.Common.{◌≡◌, refl, sym, ◌∙◌, Bool, true, false, ◌&&◌, ◌||◌, List, [], ◌∷◌, Some, length, ◌<◌}
+use Rattle.std.proofs.Common.{◌≡◌, refl, sym, ◌∙◌, Bool, true, false, List, [], ◌∷◌, length, ◌<◌}
 use Rattle.std.proofs.Common.{arith}
 use Rattle.grammars.specs.First.{may_begin}
-use Rattle.grammars.specs.Grammar.{Either, One, Sign, Then, To}
+use Rattle.grammars.specs.Grammar.{One, Sign, Then, To}
 use Rattle.grammars.specs.Machine.{is_nullable}
 use Rattle.std.specs.Prelude.{Result, Ok, Err}
 use Rattle.std.specs.Borrow.{Bor}
@@ -17,9 +17,8 @@ use Rattle.declarations.specs.declared.explore.Seen.{Seen}
 use Rattle.declarations.specs.declared.syntax.Test.TheVariants as tests
 use Rattle.declarations.specs.rules.Fronts.{is_segment}
 use Rattle.declarations.specs.rules.Items.{call, use_path, use_segment}
-use Rattle.declarations.specs.rules.Names.{Call, G, Name, UsePath, one}
+use Rattle.declarations.specs.rules.Names.{Call, G, Name, one}
 use Rattle.declarations.specs.rules.Rules.{rules}
-use Rattle.declarations.proofs.ClassLemmas.{same_class}
 use Rattle.declarations.proofs.ExploreLemmas.{none_seen}
 use Rattle.declarations.proofs.ExplorePathLemmas.{step_goes}
 use Rattle.declarations.proofs.FieldLemmas.{begins_as}

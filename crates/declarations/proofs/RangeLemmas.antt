@@ -1,14 +1,14 @@
 -- Within types and bounds the tables take the steps of the grammar.
-use Rattle.std.proofs.Common.{◌≡◌, refl, sym, ◌∙◌, ap, ℕ, zero, suc, ◌+◌, ◌-◌, ◌==◌, Bool, true, false, List, [], ◌∷◌}
-use Rattle.std.proofs.Common.{◌++◌, Option, Some, None, arith, eqb-true, ◌&&◌, if◌then◌else◌}
+use Rattle.std.proofs.Common.{◌≡◌, refl, ap, ℕ, zero, suc, ◌+◌, ◌-◌, ◌==◌, Bool, true, false, List, [], ◌∷◌}
+use Rattle.std.proofs.Common.{◌++◌, Option, Some, None, arith, eqb-true, ◌&&◌}
 use Rattle.std.proofs.lemmas.Bool.{both_ways, false_from_ne_true}
 use Rattle.grammars.specs.Grammar.{To}
-use Rattle.grammars.specs.Machine.{is_nullable, only, or_else}
+use Rattle.grammars.specs.Machine.{is_nullable}
 use Rattle.grammars.specs.Machine as machine
-use Rattle.grammars.proofs.FlatLemmas.{and_more, enter, flat, move}
+use Rattle.grammars.proofs.FlatLemmas.{flat, move}
 use Rattle.item_tables.specs.Classes.{is}
 use Rattle.item_tables.specs.TypeStep.{may_end, step_of}
-use Rattle.item_tables.specs.Walk.{after_angle, after_range, depth_after, else_for, ends, for_step, range_state, step}
+use Rattle.item_tables.specs.Walk.{after_angle, after_range, depth_after, else_for, range_state, step}
 use Rattle.declarations.specs.rules.Names.{G, Inside, Name, Outside, Range, Target}
 use Rattle.declarations.specs.rules.Rules.{rules}
 use Rattle.declarations.specs.rules.Types.{range}
@@ -25,7 +25,7 @@ use Rattle.item_tables.specs.declared.types.Turn.TheVariants as turns
 use Rattle.item_tables.specs.declared.types.TypeState.{TypeState}
 use Rattle.item_tables.specs.declared.types.TypeState.TheVariants as types
 use Rattle.item_tables.specs.declared.types.TypeStep.{TypeStep}
-use Rattle.declarations.proofs.StackLemmas.{after_brackets, brackets_left, comes_outside, context_of, left_after}
+use Rattle.declarations.proofs.StackLemmas.{after_brackets, brackets_left, left_after}
 use Rattle.declarations.proofs.StackLemmas.{range_left, stack_after, state_left}
 use Rattle.declarations.proofs.AgreeLemmas.{Agrees, EndsAgree}
 

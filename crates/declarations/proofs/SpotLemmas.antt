@@ -1,5 +1,5 @@
 -- In each state of an expression the tables take the steps of the grammar.
-use Rattle.std.proofs.Common.{◌≡◌, refl, [], ◌∷◌, Some}
+use Rattle.std.proofs.Common.{◌≡◌, refl, [], ◌∷◌}
 use Rattle.grammars.specs.Machine as machine
 use Rattle.grammars.proofs.FlatLemmas.{move}
 use Rattle.item_tables.specs.Expression.{spot_ends, spot_step}

@@ -11,6 +11,7 @@ pub mod Whole
 pub mod Expected
 pub mod ExpectedText
 pub mod Syntax
+pub mod GoalSyntax
 pub mod Explore
 pub mod ExplorePath
 pub mod ExploreItem

@@ -25,7 +25,6 @@ use Rattle.declarations.specs.rules.Expressions.{expression}
 use Rattle.declarations.specs.rules.Names as names
 use Rattle.declarations.specs.rules.Names.{G, Inside, Label, Name, Outside, Range, Target, comma_list}
 use Rattle.declarations.specs.rules.Parameters as parameters
-use Rattle.declarations.specs.rules.Parts as parts
 use Rattle.declarations.specs.rules.Paths as paths
 use Rattle.declarations.specs.rules.Pieces.{ReadsBy}
 use Rattle.declarations.specs.rules.Types.{all_operand, angle, bounds, named_operand, operand_but, other_operand}
@@ -164,7 +163,7 @@ name_of goals.UsePath = names.UsePath
 name_of goals.Call = names.Call
 name_of goals.TargetRest = Range types.Whole Target
 
--- a number for the named rule: that of its data in src/item_syntax.rt and src/impl_syntax.rt
+-- a number for the named rule: at least that of its data, which src/goal_syntax.rt names
 abbrev pub goal_size : Goal → ℕ
 goal_size goals.Function = 344
 goal_size goals.Qualified = 703

@@ -17,12 +17,8 @@ ghost use Rattle.item_tables.specs.declared.class.SignClass.TheVariants as signs
 
 use crate::expected::{CLASSES, Expected};
 use crate::fault::Fault;
-use crate::header_syntax::{
-    ALIAS, ASYNC_FRONT, CONST_FRONT, ENUM, FUNCTION_FRONT, FUNCTION_ITEM, MODULE, STATIC, STRUCT,
-    TRAIT,
-};
-use crate::impl_syntax::{IMPL_FRONT, TARGET_REST};
-use crate::item_syntax::{MARKED_CALL, USE, USE_END, USE_LIST};
+use crate::goal_syntax::{NamedRule, named_rule};
+use crate::item_syntax::{MARKED_CALL, USE_END, USE_LIST};
 use crate::reader::is;
 use crate::signs::first_sign;
 use crate::syntax::{Goal, Guard, Label, Syntax, Table, Test, admits, passes, start_of, table_of};
@@ -276,23 +272,10 @@ pub(crate) fn explore<'a>(syntax: &Syntax<'_>, trees: &'a [TokenTree]) -> Seen<'
 fn explore_goal(goal: Goal, trees: &[TokenTree]) -> Seen<'_>
     ensures { Sees (rules (name_of goal)) trees.now result }
 {
-    match goal {
-        Goal::Function => explore(&FUNCTION_ITEM, trees),
-        Goal::Qualified => explore(&FUNCTION_FRONT, trees),
-        Goal::Async => explore(&ASYNC_FRONT, trees),
-        Goal::Constant => explore(&CONST_FRONT, trees),
-        Goal::Static => explore(&STATIC, trees),
-        Goal::Alias => explore(&ALIAS, trees),
-        Goal::Struct => explore(&STRUCT, trees),
-        Goal::Enum => explore(&ENUM, trees),
-        Goal::Union => explore(&ENUM, trees),
-        Goal::Trait => explore(&TRAIT, trees),
-        Goal::Impl => explore(&IMPL_FRONT, trees),
-        Goal::Module => explore(&MODULE, trees),
-        Goal::Use => explore(&USE, trees),
-        Goal::UsePath => explore_use_path(trees),
-        Goal::Call => explore_call(trees),
-        Goal::TargetRest => explore(&TARGET_REST, trees),
+    match named_rule(goal) {
+        NamedRule::Data(syntax) => explore(syntax, trees),
+        NamedRule::Call => explore_call(trees),
+        NamedRule::UsePath => explore_use_path(trees),
     }
 }
 

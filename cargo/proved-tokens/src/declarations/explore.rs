@@ -3,12 +3,8 @@
 
 use crate::declarations::expected::{CLASSES, Expected};
 use crate::declarations::fault::Fault;
-use crate::declarations::header_syntax::{
-    ALIAS, ASYNC_FRONT, CONST_FRONT, ENUM, FUNCTION_FRONT, FUNCTION_ITEM, MODULE, STATIC, STRUCT,
-    TRAIT,
-};
-use crate::declarations::impl_syntax::{IMPL_FRONT, TARGET_REST};
-use crate::declarations::item_syntax::{MARKED_CALL, USE, USE_END, USE_LIST};
+use crate::declarations::goal_syntax::{NamedRule, named_rule};
+use crate::declarations::item_syntax::{MARKED_CALL, USE_END, USE_LIST};
 use crate::declarations::reader::is;
 use crate::declarations::signs::first_sign;
 use crate::declarations::syntax::{Goal, Guard, Label, Syntax, Table, Test, admits, passes, start_of, table_of};
@@ -239,23 +235,10 @@ pub(crate) fn explore<'a>(syntax: &Syntax<'_>, trees: &'a [TokenTree]) -> Seen<'
 /// Reads by the named rule.
 fn explore_goal(goal: Goal, trees: &[TokenTree]) -> Seen<'_>
 {
-    match goal {
-        Goal::Function => explore(&FUNCTION_ITEM, trees),
-        Goal::Qualified => explore(&FUNCTION_FRONT, trees),
-        Goal::Async => explore(&ASYNC_FRONT, trees),
-        Goal::Constant => explore(&CONST_FRONT, trees),
-        Goal::Static => explore(&STATIC, trees),
-        Goal::Alias => explore(&ALIAS, trees),
-        Goal::Struct => explore(&STRUCT, trees),
-        Goal::Enum => explore(&ENUM, trees),
-        Goal::Union => explore(&ENUM, trees),
-        Goal::Trait => explore(&TRAIT, trees),
-        Goal::Impl => explore(&IMPL_FRONT, trees),
-        Goal::Module => explore(&MODULE, trees),
-        Goal::Use => explore(&USE, trees),
-        Goal::UsePath => explore_use_path(trees),
-        Goal::Call => explore_call(trees),
-        Goal::TargetRest => explore(&TARGET_REST, trees),
+    match named_rule(goal) {
+        NamedRule::Data(syntax) => explore(syntax, trees),
+        NamedRule::Call => explore_call(trees),
+        NamedRule::UsePath => explore_use_path(trees),
     }
 }
 

@@ -1,4 +1,4 @@
-use Rattle.std.proofs.Common.{◌∙◌, ap, refl, sym, length, arith}
+use Rattle.std.proofs.Common.{◌≡◌, ◌∙◌, ap, refl, subst, sym, length, arith}
 use Rattle.grammars.specs.Grammar.{Sign, Then, To}
 use Rattle.declarations.specs.Syntax.{grammar_of, name_of, test_of}
 use Rattle.declarations.proofs.ExploreLemmas.{lists_element, lists_end, lists_more, lists_none, lists_stuck}
@@ -8,7 +8,10 @@ use Rattle.item_tables.specs.declared.class.SignClass.TheVariants as classes
 use Rattle.declarations.proofs.ReaderLemmas.{remains_sign, remains_within}
 use Rattle.declarations.proofs.GoalLemmas.{import_goes, onward_on, onward_self, segment_goes, segmented}
 use Rattle.declarations.proofs.GoalLemmas.{segmented_begins, separated, to_seen}
+use Rattle.declarations.specs.Explore.{Sees}
+use Rattle.declarations.specs.GoalSyntax.{LeadsTo}
 use Rattle.declarations.specs.ItemRest.{is_use_list}
+use Rattle.declarations.specs.declared.syntax.Goal.TheVariants as goals
 use Rattle.item_tables.specs.Classes.{is}
 use Rattle.declarations.specs.rules.Items.{call, call_name, use_path}
 use Rattle.declarations.specs.rules.Bodies.{semicolon}
@@ -205,26 +208,17 @@ explore_use_path-returns-in-Err t c =
 
 -- ---- named rules
 
-pub explore_goal-returns-in-Function : goal.explore_goal-returns-in-Function
-explore_goal-returns-in-Function t c = rw c.in-Function.is c.explore.ensures
+pub explore_goal-returns-in-Data : goal.explore_goal-returns-in-Data
+explore_goal-returns-in-Data t c =
+    let led = subst (LeadsTo c.args.goal) c.in-Data.is c.named_rule.ensures in
+    subst (λ g. Sees g c.args.trees.now c.explore.result) led.0 c.explore.ensures
 
-pub explore_goal-returns-in-Constant : goal.explore_goal-returns-in-Constant
-explore_goal-returns-in-Constant t c = rw c.in-Constant.is c.explore-in-Constant.ensures
+pub explore_goal-returns-in-Call : goal.explore_goal-returns-in-Call
+explore_goal-returns-in-Call t c =
+    let called : c.args.goal ≡ goals.Call = subst (LeadsTo c.args.goal) c.in-Call.is c.named_rule.ensures in
+    rw called c.explore_call.ensures
 
-pub explore_goal-returns-in-Alias : goal.explore_goal-returns-in-Alias
-explore_goal-returns-in-Alias t c = rw c.in-Alias.is c.explore-in-Alias.ensures
-
-pub explore_goal-returns-in-Struct : goal.explore_goal-returns-in-Struct
-explore_goal-returns-in-Struct t c = rw c.in-Struct.is c.explore-in-Struct.ensures
-
-pub explore_goal-returns-in-Enum : goal.explore_goal-returns-in-Enum
-explore_goal-returns-in-Enum t c = rw c.in-Enum.is c.explore-in-Enum.ensures
-
-pub explore_goal-returns-in-Union : goal.explore_goal-returns-in-Union
-explore_goal-returns-in-Union t c = rw c.in-Union.is c.explore-in-Union.ensures
-
-pub explore_goal-returns-in-Trait : goal.explore_goal-returns-in-Trait
-explore_goal-returns-in-Trait t c = rw c.in-Trait.is c.explore-in-Trait.ensures
-
-pub explore_goal-returns-in-Impl : goal.explore_goal-returns-in-Impl
-explore_goal-returns-in-Impl t c = rw c.in-Impl.is c.explore-in-Impl.ensures
+pub explore_goal-returns-in-UsePath : goal.explore_goal-returns-in-UsePath
+explore_goal-returns-in-UsePath t c =
+    let called : c.args.goal ≡ goals.UsePath = subst (LeadsTo c.args.goal) c.in-UsePath.is c.named_rule.ensures in
+    rw called c.explore_use_path.ensures
