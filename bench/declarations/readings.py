@@ -328,6 +328,7 @@ RULES = [
         "Const Static Mut Word Underscore Colon Equals Semicolon Less Greater",
         "Type Word Colon Equals Semicolon Where Plus Comma",
         "Trait Unsafe Auto Word Colon Equals Braces Where",
+        "Trait Const Default Auto Unsafe Word Colon Equals Braces Semicolon",
         "Impl Less Greater Word Colon Comma For Braces",
         "Impl Const Exclamation Word For Where Braces Colon",
         "Impl Less Greater Lifetime Hash Brackets As PathSeparator Word Braces",

@@ -9,7 +9,7 @@ use Rattle.grammars.specs.Grammar.{Either, Event, Marked, One, Then, To, perhaps
 use Rattle.grammars.specs.Machine.{step}
 use Rattle.grammars.proofs.FindLemmas.{scan_step}
 use Rattle.pm_stream.specs.declared.stream.TokenTree.{TokenTree}
-use Rattle.declarations.specs.ItemFront.{IsKindAt, ReadsAfter, ReadsConstant, ReadsKind}
+use Rattle.declarations.specs.ItemFront.{IsKindAt, ReadsAfter, ReadsConstant, ReadsKind, ReadsNamed}
 use Rattle.declarations.specs.ItemRest.{is_new_name}
 use Rattle.declarations.specs.Kind.{named_rule}
 use Rattle.declarations.specs.Parameter.{LeadsTo}
@@ -25,11 +25,11 @@ use Rattle.item_tables.specs.declared.class.Keyword.TheVariants as keywords
 use Rattle.item_tables.specs.declared.class.Word.TheVariants as words
 use Rattle.declarations.specs.rules.Bodies.{constant_rest}
 use Rattle.declarations.specs.rules.Fronts.{async_front, const_front, function_front, gen_front, new_name, safe_front}
-use Rattle.declarations.specs.rules.Names.{G, Label, Named, Static, key}
+use Rattle.declarations.specs.rules.Names.{G, Label, Named, Static, Trait, key}
 use Rattle.declarations.specs.rules.Rules.{rules}
 use Rattle.declarations.proofs.ItemFrontLemmas.{after_as, after_kind, begins_as, keyword_kind, kind_after, kind_leads}
-use Rattle.declarations.proofs.ItemFrontLemmas.{kind_other, kind_qualified, leads_first, leads_other, same_trees}
-use Rattle.declarations.proofs.ItemFrontLemmas.{sign_qualifies}
+use Rattle.declarations.proofs.ItemFrontLemmas.{kind_keyword, kind_other, kind_qualified, leads_first, leads_other}
+use Rattle.declarations.proofs.ItemFrontLemmas.{same_trees, sign_qualifies}
 use Rattle.declarations.proofs.ParameterLemmas.{leads_finds, leads_sign, leads_sticks}
 use Rattle.declarations.proofs.ReaderLemmas.{classes_sign, heads_none, heads_sign, lacks, mark_finds, remains_sign}
 use Rattle.declarations.proofs.ReaderLemmas.{sign_finds, then_fails, then_finds}
@@ -162,27 +162,40 @@ const_unsafe trees mid class b result at e h f =
     (kind_qualified const_front function_front (signs.Keyword keywords.Unsafe) trees mid result
     (begins_as trees mid (signs.Keyword keywords.Unsafe) class b at e h) refl refl f)
 
+pub const_trait : (trees mid : List TokenTree) (class : SignClass) (b : Bool)
+    (result : Result FoundItem (Bor (List TokenTree))) → BeginsWith trees class mid
+    → b ≡ is (signs.Keyword keywords.Trait) class → b ≡ true
+    → ReadsNamed (key keywords.Trait) (rules Trait) mid result
+    → ReadsAfter (signs.Keyword keywords.Const) const_front trees result
+const_trait trees mid class b result at e h f =
+    after_kind (signs.Keyword keywords.Const) const_front trees result refl
+    (kind_keyword const_front (rules Trait) (signs.Keyword keywords.Trait) trees mid result
+    (begins_as trees mid (signs.Keyword keywords.Trait) class b at e h) refl refl f)
+
 -- any other sign after `const` begins a function, or nothing
 function_step : (c : SignClass) → is (signs.Keyword keywords.Async) c ≡ false
-    → is (signs.Keyword keywords.Unsafe) c ≡ false → is_new_name c ≡ false
+    → is (signs.Keyword keywords.Unsafe) c ≡ false → is (signs.Keyword keywords.Trait) c ≡ false
+    → is_new_name c ≡ false
     → step rules (const_front ∷ []) c ≡ step rules (function_front ∷ []) c
-function_step (signs.Keyword keywords.Async) a u n = absurd (both_ways _ a refl)
-function_step (signs.Keyword keywords.Unsafe) a u n = absurd (both_ways _ u refl)
-function_step (signs.Keyword _) a u n = refl
-function_step (signs.Word words.Auto) a u n = absurd (both_ways _ n refl)
-function_step (signs.Word _) a u n = absurd (both_ways _ n refl)
-function_step signs.Underscore a u n = absurd (both_ways _ n refl)
-function_step _ a u n = refl
+function_step (signs.Keyword keywords.Async) a u t n = absurd (both_ways _ a refl)
+function_step (signs.Keyword keywords.Unsafe) a u t n = absurd (both_ways _ u refl)
+function_step (signs.Keyword keywords.Trait) a u t n = absurd (both_ways _ t refl)
+function_step (signs.Keyword _) a u t n = refl
+function_step (signs.Word words.Auto) a u t n = absurd (both_ways _ n refl)
+function_step (signs.Word _) a u t n = absurd (both_ways _ n refl)
+function_step signs.Underscore a u t n = absurd (both_ways _ n refl)
+function_step _ a u t n = refl
 
-pub const_function : (trees rest : List TokenTree) (class : SignClass) (a u n : Bool)
+pub const_function : (trees rest : List TokenTree) (class : SignClass) (a u t n : Bool)
     (result : Result FoundItem (Bor (List TokenTree))) → BeginsWith trees class rest
     → a ≡ is (signs.Keyword keywords.Async) class → a ≡ false → u ≡ is (signs.Keyword keywords.Unsafe) class → u ≡ false
-    → n ≡ is_new_name class → n ≡ false → ReadsKind function_front trees result
+    → t ≡ is (signs.Keyword keywords.Trait) class → t ≡ false → n ≡ is_new_name class → n ≡ false
+    → ReadsKind function_front trees result
     → ReadsAfter (signs.Keyword keywords.Const) const_front trees result
-const_function trees rest class a u n result at a_is no_async u_is no_unsafe n_is no_name f =
+const_function trees rest class a u t n result at a_is no_async u_is no_unsafe t_is no_trait n_is no_name f =
     after_as (signs.Keyword keywords.Const) const_front function_front trees result
     (same_trees const_front function_front trees rest class at refl refl
-    (function_step class (sym a_is ∙ no_async) (sym u_is ∙ no_unsafe) (sym n_is ∙ no_name)))
+    (function_step class (sym a_is ∙ no_async) (sym u_is ∙ no_unsafe) (sym t_is ∙ no_trait) (sym n_is ∙ no_name)))
     (after_kind (signs.Keyword keywords.Const) function_front trees result refl f)
 
 pub const_none : (trees : List TokenTree) → trees ≡ [] → Sticks const_front trees trees
@@ -196,6 +209,7 @@ pub ruleset constants = (
   plain_constant,
   const_async,
   const_unsafe,
+  const_trait,
   const_function,
   const_none,
 )

@@ -20,6 +20,7 @@ use crate::item_paths::is_new_name;
 use crate::item_rest::{past_constant_rest, past_function, past_static_rest};
 use crate::reader::is;
 use crate::signs::first_sign;
+use crate::trait_rest::past_trait;
 use item_tables::class::{Keyword, SignClass, Word};
 use pm_stream::TokenTree;
 
@@ -233,7 +234,7 @@ fn past_const_word<'a>(
     constant_of(trees, rest)
 }
 
-/// Reads a constant or a function after its `const`.
+/// Reads a constant, a function or a trait after its `const`.
 #[tactic(auto, using(crate::proofs::ConstantLemmas::constants))]
 pub(crate) fn past_const(trees: &[TokenTree]) -> Result<FoundItem<'_>, &[TokenTree]>
     ensures { ReadsAfter (signs.Keyword keywords.Const) const_front trees.now result }
@@ -245,6 +246,9 @@ pub(crate) fn past_const(trees: &[TokenTree]) -> Result<FoundItem<'_>, &[TokenTr
             }
             if is(SignClass::Keyword(Keyword::Unsafe), class) {
                 return past_function_front(rest);
+            }
+            if is(SignClass::Keyword(Keyword::Trait), class) {
+                return past_trait(rest);
             }
             if is_new_name(class) {
                 return past_const_word(class, trees, rest);

@@ -196,18 +196,21 @@ pub(crate) const CONST_FRONT: Syntax<'static> = Syntax::Either(
         &Syntax::Either(
             &FUNCTION_FRONT,
             &Syntax::Either(
-                &Syntax::Then(
-                    &Syntax::Sign(Test::Is(SignClass::Word(Word::Safe))),
-                    &Syntax::Either(&FUNCTION_FRONT, &CONSTANT_REST),
-                ),
+                &Syntax::To(Test::Is(SignClass::Keyword(Keyword::Trait)), Goal::Trait),
                 &Syntax::Either(
                     &Syntax::Then(
-                        &Syntax::Sign(Test::Is(SignClass::Word(Word::Gen))),
-                        &Syntax::Either(&GEN_FRONT, &CONSTANT_REST),
+                        &Syntax::Sign(Test::Is(SignClass::Word(Word::Safe))),
+                        &Syntax::Either(&FUNCTION_FRONT, &CONSTANT_REST),
                     ),
-                    &Syntax::Then(
-                        &Syntax::Mark(Label::Named),
-                        &Syntax::Then(&Syntax::Sign(Test::ConstantName), &CONSTANT_REST),
+                    &Syntax::Either(
+                        &Syntax::Then(
+                            &Syntax::Sign(Test::Is(SignClass::Word(Word::Gen))),
+                            &Syntax::Either(&GEN_FRONT, &CONSTANT_REST),
+                        ),
+                        &Syntax::Then(
+                            &Syntax::Mark(Label::Named),
+                            &Syntax::Then(&Syntax::Sign(Test::ConstantName), &CONSTANT_REST),
+                        ),
                     ),
                 ),
             ),

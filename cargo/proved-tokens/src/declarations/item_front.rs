@@ -8,6 +8,7 @@ use crate::declarations::item_paths::is_new_name;
 use crate::declarations::item_rest::{past_constant_rest, past_function, past_static_rest};
 use crate::declarations::reader::is;
 use crate::declarations::signs::first_sign;
+use crate::declarations::trait_rest::past_trait;
 use crate::item_tables::class::{Keyword, SignClass, Word};
 use crate::pm_stream::TokenTree;
 
@@ -195,7 +196,7 @@ fn past_const_word<'a>(
     constant_of(trees, rest)
 }
 
-/// Reads a constant or a function after its `const`.
+/// Reads a constant, a function or a trait after its `const`.
 pub(crate) fn past_const(trees: &[TokenTree]) -> Result<FoundItem<'_>, &[TokenTree]>
 {
     match first_sign(trees) {
@@ -205,6 +206,9 @@ pub(crate) fn past_const(trees: &[TokenTree]) -> Result<FoundItem<'_>, &[TokenTr
             }
             if is(SignClass::Keyword(Keyword::Unsafe), class) {
                 return past_function_front(rest);
+            }
+            if is(SignClass::Keyword(Keyword::Trait), class) {
+                return past_trait(rest);
             }
             if is_new_name(class) {
                 return past_const_word(class, trees, rest);

@@ -108,6 +108,7 @@ const_front = alt (
     To (keyword keywords.Async) Async
     ∷ To (keyword keywords.Unsafe) Qualified
     ∷ function_front
+    ∷ To (keyword keywords.Trait) Trait
     ∷ Then (one (signs.Word words.Safe)) (Either function_front constant_rest)
     ∷ Then (one (signs.Word words.Gen)) (Either gen_front constant_rest)
     ∷ seq (Mark Named ∷ Sign is_constant_name ∷ constant_rest ∷ [])

@@ -180,6 +180,28 @@ fn what_comes_first_leads_to_the_kind(rt: HostRuntime) {
 }
 
 #[test]
+fn a_trait_may_have_const_before_it(rt: HostRuntime) {
+    check(
+        &rt,
+        &[
+            ("const trait T { fn f(); } x", 4, ItemKind::Trait, "T"),
+            ("pub const trait T: A {} x", 7, ItemKind::Trait, "T"),
+            (
+                "#[a] pub(crate) const trait T<U> where U: A {}",
+                15,
+                ItemKind::Trait,
+                "T",
+            ),
+            ("default const trait T {} x", 5, ItemKind::Trait, "T"),
+            ("const trait T = A + B; x", 8, ItemKind::TraitAlias, "T"),
+            ("const trait gen {}", 4, ItemKind::Trait, "gen"),
+            ("const r#trait: u8 = 1;", 7, ItemKind::Constant, "r#trait"),
+            ("const auto: u8 = 1;", 7, ItemKind::Constant, "auto"),
+        ],
+    );
+}
+
+#[test]
 fn the_path_of_a_macro_call_may_begin_with_any_word(rt: HostRuntime) {
     check(
         &rt,

@@ -151,7 +151,7 @@ const WHERE: SignClass = SignClass::Keyword(Keyword::Where);
 
 #[test]
 fn an_error_has_the_signs_that_can_come_next(rt: HostRuntime) -> Result<(), Fail> {
-    let rows: [Row<'_>; 10] = [
+    let rows: [Row<'_>; 11] = [
         (
             Call::ParseTypeItem,
             "struct 5",
@@ -193,6 +193,19 @@ fn an_error_has_the_signs_that_can_come_next(rt: HostRuntime) -> Result<(), Fail
                 SignClass::Exclamation,
             ],
             &[SignClass::Braces, SignClass::Semicolon, SignClass::Arrow],
+            false,
+        ),
+        (
+            Call::ParseItem,
+            "const struct",
+            1,
+            &[
+                NAME,
+                SignClass::Underscore,
+                SignClass::Keyword(Keyword::Fn),
+                SignClass::Keyword(Keyword::Trait),
+            ],
+            &[SignClass::Keyword(Keyword::Struct), SignClass::Colon],
             false,
         ),
         (
@@ -791,7 +804,7 @@ fn an_error_of_a_pattern_says_what_was_expected(rt: HostRuntime) -> Result<(), F
 
 #[test]
 fn an_error_of_a_list_or_a_path_says_what_was_expected(rt: HostRuntime) -> Result<(), Fail> {
-    let rows: [(Call, &str, &str); 9] = [
+    let rows: [(Call, &str, &str); 10] = [
         (
             Call::FieldList,
             "a: u8 b: u8",
@@ -809,6 +822,11 @@ fn an_error_of_a_list_or_a_path_says_what_was_expected(rt: HostRuntime) -> Resul
         ),
         (Call::ArgumentList, "- x", "expected a literal"),
         (Call::File, "fn f() {} struct 5", "expected a name"),
+        (
+            Call::ParseItem,
+            "const struct",
+            "expected a name, `fn`, `trait` or `unsafe`, among others",
+        ),
         (Call::Param, "'a = 1", "expected `,`, `:` or the end"),
         (Call::Param, "const N = 1", "expected `:`"),
         (Call::Path, "F(A) = B", "expected `->`, `::` or the end"),

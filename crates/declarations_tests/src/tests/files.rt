@@ -118,6 +118,16 @@ fn a_file_has_inner_attributes_and_items(rt: HostRuntime) {
             (ItemKind::Impl, 9),
         ],
     );
+    check_file(
+        &rt,
+        "const trait T { fn f(); } pub const trait U: A {} const X: u8 = 1;",
+        0,
+        &[
+            (ItemKind::Trait, 4),
+            (ItemKind::Trait, 0),
+            (ItemKind::Constant, 0),
+        ],
+    );
 }
 
 #[test]

@@ -155,7 +155,7 @@ const WHERE: SignClass = SignClass::Keyword(Keyword::Where);
 #[test]
 fn an_error_has_the_signs_that_can_come_next() -> Result<(), Fail> {
     let rt = HostRuntime;
-    let rows: [Row<'_>; 10] = [
+    let rows: [Row<'_>; 11] = [
         (
             Call::ParseTypeItem,
             "struct 5",
@@ -197,6 +197,19 @@ fn an_error_has_the_signs_that_can_come_next() -> Result<(), Fail> {
                 SignClass::Exclamation,
             ],
             &[SignClass::Braces, SignClass::Semicolon, SignClass::Arrow],
+            false,
+        ),
+        (
+            Call::ParseItem,
+            "const struct",
+            1,
+            &[
+                NAME,
+                SignClass::Underscore,
+                SignClass::Keyword(Keyword::Fn),
+                SignClass::Keyword(Keyword::Trait),
+            ],
+            &[SignClass::Keyword(Keyword::Struct), SignClass::Colon],
             false,
         ),
         (
@@ -799,7 +812,7 @@ fn an_error_of_a_pattern_says_what_was_expected() -> Result<(), Fail> {
 #[test]
 fn an_error_of_a_list_or_a_path_says_what_was_expected() -> Result<(), Fail> {
     let rt = HostRuntime;
-    let rows: [(Call, &str, &str); 9] = [
+    let rows: [(Call, &str, &str); 10] = [
         (
             Call::FieldList,
             "a: u8 b: u8",
@@ -817,6 +830,11 @@ fn an_error_of_a_list_or_a_path_says_what_was_expected() -> Result<(), Fail> {
         ),
         (Call::ArgumentList, "- x", "expected a literal"),
         (Call::File, "fn f() {} struct 5", "expected a name"),
+        (
+            Call::ParseItem,
+            "const struct",
+            "expected a name, `fn`, `trait` or `unsafe`, among others",
+        ),
         (Call::Param, "'a = 1", "expected `,`, `:` or the end"),
         (Call::Param, "const N = 1", "expected `:`"),
         (Call::Path, "F(A) = B", "expected `->`, `::` or the end"),
