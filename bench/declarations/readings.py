@@ -358,14 +358,15 @@ RULES = [
         "Keyword SelfType Super Crate SelfValue Underscore",
         "Truth Literal Minus Infix Equals Exclamation", "Word Dot Bar Comma Infix Brackets Invisible",
         "Restriction Visibility Braces Less Greater Plus", "Word Block Invisible Less Greater",
-        "Dot Literal Equals Less Greater Word Colon"]),
+        "Dot Literal Equals Less Greater Word Colon", "Word Infix Dot Equals SelfValue PathSeparator And Mut"]),
     ("fn_parameter", "Parameters.function_parameter", [
         "Hash Brackets SelfValue Mut And Lifetime Colon Word", "And Mut SelfValue Word Colon Dot Comma",
         "Dot Colon Word SelfValue Hash Brackets Mut", "Word Less Greater PathSeparator Colon Braces Comma",
         "Mut Keyword SelfType Super Crate Underscore Colon", "And Truth Literal Minus Infix Equals Colon Word",
         "Exclamation Braces Parentheses Restriction Invisible Visibility Colon And",
         "Less LessJoint Greater Lifetime Colon Plus Mut", "Word Colon Arrow Exclamation Brackets Dot And",
-        "Word Colon Block Less Greater Invisible", "Dot Literal Equals Less Greater Colon And Mut"]),
+        "Word Colon Block Less Greater Invisible", "Dot Literal Equals Less Greater Colon And Mut",
+        "Word Infix Dot Equals SelfValue PathSeparator Colon"]),
     ("fn_parameters", "Parameters.function_parameters", [
         "Word Colon Comma SelfValue And Dot", "Hash Brackets Mut SelfValue Comma Word Colon",
         "Word Colon Comma Less Greater Parentheses", "Dot Literal Equals Colon Comma Word"]),

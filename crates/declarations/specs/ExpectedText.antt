@@ -140,7 +140,7 @@ all_names =
     (mask_of (others no_operators), codes "an operator") ∷
     (one signs.Greater, codes "`>`") ∷
     (one signs.Colon, codes "`:`") ∷ (
-      mask_of (signs.Braces ∷ signs.Equals ∷ signs.Exclamation ∷ signs.Infix ∷ patterns),
+      mask_of (signs.SelfValue ∷ signs.Braces ∷ signs.Equals ∷ signs.Exclamation ∷ signs.Infix ∷ patterns),
       codes "more of the pattern",
     ) ∷
     (one signs.Equals, codes "`=`") ∷ (

@@ -22,7 +22,7 @@ const NAMES: [(u128, &str); 104] = [
     (0x5_cfeb_dfb3_41ff_ffe0, "an operator"),
     (1 << 49, "`>`"),
     (1 << 51, "`:`"),
-    (0x9_8aa1_de14_bd00_801f, "more of the pattern"),
+    (0x9_8aa1_de14_bf00_801f, "more of the pattern"),
     (1 << 53, "`=`"),
     (0xc_2f81_de1c_be60_9ebf, "a generic argument"),
     (0x8_0080_0017_dfff_ffff, "an entry"),

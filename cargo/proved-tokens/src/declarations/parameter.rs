@@ -68,6 +68,7 @@ pub(crate) fn continues(class: SignClass) -> bool
 {
     match class {
         SignClass::Braces
+        | SignClass::SelfValue
         | SignClass::Exclamation
         | SignClass::Dot
         | SignClass::Equals
@@ -533,9 +534,10 @@ pub fn parse_parameter(trees: &[TokenTree]) -> Result<(Parameter<'_>, &[TokenTre
 /// Returns the pattern at the start of the trees, and the trees after it.
 ///
 /// A pattern is not parsed; only its end is found, which is before the first sign that can be in no pattern, such as
-/// `:`. The pattern is one of a parameter: it has no `self`, and `|` only in groups. A keyword such as `in` does not
-/// end it. It may begin with `..`, and `...` alone is a pattern here. The call is for trees of a macro's own grammar,
-/// such as the parameters of a closure. For `(a, b): (A, B)` the pattern is `(a, b)`.
+/// `:`. The pattern is one of a parameter: it does not begin with `self`, and has `|` only in groups. A keyword such as
+/// `in` does not end it. It may begin with `..`, and `...` alone is a pattern here. A `self` after a first `&` or `mut`
+/// is in the pattern here too. The call is for trees of a macro's own grammar, such as the parameters of a closure. For
+/// `(a, b): (A, B)` the pattern is `(a, b)`.
 ///
 /// # Contract
 ///

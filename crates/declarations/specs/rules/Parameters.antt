@@ -22,7 +22,9 @@ is_pattern c =
 
 -- whether the sign can be in a pattern after its first sign
 abbrev pub continues : SignClass → Bool
-continues c = is_pattern c || one_of (signs.Braces ∷ signs.Exclamation ∷ signs.Dot ∷ signs.Equals ∷ signs.Infix ∷ []) c
+continues c =
+    is_pattern c || one_of (signs.SelfValue ∷ signs.Braces ∷ signs.Exclamation ∷ signs.Dot ∷ signs.Equals ∷ signs.Infix
+    ∷ []) c
 
 -- one more sign of a pattern
 abbrev pub pattern_sign : G

@@ -361,8 +361,12 @@ fn an_error_of_a_part_has_the_signs_that_can_come_next() -> Result<(), Fail> {
             Call::Parameter,
             "x ;",
             1,
-            &[SignClass::Colon, SignClass::PathSeparator, SignClass::Less],
-            &[SignClass::Comma, SignClass::SelfValue],
+            &[
+                SignClass::Colon,
+                SignClass::PathSeparator,
+                SignClass::SelfValue,
+            ],
+            &[SignClass::Comma, SignClass::Lifetime],
             false,
         ),
         (

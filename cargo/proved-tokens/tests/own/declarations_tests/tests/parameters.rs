@@ -176,6 +176,23 @@ fn a_pattern_may_begin_with_two_dots() {
 }
 
 #[test]
+fn a_pattern_may_have_self_after_its_first_sign() {
+    let rt = HostRuntime;
+    check(
+        &rt,
+        &[
+            ("x @ self::A: T", &[Parts::Typed(0, 6, 1)]),
+            ("0..=self::MAX: u8", &[Parts::Typed(0, 8, 1)]),
+            ("..=self::MAX: u8", &[Parts::Typed(0, 7, 1)]),
+            ("&x @ self::A(a): &A", &[Parts::Typed(0, 8, 2)]),
+            ("mut x @ self::A: A", &[Parts::Typed(0, 7, 1)]),
+            ("&&self::A(a): &&A", &[Parts::Typed(0, 7, 3)]),
+            ("x @ self::A", &[Parts::Fault(6)]),
+        ],
+    );
+}
+
+#[test]
 fn types_end_at_their_commas() {
     let rt = HostRuntime;
     check(
@@ -243,8 +260,12 @@ fn a_fault_ends_the_parameters() {
             ("&self: A", &[Parts::Fault(2)]),
             ("&'a mut self: A", &[Parts::Fault(5)]),
             ("&'a x: A", &[Parts::Fault(3)]),
-            ("&&self", &[Parts::Fault(2)]),
+            ("&&self", &[Parts::Fault(3)]),
             ("self x", &[Parts::Fault(1)]),
+            // The compiler reads the next three.
+            ("self::A(a): A", &[Parts::Fault(1)]),
+            ("&self::A(a): &A", &[Parts::Fault(2)]),
+            ("&mut self::A(a): &mut A", &[Parts::Fault(3)]),
             ("x: u8 y: u8", &[Parts::Fault(3)]),
             ("x: u8 = 1", &[Parts::Fault(3)]),
             ("x: A, , y: B", &[Parts::Typed(0, 1, 1), Parts::Fault(0)]),
@@ -285,6 +306,25 @@ fn dots_can_begin_a_pattern_alone() {
         ("..=9: u8", Some((4, 2))),
         ("...", Some((3, 0))),
         (". 5", None),
+    ];
+    for &(text, wanted) in rows {
+        let stream = parsed(&rt, text);
+        check_answer(&rt, text, &pattern_of(stream.trees()), &wanted);
+        release(stream);
+    }
+}
+
+#[test]
+fn a_split_pattern_may_have_self_after_its_first_sign() {
+    let rt = HostRuntime;
+    let rows: &[(&str, Option<(usize, usize)>)] = &[
+        ("x @ self::A: T", Some((6, 2))),
+        ("0..=self::MAX | 7", Some((8, 2))),
+        ("..self", Some((3, 0))),
+        ("&self::A(a): &A", Some((6, 3))),
+        ("mut self: A", Some((2, 2))),
+        ("self", None),
+        ("self::A: T", None),
     ];
     for &(text, wanted) in rows {
         let stream = parsed(&rt, text);
