@@ -1,153 +1,110 @@
 // Attributes, and the trees in their brackets.
-use crate::tests::checks::{check_answer, check_held, in_group, in_groups, parsed};
+use crate::tests::checks::{
+    Reads, check, check_stream, in_group, in_groups, parsed, put_parts, separate,
+};
 use declarations::{Attribute, AttributeArgs, Attributes};
-use proc_macro2::{Delimiter, TokenStream};
-use std::process::Abort;
-use test_helpers::release;
+use proc_macro2::{Delimiter, TokenTree};
+use std::alloc::AllocError;
 
-/// What comes after a path, with its number of trees.
-#[derive(Clone, Copy, Debug, PartialEq, Eq)]
-enum Args {
-    Nothing,
-    Group(usize),
-    Value(usize),
-    Other(usize),
+/// The attributes that the trees begin with, and the number of trees that are left after them.
+///
+/// Each attribute has the numbers of trees in its path and in what comes after the path. `inner` is added to an inner
+/// attribute, `is doc` if its path is the word `doc`, and `text` if it has the text of a doc comment.
+struct Front<'a> {
+    /// The word with which each path is compared.
+    word: &'a str,
 }
 
-fn parts_of(args: AttributeArgs<'_>) -> Args {
-    match args {
-        AttributeArgs::Nothing => Args::Nothing,
-        AttributeArgs::Group(group) => Args::Group(group.stream_ref().trees().len()),
-        AttributeArgs::Value(value) => Args::Value(value.len()),
-        AttributeArgs::Other(_, trees) => Args::Other(trees.len()),
+impl Front<'_> {
+    /// Writes one attribute.
+    fn put_attribute(&self, out: &mut String, attribute: Attribute<'_>) -> Result<(), AllocError> {
+        write!(out, "path {}", attribute.path().len())?;
+        match attribute.args() {
+            AttributeArgs::Nothing => {}
+            AttributeArgs::Group(group) => {
+                write!(out, ", group {}", group.stream_ref().trees().len())?;
+            }
+            AttributeArgs::Value(value) => write!(out, ", value {}", value.len())?,
+            AttributeArgs::Other(_, trees) => write!(out, ", other {}", trees.len())?,
+        }
+        if attribute.is_inner() {
+            write!(out, ", inner")?;
+        }
+        if attribute.is(self.word) {
+            write!(out, ", is {}", self.word)?;
+        }
+        if attribute.doc().is_some() {
+            write!(out, ", text")?;
+        }
+        Ok(())
     }
 }
 
-/// What is checked of an attribute: the trees of its path, what comes after it, and whether it is inner or a doc
-/// comment.
-type Row = (usize, Args, bool, bool);
-
-fn row_of(attribute: Attribute<'_>) -> Row {
-    (
-        attribute.path().len(),
-        parts_of(attribute.args()),
-        attribute.is_inner(),
-        attribute.doc().is_some(),
-    )
-}
-
-fn next_row(attributes: &mut Attributes<'_>) -> Option<Row> {
-    match attributes.next() {
-        Some(attribute) => Some(row_of(attribute)),
-        None => None,
+impl Reads for Front<'_> {
+    fn put(&self, trees: &[TokenTree], out: &mut String) -> Result<(), AllocError> {
+        let mut attributes = Attributes::new(trees);
+        // There are fewer attributes than trees, so the iterator is also asked after the last attribute.
+        for _ in trees {
+            if let Some(attribute) = attributes.next() {
+                separate(out)?;
+                self.put_attribute(out, attribute)?;
+            }
+        }
+        separate(out)?;
+        write!(out, "left {}", attributes.left.len())
     }
-}
-
-/// Checks the attributes of the text. `left` is the number of trees after them.
-fn check(rt: &(impl Abort + AllocGlobal), text: &str, rows: &[Row], left: usize) {
-    let stream = parsed(rt, text);
-    let mut attributes = Attributes::new(stream.trees());
-    for &row in rows {
-        check_answer(rt, text, &next_row(&mut attributes), &Some(row));
-    }
-    check_answer(rt, text, &next_row(&mut attributes), &None);
-    check_answer(rt, text, &attributes.left.len(), &left);
-    release(stream);
 }
 
 #[test]
 fn an_attribute_has_a_path_and_arguments(rt: HostRuntime) {
     check(
         &rt,
-        "#[test] #[a::b(c, d)] #[e = f + 1] /// g\n #[h {}] pub x",
+        &Front { word: "doc" },
         &[
-            (1, Args::Nothing, false, false),
-            (4, Args::Group(3), false, false),
-            (1, Args::Value(3), false, false),
-            (1, Args::Value(1), false, true),
-            (1, Args::Group(0), false, false),
+            (
+                "#[test] #[a::b(c, d)] #[e = f + 1] /// g\n #[h {}] pub x",
+                "path 1; path 4, group 3; path 1, value 3; path 1, value 1, is doc, text; path 1, group 0; left 2",
+            ),
+            (
+                "#![a] //! b\n #[] #[= c] #[(d) e] # (f)",
+                "path 1, inner; path 1, value 1, inner, is doc, text; path 0; path 0, value 1; path 0, other 1; left 2",
+            ),
+            ("", "left 0"),
+            ("#", "left 1"),
+            ("#!", "left 2"),
         ],
-        2,
     );
-    check(
-        &rt,
-        "#![a] //! b\n #[] #[= c] #[(d) e] # (f)",
-        &[
-            (1, Args::Nothing, true, false),
-            (1, Args::Value(1), true, true),
-            (0, Args::Nothing, false, false),
-            (0, Args::Value(1), false, false),
-            (0, Args::Other(1), false, false),
-        ],
-        2,
-    );
-    check(&rt, "", &[], 0);
-    check(&rt, "#", &[], 1);
-    check(&rt, "#!", &[], 2);
-}
-
-/// The number of attributes of the text whose path is this word.
-fn count_named(rt: &(impl Abort + AllocGlobal), text: &str, word: &str) -> usize {
-    let stream = parsed(rt, text);
-    let mut found = 0_usize;
-    for attribute in Attributes::new(stream.trees()) {
-        if attribute.is(word) {
-            found = found.saturating_add(1);
-        }
-    }
-    release(stream);
-    found
 }
 
 #[test]
 fn a_word_is_a_whole_path(rt: HostRuntime) {
-    let text = "#[getter(skip)] #[getter::a] #[r#getter] #[getter]";
-    check_answer(&rt, text, &count_named(&rt, text, "getter"), &2);
+    check(
+        &rt,
+        &Front { word: "getter" },
+        &[(
+            "#[getter(skip)] #[getter::a] #[r#getter] #[getter]",
+            "path 1, group 1, is getter; path 4; path 1; path 1, is getter; left 0",
+        )],
+    );
 }
 
-/// The attribute `#[..]` with this text in the brackets. The text is in so many groups without delimiters.
-fn attribute_in_groups(rt: &(impl Abort + AllocGlobal), text: &str, groups: usize) -> TokenStream {
-    let inside = in_groups(rt, parsed(rt, text), groups);
-    let brackets = in_group(rt, Delimiter::Bracket, inside);
-    let mut stream = parsed(rt, "#");
-    stream.extend_streams([brackets]).expect(rt, text);
-    stream
-}
-
-/// What is checked of an attribute in groups: the trees in the path, what comes after it, whether the path is `doc`,
-/// and whether the attribute has the text of a doc comment.
-fn held_row(mut attributes: Attributes<'_>) -> Option<Row> {
-    match attributes.next() {
-        Some(attribute) => Some((
-            attribute.path().len(),
-            parts_of(attribute.args()),
-            attribute.is("doc"),
-            attribute.doc().is_some(),
-        )),
-        None => None,
-    }
-}
-
-fn check_in_groups(rt: &(impl Abort + AllocGlobal), text: &str, groups: usize, row: Row) {
-    let stream = attribute_in_groups(rt, text, groups);
-    let found = held_row(Attributes::new(stream.trees()));
-    release(stream);
-    check_held(rt, ("#[", text, groups, "]"), &found, &Some(row));
-}
-
-// Each row is the text, its number of groups, and what is checked of the attribute.
+// Each row is the text in the brackets, the number of groups without delimiters around it, and the answer.
 #[test]
 fn what_a_macro_passes_is_looked_through(rt: HostRuntime) {
     let rows = &[
-        ("doc", 1, (1, Args::Nothing, true, false)),
-        ("doc = \"a\"", 1, (1, Args::Value(1), true, true)),
-        ("doc = \"a\"", 5, (1, Args::Value(1), true, true)),
-        ("doc = 1 + 2", 2, (1, Args::Value(3), true, false)),
-        ("a::doc(b, c)", 1, (4, Args::Group(3), false, false)),
-        ("doc(b) c", 2, (1, Args::Other(1), true, false)),
-        ("", 1, (0, Args::Nothing, false, false)),
+        ("doc", 1, "path 1, is doc; left 0"),
+        ("doc = \"a\"", 1, "path 1, value 1, is doc, text; left 0"),
+        ("doc = \"a\"", 5, "path 1, value 1, is doc, text; left 0"),
+        ("doc = 1 + 2", 2, "path 1, value 3, is doc; left 0"),
+        ("a::doc(b, c)", 1, "path 4, group 3; left 0"),
+        ("doc(b) c", 2, "path 1, other 1, is doc; left 0"),
+        ("", 1, "path 0; left 0"),
     ];
-    for &(text, groups, row) in rows {
-        check_in_groups(&rt, text, groups, row);
+    for &(text, groups, wanted) in rows {
+        let inside = in_groups(&rt, parsed(&rt, text), groups);
+        let brackets = in_group(&rt, Delimiter::Bracket, inside);
+        let mut stream = parsed(&rt, "#");
+        stream.extend_streams([brackets]).expect(&rt, text);
+        check_stream(&rt, &Front { word: "doc" }, stream, wanted);
     }
 }

@@ -1,16 +1,20 @@
 // The signs that an error says were expected.
+use crate::tests::checks::{Reads, check, check_stream, parsed};
 use declarations::{
     Entries, Fault, FieldList, GenericArguments, Items, Keyword, Parameters, SignClass,
-    VariantList, Word, parse_entry, parse_file, parse_function, parse_generic_argument, parse_impl,
-    parse_item, parse_param, parse_parameter, parse_predicate, parse_type_item, parse_type_path,
-    split_attributes, split_field, split_generics, split_pattern, split_variant, split_where,
+    VariantList, Word, after_where, parse_entry, parse_file, parse_function,
+    parse_generic_argument, parse_impl, parse_item, parse_param, parse_parameter, parse_predicate,
+    parse_type_item, parse_type_path, split_attributes, split_field, split_generics, split_pattern,
+    split_variant, split_where, within_generics,
 };
-use proc_macro2::{SourceMap, TokenStream, TokenTree};
+use proc_macro2::TokenTree;
+use std::alloc::AllocError;
 use std::process::Abort;
-use std::test::Fail;
+use test_helpers::release;
 
-#[derive(Clone, Copy, Debug)]
-enum Call {
+/// A call that returns an error. The answer is what the error says.
+pub enum Call {
+    AfterWhere,
     ParseItem,
     ParseTypeItem,
     Argument,
@@ -24,6 +28,7 @@ enum Call {
     Function,
     Generics,
     Impl,
+    InGenerics,
     Items,
     Param,
     Parameter,
@@ -37,86 +42,53 @@ enum Call {
     Where,
 }
 
-/// The error of the first generic argument of a list, if it has one.
-fn first_argument(trees: &[TokenTree]) -> Option<Fault> {
-    let mut list = GenericArguments::new(trees);
-    match list.next() {
-        Some(Err(fault)) => Some(fault),
+/// The error of the first element of a list, if it has one.
+fn error_of<T>(first: &Option<Result<T, Fault>>) -> Option<Fault> {
+    match first {
+        Some(Err(fault)) => Some(*fault),
         _ => None,
     }
 }
 
-/// The error of the first entry of a list, if it has one.
-fn first_entry(left: &[TokenTree]) -> Option<Fault> {
-    let mut list = Entries { left };
-    match list.next() {
-        Some(Err(fault)) => Some(fault),
-        _ => None,
-    }
-}
-
-/// The error of the first field of a list, if it has one.
-fn first_field(named: bool, left: &[TokenTree]) -> Option<Fault> {
-    let mut list = FieldList { named, left };
-    match list.next() {
-        Some(Err(fault)) => Some(fault),
-        _ => None,
-    }
-}
-
-/// The error of the first item of a file, if it has one.
-fn first_item(left: &[TokenTree]) -> Option<Fault> {
-    let mut list = Items { left };
-    match list.next() {
-        Some(Err(fault)) => Some(fault),
-        _ => None,
-    }
-}
-
-/// The error of the first parameter of a list, if it has one.
-fn first_parameter(left: &[TokenTree]) -> Option<Fault> {
-    let mut list = Parameters { left };
-    match list.next() {
-        Some(Err(fault)) => Some(fault),
-        _ => None,
-    }
-}
-
-/// The error of the first variant of a list, if it has one.
-fn first_variant(left: &[TokenTree]) -> Option<Fault> {
-    let mut list = VariantList { left };
-    match list.next() {
-        Some(Err(fault)) => Some(fault),
-        _ => None,
-    }
-}
-
-fn fault_of(call: Call, trees: &[TokenTree]) -> Option<Fault> {
+/// The error of the call for these trees, if it returns one.
+fn fault_of(call: &Call, trees: &[TokenTree]) -> Option<Fault> {
+    let left = trees;
     match call {
+        Call::AfterWhere => after_where(trees).err(),
         Call::ParseItem => parse_item(trees).err(),
         Call::ParseTypeItem => parse_type_item(trees).err(),
         Call::Argument => parse_generic_argument(trees).err(),
-        Call::ArgumentList => first_argument(trees),
+        Call::ArgumentList => error_of(&GenericArguments::new(trees).next()),
         Call::Attributes => split_attributes(trees).err(),
         Call::Entry => parse_entry(trees).err(),
-        Call::EntryList => first_entry(trees),
+        Call::EntryList => error_of(&Entries { left }.next()),
         Call::Field => split_field(trees).err(),
-        Call::FieldList => first_field(true, trees),
+        Call::FieldList => error_of(&FieldList { named: true, left }.next()),
         Call::File => parse_file(trees).err(),
         Call::Function => parse_function(trees).err(),
         Call::Generics => split_generics(trees).err(),
         Call::Impl => parse_impl(trees).err(),
-        Call::Items => first_item(trees),
+        Call::InGenerics => within_generics(trees).err(),
+        Call::Items => error_of(&Items { left }.next()),
         Call::Param => parse_param(trees).err(),
         Call::Parameter => parse_parameter(trees).err(),
-        Call::ParameterList => first_parameter(trees),
+        Call::ParameterList => error_of(&Parameters { left }.next()),
         Call::Path => parse_type_path(trees).err(),
         Call::Pattern => split_pattern(trees).err(),
         Call::Predicate => parse_predicate(trees).err(),
-        Call::TupleFieldList => first_field(false, trees),
+        Call::TupleFieldList => error_of(&FieldList { named: false, left }.next()),
         Call::Variant => split_variant(trees).err(),
-        Call::VariantList => first_variant(trees),
+        Call::VariantList => error_of(&VariantList { left }.next()),
         Call::Where => split_where(trees).err(),
+    }
+}
+
+impl Reads for Call {
+    fn put(&self, trees: &[TokenTree], out: &mut String) -> Result<(), AllocError> {
+        match fault_of(self, trees) {
+            Some(fault) => write!(out, "{fault}"),
+            None => write!(out, "no error"),
+        }
     }
 }
 
@@ -124,25 +96,30 @@ fn fault_of(call: Call, trees: &[TokenTree]) -> Option<Fault> {
 /// is.
 type Row<'a> = (Call, &'a str, usize, &'a [SignClass], &'a [SignClass], bool);
 
-fn check(rt: &(impl Abort + AllocGlobal), row: Row<'_>) -> Result<(), Fail> {
+/// Checks the error of the text in the row.
+fn check_row(rt: &(impl Abort + AllocGlobal), row: &Row<'_>) {
     let (call, text, at, expected, others, end) = row;
-    let stream = TokenStream::from_str(text, &mut SourceMap::new(rt.alloc()))?;
-    if let Some(fault) = fault_of(call, stream.trees()) {
-        assert_eq!(rt; fault.at, at, "{text:?}");
-        for class in expected {
-            assert!(rt; fault.expected().contains(*class), "{class:?} at {text:?}");
-        }
-        for class in others {
-            assert!(rt;
-                !fault.expected().contains(*class),
-                "no {class:?} at {text:?}"
-            );
-        }
-        assert_eq!(rt; fault.expected().has_end(), end, "the end at {text:?}");
-    } else {
-        assert!(rt; false, "{call:?} reads {text:?}");
+    let stream = parsed(rt, text);
+    let fault = fault_of(call, stream.trees()).expect(rt, text);
+    assert!(rt; fault.at == *at, "{} and not {at} of {text:?}", fault.at);
+    for class in *expected {
+        assert!(rt; fault.expected().contains(*class), "{class:?} at {text:?}");
     }
-    Ok(())
+    for class in *others {
+        assert!(rt;
+            !fault.expected().contains(*class),
+            "no {class:?} at {text:?}"
+        );
+    }
+    assert!(rt; fault.expected().has_end() == *end, "the end at {text:?}");
+    release(stream);
+}
+
+/// Checks the errors of the texts in the rows.
+fn check_signs(rt: &(impl Abort + AllocGlobal), rows: &[Row<'_>]) {
+    for row in rows {
+        check_row(rt, row);
+    }
 }
 
 const NAME: SignClass = SignClass::Word(Word::Plain);
@@ -150,8 +127,8 @@ const NAME: SignClass = SignClass::Word(Word::Plain);
 const WHERE: SignClass = SignClass::Keyword(Keyword::Where);
 
 #[test]
-fn an_error_has_the_signs_that_can_come_next(rt: HostRuntime) -> Result<(), Fail> {
-    let rows: [Row<'_>; 11] = [
+fn an_error_has_the_signs_that_can_come_next(rt: HostRuntime) {
+    let rows: &[Row<'_>] = &[
         (
             Call::ParseTypeItem,
             "struct 5",
@@ -266,17 +243,12 @@ fn an_error_has_the_signs_that_can_come_next(rt: HostRuntime) -> Result<(), Fail
             false,
         ),
     ];
-    for row in rows {
-        check(&rt, row)?;
-    }
-    Ok(())
+    check_signs(&rt, rows);
 }
 
 #[test]
-fn an_error_of_a_function_or_an_impl_has_the_signs_that_can_come_next(
-    rt: HostRuntime,
-) -> Result<(), Fail> {
-    let rows: [Row<'_>; 6] = [
+fn an_error_of_a_function_or_an_impl_has_the_signs_that_can_come_next(rt: HostRuntime) {
+    let rows: &[Row<'_>] = &[
         (
             Call::Function,
             "const struct",
@@ -336,15 +308,12 @@ fn an_error_of_a_function_or_an_impl_has_the_signs_that_can_come_next(
             false,
         ),
     ];
-    for row in rows {
-        check(&rt, row)?;
-    }
-    Ok(())
+    check_signs(&rt, rows);
 }
 
 #[test]
-fn an_error_of_a_part_has_the_signs_that_can_come_next(rt: HostRuntime) -> Result<(), Fail> {
-    let rows: [Row<'_>; 9] = [
+fn an_error_of_a_part_has_the_signs_that_can_come_next(rt: HostRuntime) {
+    let rows: &[Row<'_>] = &[
         (
             Call::Parameter,
             "& mut ;",
@@ -441,15 +410,12 @@ fn an_error_of_a_part_has_the_signs_that_can_come_next(rt: HostRuntime) -> Resul
             false,
         ),
     ];
-    for row in rows {
-        check(&rt, row)?;
-    }
-    Ok(())
+    check_signs(&rt, rows);
 }
 
 #[test]
-fn a_list_without_a_comma_has_the_signs_that_can_come_there(rt: HostRuntime) -> Result<(), Fail> {
-    let rows: [Row<'_>; 6] = [
+fn a_list_without_a_comma_has_the_signs_that_can_come_there(rt: HostRuntime) {
+    let rows: &[Row<'_>] = &[
         (
             Call::FieldList,
             "a: u8 b: u8",
@@ -514,15 +480,12 @@ fn a_list_without_a_comma_has_the_signs_that_can_come_there(rt: HostRuntime) -> 
             true,
         ),
     ];
-    for row in rows {
-        check(&rt, row)?;
-    }
-    Ok(())
+    check_signs(&rt, rows);
 }
 
 #[test]
-fn a_list_has_the_signs_of_the_part_that_it_cannot_read(rt: HostRuntime) -> Result<(), Fail> {
-    let rows: [Row<'_>; 9] = [
+fn a_list_has_the_signs_of_the_part_that_it_cannot_read(rt: HostRuntime) {
+    let rows: &[Row<'_>] = &[
         (
             Call::FieldList,
             "x y",
@@ -596,17 +559,14 @@ fn a_list_has_the_signs_of_the_part_that_it_cannot_read(rt: HostRuntime) -> Resu
             false,
         ),
     ];
-    for row in rows {
-        check(&rt, row)?;
-    }
-    Ok(())
+    check_signs(&rt, rows);
 }
 
 #[test]
 fn an_error_of_a_generic_parameter_or_a_predicate_has_the_signs_that_can_come_next(
     rt: HostRuntime,
-) -> Result<(), Fail> {
-    let rows: [Row<'_>; 7] = [
+) {
+    let rows: &[Row<'_>] = &[
         (
             Call::Param,
             "1",
@@ -669,15 +629,12 @@ fn an_error_of_a_generic_parameter_or_a_predicate_has_the_signs_that_can_come_ne
             true,
         ),
     ];
-    for row in rows {
-        check(&rt, row)?;
-    }
-    Ok(())
+    check_signs(&rt, rows);
 }
 
 #[test]
-fn an_error_of_a_path_has_the_signs_that_can_come_next(rt: HostRuntime) -> Result<(), Fail> {
-    let rows: [Row<'_>; 9] = [
+fn an_error_of_a_path_has_the_signs_that_can_come_next(rt: HostRuntime) {
+    let rows: &[Row<'_>] = &[
         (
             Call::Path,
             "&T",
@@ -760,55 +717,30 @@ fn an_error_of_a_path_has_the_signs_that_can_come_next(rt: HostRuntime) -> Resul
             false,
         ),
     ];
-    for row in rows {
-        check(&rt, row)?;
-    }
-    Ok(())
-}
-
-/// Checks what the error says.
-fn check_text(
-    rt: &(impl Abort + AllocGlobal),
-    call: Call,
-    text: &str,
-    printed: &str,
-) -> Result<(), Fail> {
-    let stream = TokenStream::from_str(text, &mut SourceMap::new(rt.alloc()))?;
-    if let Some(fault) = fault_of(call, stream.trees()) {
-        let shown = format!(in rt.alloc(); "{fault}")?;
-        assert_eq!(rt; shown.as_str(), printed, "{text:?}");
-    } else {
-        assert!(rt; false, "{call:?} reads {text:?}");
-    }
-    Ok(())
+    check_signs(&rt, rows);
 }
 
 #[test]
-fn an_error_of_a_pattern_says_what_was_expected(rt: HostRuntime) -> Result<(), Fail> {
-    let rows: [(Call, &str, &str); 5] = [
-        (Call::Pattern, ":", "expected a pattern"),
-        (Call::Pattern, ". 5", "expected `.`"),
-        (Call::Parameter, "& mut ;", "expected a pattern or `self`"),
-        (
-            Call::Parameter,
-            ".. ;",
-            "expected `:` or more of the pattern",
-        ),
-        (
-            Call::Parameter,
-            "..5 ;",
-            "expected `:` or more of the pattern",
-        ),
-    ];
-    for (call, text, printed) in rows {
-        check_text(&rt, call, text, printed)?;
-    }
-    Ok(())
+fn an_error_of_a_pattern_says_what_was_expected(rt: HostRuntime) {
+    check(
+        &rt,
+        &Call::Pattern,
+        &[(":", "expected a pattern"), (". 5", "expected `.`")],
+    );
+    check(
+        &rt,
+        &Call::Parameter,
+        &[
+            ("& mut ;", "expected a pattern or `self`"),
+            (".. ;", "expected `:` or more of the pattern"),
+            ("..5 ;", "expected `:` or more of the pattern"),
+        ],
+    );
 }
 
 #[test]
-fn an_error_of_a_list_or_a_path_says_what_was_expected(rt: HostRuntime) -> Result<(), Fail> {
-    let rows: [(Call, &str, &str); 10] = [
+fn an_error_of_a_list_or_a_path_says_what_was_expected(rt: HostRuntime) {
+    let rows: &[(Call, &str, &str)] = &[
         (
             Call::FieldList,
             "a: u8 b: u8",
@@ -837,7 +769,6 @@ fn an_error_of_a_list_or_a_path_says_what_was_expected(rt: HostRuntime) -> Resul
         (Call::Path, "A<B> C", "expected `::` or the end"),
     ];
     for (call, text, printed) in rows {
-        check_text(&rt, call, text, printed)?;
+        check_stream(&rt, call, parsed(&rt, text), printed);
     }
-    Ok(())
 }

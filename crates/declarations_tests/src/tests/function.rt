@@ -1,30 +1,41 @@
 // The parts of functions. The expected numbers of trees are counted in the texts by hand.
-use crate::tests::checks::{HeldText, check_answer, check_held, held_stream, parsed};
+use crate::tests::checks::{Reads, check, check_group, check_groups, put_error, put_parts};
 use declarations::{Parameters, parse_function};
 use proc_macro2::{Group, TokenTree};
-use std::process::Abort;
-use test_helpers::release;
+use std::alloc::AllocError;
 
-/// What `parse_function` returns.
-#[derive(Clone, Copy, Debug, PartialEq, Eq)]
-enum Answer {
-    /// A function with a body. The numbers count the trees of its attributes, its visibility, its qualifiers and its
-    /// generic parameters, then its parameters, then the trees of its return type and its where clause.
-    Body(usize, usize, usize, usize, usize, usize, usize),
-    /// A function without a body, with the numbers that `Body` has.
-    NoBody(usize, usize, usize, usize, usize, usize, usize),
-    /// An error at a tree that does not fit, after this many trees.
-    FaultAt(usize),
-    /// An error at the end of the trees, of which there are this many.
-    EndsAt(usize),
-    /// A function with another name.
-    OtherName,
+/// A function: its name, its parts, and whether it has a body. `parameters` is the number of parameters before an error
+/// in them.
+struct Signature;
+
+impl Reads for Signature {
+    fn put(&self, trees: &[TokenTree], out: &mut String) -> Result<(), AllocError> {
+        let function = match parse_function(trees) {
+            Ok(function) => function,
+            Err(fault) => return put_error(out, &fault),
+        };
+        write!(out, "{}", function.name)?;
+        put_parts(
+            out,
+            &[
+                ("attributes", function.attributes.len()),
+                ("visibility", function.visibility.len()),
+                ("qualifiers", function.qualifiers.len()),
+                ("generics", function.generics.len()),
+                ("parameters", count_parameters(function.parameters)),
+                ("return", function.return_type.len()),
+                ("where", function.where_clause.len()),
+            ],
+        )?;
+        match function.body {
+            Some(_) => write!(out, ", body"),
+            None => write!(out, ", no body"),
+        }
+    }
 }
 
-use crate::tests::function::Answer::{Body, EndsAt, FaultAt, NoBody, OtherName};
-
-// The number of parameters in these parentheses, up to an error.
-fn parameters_in(group: &Group) -> usize {
+/// The number of parameters in these parentheses, up to an error.
+fn count_parameters(group: &Group) -> usize {
     let mut count = 0usize;
     for parameter in Parameters::new(group) {
         if parameter.is_ok() {
@@ -34,88 +45,48 @@ fn parameters_in(group: &Group) -> usize {
     count
 }
 
-fn read(trees: &[TokenTree], name: &str) -> Answer {
-    match parse_function(trees) {
-        Ok(function) => {
-            if !function.name.eq_str(name) {
-                return OtherName;
-            }
-            let attributes = function.attributes.len();
-            let visibility = function.visibility.len();
-            let qualifiers = function.qualifiers.len();
-            let generics = function.generics.len();
-            let parameters = parameters_in(function.parameters);
-            let returned = function.return_type.len();
-            let clause = function.where_clause.len();
-            match function.body {
-                Some(_) => Body(
-                    attributes, visibility, qualifiers, generics, parameters, returned, clause,
-                ),
-                None => NoBody(
-                    attributes, visibility, qualifiers, generics, parameters, returned, clause,
-                ),
-            }
-        }
-        Err(fault) => match fault.span {
-            Some(_) => FaultAt(fault.at),
-            None => EndsAt(fault.at),
-        },
-    }
-}
-
-// Checks a text that is a function with the name `f`, or that is not.
-fn check_text(rt: &(impl Abort + AllocGlobal), text: &str, wanted: Answer) {
-    let stream = parsed(rt, text);
-    let found = read(stream.trees(), "f");
-    release(stream);
-    check_answer(rt, text, &found, &wanted);
-}
-
-// Checks texts that are functions with the name `f`, and texts that are not.
-fn check(rt: &(impl Abort + AllocGlobal), rows: &[(&str, Answer)]) {
-    for &(text, wanted) in rows {
-        check_text(rt, text, wanted);
-    }
-}
-
 #[test]
 fn qualifiers_come_before_fn_in_order(rt: HostRuntime) {
     check(
         &rt,
+        &Signature,
         &[
-            ("fn f() {}", Body(0, 0, 0, 0, 0, 0, 0)),
-            ("const fn f() {}", Body(0, 0, 1, 0, 0, 0, 0)),
-            ("async fn f() {}", Body(0, 0, 1, 0, 0, 0, 0)),
-            ("unsafe fn f() {}", Body(0, 0, 1, 0, 0, 0, 0)),
-            ("safe fn f();", NoBody(0, 0, 1, 0, 0, 0, 0)),
-            ("default fn f() {}", Body(0, 0, 1, 0, 0, 0, 0)),
-            ("extern fn f() {}", Body(0, 0, 1, 0, 0, 0, 0)),
-            ("extern \"C\" fn f() {}", Body(0, 0, 2, 0, 0, 0, 0)),
-            ("unsafe extern \"C\" fn f();", NoBody(0, 0, 3, 0, 0, 0, 0)),
+            ("fn f() {}", "f, body"),
+            ("const fn f() {}", "f, qualifiers 1, body"),
+            ("async fn f() {}", "f, qualifiers 1, body"),
+            ("unsafe fn f() {}", "f, qualifiers 1, body"),
+            ("safe fn f();", "f, qualifiers 1, no body"),
+            ("default fn f() {}", "f, qualifiers 1, body"),
+            ("extern fn f() {}", "f, qualifiers 1, body"),
+            ("extern \"C\" fn f() {}", "f, qualifiers 2, body"),
+            ("unsafe extern \"C\" fn f();", "f, qualifiers 3, no body"),
             (
                 "const unsafe extern r\"C\" fn f() {}",
-                Body(0, 0, 4, 0, 0, 0, 0),
+                "f, qualifiers 4, body",
             ),
-            ("async unsafe extern fn f() {}", Body(0, 0, 3, 0, 0, 0, 0)),
+            ("async unsafe extern fn f() {}", "f, qualifiers 3, body"),
             (
                 "default const async unsafe extern \"C\" fn f() {}",
-                Body(0, 0, 6, 0, 0, 0, 0),
+                "f, qualifiers 6, body",
             ),
-            ("const async fn f() {}", Body(0, 0, 2, 0, 0, 0, 0)),
-            ("gen fn f() {}", Body(0, 0, 1, 0, 0, 0, 0)),
-            ("async gen fn f() {}", Body(0, 0, 2, 0, 0, 0, 0)),
-            ("#[a] pub gen fn f();", NoBody(2, 1, 1, 0, 0, 0, 0)),
+            ("const async fn f() {}", "f, qualifiers 2, body"),
+            ("gen fn f() {}", "f, qualifiers 1, body"),
+            ("async gen fn f() {}", "f, qualifiers 2, body"),
+            (
+                "#[a] pub gen fn f();",
+                "f, attributes 2, visibility 1, qualifiers 1, no body",
+            ),
             (
                 "const gen unsafe extern \"C\" fn f() {}",
-                Body(0, 0, 5, 0, 0, 0, 0),
+                "f, qualifiers 5, body",
             ),
             (
                 "default const async gen safe extern fn f();",
-                NoBody(0, 0, 6, 0, 0, 0, 0),
+                "f, qualifiers 6, no body",
             ),
             (
                 "pub(crate) default unsafe fn f();",
-                NoBody(0, 2, 2, 0, 0, 0, 0),
+                "f, visibility 2, qualifiers 2, no body",
             ),
         ],
     );
@@ -125,18 +96,22 @@ fn qualifiers_come_before_fn_in_order(rt: HostRuntime) {
 fn attributes_and_a_visibility_come_first(rt: HostRuntime) {
     check(
         &rt,
+        &Signature,
         &[
-            ("pub fn f() {}", Body(0, 1, 0, 0, 0, 0, 0)),
-            ("pub(self) fn f();", NoBody(0, 2, 0, 0, 0, 0, 0)),
-            ("pub(in a::b) async fn f() {}", Body(0, 2, 1, 0, 0, 0, 0)),
-            ("#[a] #[b(c)] fn f() {}", Body(4, 0, 0, 0, 0, 0, 0)),
+            ("pub fn f() {}", "f, visibility 1, body"),
+            ("pub(self) fn f();", "f, visibility 2, no body"),
+            (
+                "pub(in a::b) async fn f() {}",
+                "f, visibility 2, qualifiers 1, body",
+            ),
+            ("#[a] #[b(c)] fn f() {}", "f, attributes 4, body"),
             (
                 "/// It is.\n#[inline] pub const fn f() {}",
-                Body(4, 1, 1, 0, 0, 0, 0),
+                "f, attributes 4, visibility 1, qualifiers 1, body",
             ),
             (
                 "#[unsafe(no_mangle)] pub extern \"C\" fn f() {}",
-                Body(2, 1, 2, 0, 0, 0, 0),
+                "f, attributes 2, visibility 1, qualifiers 2, body",
             ),
         ],
     );
@@ -146,31 +121,38 @@ fn attributes_and_a_visibility_come_first(rt: HostRuntime) {
 fn generics_and_parameters_follow_the_name(rt: HostRuntime) {
     check(
         &rt,
+        &Signature,
         &[
-            ("fn f<T>(x: T) {}", Body(0, 0, 0, 3, 1, 0, 0)),
-            ("fn f<>() {}", Body(0, 0, 0, 2, 0, 0, 0)),
+            ("fn f<T>(x: T) {}", "f, generics 3, parameters 1, body"),
+            ("fn f<>() {}", "f, generics 2, body"),
             (
                 "fn f<'a, T: A<B> = C, const N: usize = 3>(x: &'a [T; N], y: u8) {}",
-                Body(0, 0, 0, 20, 2, 0, 0),
+                "f, generics 20, parameters 2, body",
             ),
-            ("fn f<F: Fn(A, B) -> C>(f: F) {}", Body(0, 0, 0, 9, 1, 0, 0)),
-            ("fn f<T: A<B<C>>>(x: T);", NoBody(0, 0, 0, 11, 1, 0, 0)),
-            ("fn f(&self);", NoBody(0, 0, 0, 0, 1, 0, 0)),
-            ("fn f(&'a mut self, x: u8) {}", Body(0, 0, 0, 0, 2, 0, 0)),
-            ("fn f(mut self: Box<Self>,) {}", Body(0, 0, 0, 0, 1, 0, 0)),
+            (
+                "fn f<F: Fn(A, B) -> C>(f: F) {}",
+                "f, generics 9, parameters 1, body",
+            ),
+            (
+                "fn f<T: A<B<C>>>(x: T);",
+                "f, generics 11, parameters 1, no body",
+            ),
+            ("fn f(&self);", "f, parameters 1, no body"),
+            ("fn f(&'a mut self, x: u8) {}", "f, parameters 2, body"),
+            ("fn f(mut self: Box<Self>,) {}", "f, parameters 1, body"),
             (
                 "fn f((a, b): (A, B), #[c] [d]: [D; 1], _: E) {}",
-                Body(0, 0, 0, 0, 3, 0, 0),
+                "f, parameters 3, body",
             ),
             (
                 "fn f(g: fn(A, B) -> C, h: &dyn Fn(A) -> B) {}",
-                Body(0, 0, 0, 0, 2, 0, 0),
+                "f, parameters 2, body",
             ),
             (
                 "unsafe extern \"C\" fn f(x: *const u8, ...);",
-                NoBody(0, 0, 3, 0, 2, 0, 0),
+                "f, qualifiers 3, parameters 2, no body",
             ),
-            ("fn f(crate) {}", Body(0, 0, 0, 0, 0, 0, 0)), // its parameters have a fault
+            ("fn f(crate) {}", "f, body"), // its parameters have a fault
         ],
     );
 }
@@ -179,82 +161,61 @@ fn generics_and_parameters_follow_the_name(rt: HostRuntime) {
 fn a_return_type_and_a_where_clause_come_before_the_body(rt: HostRuntime) {
     check(
         &rt,
+        &Signature,
         &[
-            ("fn f() -> u8 { 0 }", Body(0, 0, 0, 0, 0, 1, 0)),
-            ("fn f() -> ! {}", Body(0, 0, 0, 0, 0, 1, 0)),
-            ("fn f() -> ();", NoBody(0, 0, 0, 0, 0, 1, 0)),
-            ("fn f() -> impl Fn(A) -> B {}", Body(0, 0, 0, 0, 0, 6, 0)),
-            (
-                "fn f() -> fn(A) -> fn(B) -> C;",
-                NoBody(0, 0, 0, 0, 0, 9, 0),
-            ),
-            ("fn f() -> Vec<Vec<T>> {}", Body(0, 0, 0, 0, 0, 7, 0)),
-            ("fn f() -> <T as A>::B {}", Body(0, 0, 0, 0, 0, 8, 0)),
-            (
-                "fn f() -> impl A + use<'a, T> {}",
-                Body(0, 0, 0, 0, 0, 10, 0),
-            ),
+            ("fn f() -> u8 { 0 }", "f, return 1, body"),
+            ("fn f() -> ! {}", "f, return 1, body"),
+            ("fn f() -> ();", "f, return 1, no body"),
+            ("fn f() -> impl Fn(A) -> B {}", "f, return 6, body"),
+            ("fn f() -> fn(A) -> fn(B) -> C;", "f, return 9, no body"),
+            ("fn f() -> Vec<Vec<T>> {}", "f, return 7, body"),
+            ("fn f() -> <T as A>::B {}", "f, return 8, body"),
+            ("fn f() -> impl A + use<'a, T> {}", "f, return 10, body"),
             (
                 "fn f() -> Result<(), Box<dyn E + 'a>> where 'a: 'b;",
-                NoBody(0, 0, 0, 0, 0, 13, 6),
+                "f, return 13, where 6, no body",
             ),
-            ("fn f<T>(x: T) where T: A {}", Body(0, 0, 0, 3, 1, 0, 4)),
+            (
+                "fn f<T>(x: T) where T: A {}",
+                "f, generics 3, parameters 1, where 4, body",
+            ),
             (
                 "fn f<T>() -> Vec<T> where T: A, [T; 2]: B, {}",
-                Body(0, 0, 0, 3, 0, 4, 9),
+                "f, generics 3, return 4, where 9, body",
             ),
             (
                 "fn f<F>(f: F) where F: Fn(A) -> B;",
-                NoBody(0, 0, 0, 3, 1, 0, 8),
+                "f, generics 3, parameters 1, where 8, no body",
             ),
-            ("fn f() where {}", Body(0, 0, 0, 0, 0, 0, 1)),
+            ("fn f() where {}", "f, where 1, body"),
             (
                 "fn f(&self) -> Self::A where Self: Sized;",
-                NoBody(0, 0, 0, 0, 1, 4, 4),
+                "f, parameters 1, return 4, where 4, no body",
             ),
         ],
     );
 }
 
-// Whether the trees are a function with this name.
-fn is_named(trees: &[TokenTree], name: &str) -> bool {
-    match parse_function(trees) {
-        Ok(function) => function.name.eq_str(name),
-        Err(_) => false,
-    }
-}
-
-fn check_name(rt: &(impl Abort + AllocGlobal), text: &str, name: &str) {
-    let stream = parsed(rt, text);
-    let is = is_named(stream.trees(), name);
-    release(stream);
-    check_answer(rt, text, &(name, is), &(name, true));
-}
-
 #[test]
 fn a_name_is_no_keyword(rt: HostRuntime) {
-    let rows = &[
-        ("fn r#fn() {}", "r#fn"),
-        ("fn union() {}", "union"),
-        ("fn auto() {}", "auto"),
-        ("default fn default() {}", "default"),
-        ("safe fn safe();", "safe"),
-        ("fn gen() {}", "gen"),
-        ("gen fn gen() {}", "gen"),
-        ("async gen fn r#gen() {}", "r#gen"),
-    ];
-    for &(text, name) in rows {
-        check_name(&rt, text, name);
-    }
     check(
         &rt,
+        &Signature,
         &[
-            ("fn fn() {}", FaultAt(1)),
-            ("fn _() {}", FaultAt(1)),
-            ("fn self() {}", FaultAt(1)),
-            ("fn 1() {}", FaultAt(1)),
-            ("fn () {}", FaultAt(1)),
-            ("fn g() {}", OtherName),
+            ("fn r#fn() {}", "r#fn, body"),
+            ("fn union() {}", "union, body"),
+            ("fn auto() {}", "auto, body"),
+            ("default fn default() {}", "default, qualifiers 1, body"),
+            ("safe fn safe();", "safe, qualifiers 1, no body"),
+            ("fn gen() {}", "gen, body"),
+            ("gen fn gen() {}", "gen, qualifiers 1, body"),
+            ("async gen fn r#gen() {}", "r#gen, qualifiers 2, body"),
+            ("fn fn() {}", "error at 1"),
+            ("fn _() {}", "error at 1"),
+            ("fn self() {}", "error at 1"),
+            ("fn 1() {}", "error at 1"),
+            ("fn () {}", "error at 1"),
+            ("fn g() {}", "g, body"),
         ],
     );
 }
@@ -263,35 +224,36 @@ fn a_name_is_no_keyword(rt: HostRuntime) {
 fn a_fault_is_before_the_first_tree_that_does_not_fit(rt: HostRuntime) {
     check(
         &rt,
+        &Signature,
         &[
-            ("", EndsAt(0)),
-            ("#[a] pub", EndsAt(3)),
-            ("const unsafe", EndsAt(2)),
-            ("async gen", EndsAt(2)),
-            ("fn", EndsAt(1)),
-            ("fn f", EndsAt(2)),
-            ("fn f<T>", EndsAt(5)),
-            ("fn f()", EndsAt(3)),
-            ("fn f() ->", EndsAt(5)),
-            ("fn f() -> A", EndsAt(6)),
-            ("fn f() where T:", EndsAt(6)),
-            ("fn f() -> {}", FaultAt(5)),
-            ("fn f() - A {}", FaultAt(3)),
-            ("fn f {}", FaultAt(2)),
-            ("fn f[] {}", FaultAt(2)),
-            ("fn f<T() {}", FaultAt(4)),
-            ("fn f() where T {}", FaultAt(5)),
-            ("fn f() = x;", FaultAt(3)),
-            ("fn f() []", FaultAt(3)),
-            ("fn f() {} x", FaultAt(4)),
-            ("fn f() {} ;", FaultAt(4)),
-            ("fn f();;", FaultAt(4)),
-            ("fn f() {} fn g() {}", FaultAt(4)),
-            ("# fn f() {}", FaultAt(1)),
-            ("#![a] fn f() {}", FaultAt(0)),
-            ("pub (A) fn f() {}", FaultAt(1)),
-            ("pub pub fn f() {}", FaultAt(1)),
-            ("const pub fn f() {}", FaultAt(1)),
+            ("", "missing after 0"),
+            ("#[a] pub", "missing after 3"),
+            ("const unsafe", "missing after 2"),
+            ("async gen", "missing after 2"),
+            ("fn", "missing after 1"),
+            ("fn f", "missing after 2"),
+            ("fn f<T>", "missing after 5"),
+            ("fn f()", "missing after 3"),
+            ("fn f() ->", "missing after 5"),
+            ("fn f() -> A", "missing after 6"),
+            ("fn f() where T:", "missing after 6"),
+            ("fn f() -> {}", "error at 5"),
+            ("fn f() - A {}", "error at 3"),
+            ("fn f {}", "error at 2"),
+            ("fn f[] {}", "error at 2"),
+            ("fn f<T() {}", "error at 4"),
+            ("fn f() where T {}", "error at 5"),
+            ("fn f() = x;", "error at 3"),
+            ("fn f() []", "error at 3"),
+            ("fn f() {} x", "error at 4"),
+            ("fn f() {} ;", "error at 4"),
+            ("fn f();;", "error at 4"),
+            ("fn f() {} fn g() {}", "error at 4"),
+            ("# fn f() {}", "error at 1"),
+            ("#![a] fn f() {}", "error at 0"),
+            ("pub (A) fn f() {}", "error at 1"),
+            ("pub pub fn f() {}", "error at 1"),
+            ("const pub fn f() {}", "error at 1"),
         ],
     );
 }
@@ -300,80 +262,79 @@ fn a_fault_is_before_the_first_tree_that_does_not_fit(rt: HostRuntime) {
 fn qualifiers_in_another_order_and_other_items_are_faults(rt: HostRuntime) {
     check(
         &rt,
+        &Signature,
         &[
-            ("async const fn f() {}", FaultAt(1)),
-            ("unsafe async fn f() {}", FaultAt(1)),
-            ("extern unsafe fn f() {}", FaultAt(1)),
-            ("extern \"C\" \"D\" fn f() {}", FaultAt(2)),
-            ("const const fn f() {}", FaultAt(1)),
-            ("unsafe safe fn f();", FaultAt(1)),
-            ("const default fn f() {}", FaultAt(1)),
-            ("gen async fn f() {}", FaultAt(1)),
-            ("unsafe gen fn f() {}", FaultAt(1)),
-            ("gen gen fn f() {}", FaultAt(1)),
-            ("gen default fn f() {}", FaultAt(1)),
-            ("r#gen fn f() {}", FaultAt(0)), // a raw identifier is a plain word
-            ("async r#gen fn f() {}", FaultAt(1)),
-            ("gen!();", FaultAt(1)),
-            ("struct S;", FaultAt(0)),
-            ("pub struct S;", FaultAt(1)),
-            ("const F: u8 = 1;", FaultAt(1)),
-            ("extern \"C\" { fn f(); }", FaultAt(2)),
-            ("extern crate a;", FaultAt(1)),
-            ("unsafe impl A for B {}", FaultAt(1)),
-            ("f!();", FaultAt(0)),
+            ("async const fn f() {}", "error at 1"),
+            ("unsafe async fn f() {}", "error at 1"),
+            ("extern unsafe fn f() {}", "error at 1"),
+            ("extern \"C\" \"D\" fn f() {}", "error at 2"),
+            ("const const fn f() {}", "error at 1"),
+            ("unsafe safe fn f();", "error at 1"),
+            ("const default fn f() {}", "error at 1"),
+            ("gen async fn f() {}", "error at 1"),
+            ("unsafe gen fn f() {}", "error at 1"),
+            ("gen gen fn f() {}", "error at 1"),
+            ("gen default fn f() {}", "error at 1"),
+            ("r#gen fn f() {}", "error at 0"), // a raw identifier is a plain word
+            ("async r#gen fn f() {}", "error at 1"),
+            ("gen!();", "error at 1"),
+            ("struct S;", "error at 0"),
+            ("pub struct S;", "error at 1"),
+            ("const F: u8 = 1;", "error at 1"),
+            ("extern \"C\" { fn f(); }", "error at 2"),
+            ("extern crate a;", "error at 1"),
+            ("unsafe impl A for B {}", "error at 1"),
+            ("f!();", "error at 0"),
         ],
     );
 }
 
-fn check_groups(rt: &(impl Abort + AllocGlobal), text: HeldText<'_>, wanted: Answer) {
-    let stream = held_stream(rt, text);
-    let found = read(stream.trees(), "f");
-    release(stream);
-    check_held(rt, text, &found, &wanted);
-}
-
-// Each row is the text in a group without delimiters, the text after the group, and the answer.
 #[test]
 fn a_group_without_delimiters_may_be_the_visibility(rt: HostRuntime) {
-    let rows = &[
-        ("pub", "fn f() {}", Body(0, 1, 0, 0, 0, 0, 0)),
-        ("pub(crate)", "const fn f();", NoBody(0, 1, 1, 0, 0, 0, 0)),
-        ("", "unsafe fn f() {}", Body(0, 1, 1, 0, 0, 0, 0)),
-        ("fn f() {}", "", FaultAt(0)),
-        ("const", "fn f() {}", FaultAt(0)),
-        ("pub", "pub fn f() {}", FaultAt(1)),
-    ];
-    for &(inside, after, wanted) in rows {
-        check_groups(&rt, ("", inside, 1, after), wanted);
-    }
+    check_group(
+        &rt,
+        &Signature,
+        &[
+            ("pub", "fn f() {}", "f, visibility 1, body"),
+            (
+                "pub(crate)",
+                "const fn f();",
+                "f, visibility 1, qualifiers 1, no body",
+            ),
+            (
+                "",
+                "unsafe fn f() {}",
+                "f, visibility 1, qualifiers 1, body",
+            ),
+            ("fn f() {}", "", "error at 0"),
+            ("const", "fn f() {}", "error at 0"),
+            ("pub", "pub fn f() {}", "error at 1"),
+        ],
+    );
 }
 
-// A macro by example passes `$b:block` so. Each row is the text before the groups, the text in them, the number of
-// groups, the text after them, and the answer.
+// A macro by example passes `$b:block` so.
 #[test]
 fn a_body_may_be_in_groups_without_delimiters(rt: HostRuntime) {
-    let rows = &[
-        ("fn f()", "{ x }", 1usize, "", Body(0, 0, 0, 0, 0, 0, 0)),
-        (
-            "pub fn f(x: T) -> A",
-            "{ x }",
-            2,
-            "",
-            Body(0, 1, 0, 0, 1, 1, 0),
-        ),
-        ("fn f() where T: A,", "{}", 9, "", Body(0, 0, 0, 0, 0, 0, 5)),
-        ("fn f() where T:", "{}", 1, "", Body(0, 0, 0, 0, 0, 0, 3)),
-        ("fn f() where", "{}", 1, "", Body(0, 0, 0, 0, 0, 0, 1)),
-        ("fn f()", "{ x } y", 1, "", FaultAt(3)),
-        ("fn f()", "(x)", 1, "", FaultAt(3)),
-        ("fn f()", "", 1, "", FaultAt(3)),
-        ("fn f()", "{ x }", 1, "{}", FaultAt(4)),
-        ("fn f()", "{ x }", 2, ";", FaultAt(4)),
-        ("fn f() ->", "{ x }", 1, "{}", FaultAt(5)),
-        ("fn f", "{ x }", 1, "", FaultAt(2)),
-    ];
-    for &(before, inside, groups, after, wanted) in rows {
-        check_groups(&rt, (before, inside, groups, after), wanted);
-    }
+    check_groups(
+        &rt,
+        &Signature,
+        &[
+            (("fn f()", "{ x }", 1, ""), "f, body"),
+            (
+                ("pub fn f(x: T) -> A", "{ x }", 2, ""),
+                "f, visibility 1, parameters 1, return 1, body",
+            ),
+            (("fn f() where T: A,", "{}", 9, ""), "f, where 5, body"),
+            (("fn f() where T:", "{}", 1, ""), "f, where 3, body"),
+            (("fn f() where", "{}", 1, ""), "f, where 1, body"),
+            (("fn f()", "{ x } y", 1, ""), "error at 3"),
+            (("fn f()", "(x)", 1, ""), "error at 3"),
+            (("fn f()", "", 1, ""), "error at 3"),
+            (("fn f()", "{ x }", 1, "{}"), "error at 4"),
+            (("fn f()", "{ x }", 2, ";"), "error at 4"),
+            (("fn f() ->", "{ x }", 1, "{}"), "error at 5"),
+            (("fn f", "{ x }", 1, ""), "error at 2"),
+        ],
+    );
 }

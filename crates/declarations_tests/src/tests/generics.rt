@@ -1,278 +1,200 @@
 // Generic parameters and predicates, with the number of trees in each part.
-use crate::tests::checks::{HeldText, check_answer, check_held, display_text, held_stream, parsed};
-use declarations::{Fault, ParamKind, after_where, parse_param, parse_predicate, within_generics};
+use crate::tests::checks::{Reads, check, check_groups, put_error, put_parts, separate};
+use crate::tests::expected::Call;
+use declarations::{Param, after_where, parse_param, parse_predicate, within_generics};
 use proc_macro2::TokenTree;
-use std::process::Abort;
-use test_helpers::release;
+use std::alloc::AllocError;
 
-/// An element of a list, or the error that comes instead.
-#[derive(Clone, Copy, Debug, PartialEq, Eq)]
-enum Part {
-    /// The trees of the attributes, the name, the bounds and the default.
-    Param(ParamKind, usize, usize, usize, usize),
-    /// The trees of what is bounded, and of the bounds.
-    Predicate(usize, usize),
-    /// An error at a sign that does not fit, after so many of the remaining trees.
-    FaultAt(usize),
-    /// An error at the end: trees are missing after so many.
-    EndsAt(usize),
-    /// No trees are left.
-    End,
-}
-
-use crate::tests::generics::Part::{End, EndsAt, FaultAt, Param, Predicate};
-
-fn fault_place(fault: &Fault) -> Part {
-    match fault.span {
-        Some(_) => FaultAt(fault.at),
-        None => EndsAt(fault.at),
-    }
-}
-
-fn param_parts(param: &declarations::Param<'_>) -> Part {
-    Param(
-        param.kind,
-        param.attributes.len(),
-        param.name.len(),
-        param.bounds.len(),
-        param.default.len(),
+/// Writes a generic parameter: its kind, the number of trees of its name, and its other parts.
+fn put_param(out: &mut String, param: &Param<'_>) -> Result<(), AllocError> {
+    write!(out, "{:?} {}", param.kind, param.name.len())?;
+    put_parts(
+        out,
+        &[
+            ("attributes", param.attributes.len()),
+            ("bounds", param.bounds.len()),
+            ("default", param.default.len()),
+        ],
     )
 }
 
-/// The first parameter, and the trees after it. An error leaves the trees as they are.
-fn first_param<'a>(trees: &'a [TokenTree]) -> (Part, &'a [TokenTree]) {
-    if trees.is_empty() {
-        return (End, trees);
-    }
-    match parse_param(trees) {
-        Ok((param, rest)) => (param_parts(&param), rest),
-        Err(fault) => (fault_place(&fault), trees),
+/// The first parameter, and the trees that are left after it.
+struct FirstParam;
+
+impl Reads for FirstParam {
+    fn put(&self, trees: &[TokenTree], out: &mut String) -> Result<(), AllocError> {
+        match parse_param(trees) {
+            Ok((param, rest)) => {
+                put_param(out, &param)?;
+                put_parts(out, &[("left", rest.len())])
+            }
+            Err(fault) => put_error(out, &fault),
+        }
     }
 }
 
-/// The first predicate, and the trees after it. An error leaves the trees as they are.
-fn first_predicate<'a>(trees: &'a [TokenTree]) -> (Part, &'a [TokenTree]) {
-    if trees.is_empty() {
-        return (End, trees);
-    }
-    match parse_predicate(trees) {
-        Ok((predicate, rest)) => (
-            Predicate(predicate.bounded.len(), predicate.bounds.len()),
-            rest,
-        ),
-        Err(fault) => (fault_place(&fault), trees),
+/// The generic parameters in angle brackets. `brackets: ` is before an error of the brackets.
+struct Params;
+
+impl Reads for Params {
+    fn put(&self, trees: &[TokenTree], out: &mut String) -> Result<(), AllocError> {
+        let mut left = match within_generics(trees) {
+            Ok(inside) => inside,
+            Err(fault) => {
+                write!(out, "brackets: ")?;
+                return put_error(out, &fault);
+            }
+        };
+        // There are at most as many parameters as trees.
+        for _ in trees {
+            if left.is_empty() {
+                return Ok(());
+            }
+            separate(out)?;
+            match parse_param(left) {
+                Ok((param, rest)) => {
+                    put_param(out, &param)?;
+                    left = rest;
+                }
+                Err(fault) => return put_error(out, &fault),
+            }
+        }
+        Ok(())
     }
 }
 
-/// Checks the parameters in the trees, which are those in the brackets of the text.
-fn check_params_in(rt: &impl Abort, text: &str, trees: &[TokenTree], wanted: &[Part]) {
-    let mut left = trees;
-    for &part in wanted {
-        let (found, rest) = first_param(left);
-        check_answer(rt, text, &found, &part);
-        left = rest;
-    }
-}
+/// The predicates of a where clause: what is bounded, and the bounds. `where: ` is before an error of the word `where`.
+struct Predicates;
 
-/// Checks the predicates in the trees, which are those after `where` in the text.
-fn check_predicates_in(rt: &impl Abort, text: &str, trees: &[TokenTree], wanted: &[Part]) {
-    let mut left = trees;
-    for &part in wanted {
-        let (found, rest) = first_predicate(left);
-        check_answer(rt, text, &found, &part);
-        left = rest;
-    }
-}
-
-/// Checks the parts of the parameters in each text.
-fn check_params(rt: &(impl Abort + AllocGlobal), rows: &[(&str, &[Part])]) {
-    for &(text, wanted) in rows {
-        let stream = parsed(rt, text);
-        let inside = within_generics(stream.trees()).expect(rt, text);
-        check_params_in(rt, text, inside, wanted);
-        release(stream);
-    }
-}
-
-/// Checks the parts of the predicates in each text.
-fn check_predicates(rt: &(impl Abort + AllocGlobal), rows: &[(&str, &[Part])]) {
-    for &(text, wanted) in rows {
-        let stream = parsed(rt, text);
-        let inside = after_where(stream.trees()).expect(rt, text);
-        check_predicates_in(rt, text, inside, wanted);
-        release(stream);
+impl Reads for Predicates {
+    fn put(&self, trees: &[TokenTree], out: &mut String) -> Result<(), AllocError> {
+        let mut left = match after_where(trees) {
+            Ok(inside) => inside,
+            Err(fault) => {
+                write!(out, "where: ")?;
+                return put_error(out, &fault);
+            }
+        };
+        // There are at most as many predicates as trees.
+        for _ in trees {
+            if left.is_empty() {
+                return Ok(());
+            }
+            separate(out)?;
+            match parse_predicate(left) {
+                Ok((predicate, rest)) => {
+                    write!(out, "bounded {}", predicate.bounded.len())?;
+                    put_parts(out, &[("bounds", predicate.bounds.len())])?;
+                    left = rest;
+                }
+                Err(fault) => return put_error(out, &fault),
+            }
+        }
+        Ok(())
     }
 }
 
 #[test]
 fn parameters_have_their_parts_in_order(rt: HostRuntime) {
-    check_params(
+    check(
         &rt,
+        &Params,
         &[
-            ("", &[End]),
-            ("<>", &[End]),
-            ("<T>", &[Param(ParamKind::Type, 0, 1, 0, 0), End]),
+            ("", ""),
+            ("<>", ""),
+            ("<T>", "Type 1"),
             (
                 "<'a, 'b: 'a, T: A<B, C> + 'b = D<E, F>, #[g] const N: usize = 3,>",
-                &[
-                    Param(ParamKind::Lifetime, 0, 2, 0, 0),
-                    Param(ParamKind::Lifetime, 0, 2, 2, 0),
-                    Param(ParamKind::Type, 0, 1, 9, 6),
-                    Param(ParamKind::Const, 2, 1, 1, 1),
-                    End,
-                ],
+                "Lifetime 2; Lifetime 2, bounds 2; Type 1, bounds 9, default 6; \
+                 Const 1, attributes 2, bounds 1, default 1",
             ),
             (
                 "<T: for<'a> Fn(&'a u8) -> Vec<T> + ?Sized, U: = V, W:>",
-                &[
-                    Param(ParamKind::Type, 0, 1, 16, 0),
-                    Param(ParamKind::Type, 0, 1, 0, 1),
-                    Param(ParamKind::Type, 0, 1, 0, 0),
-                    End,
-                ],
+                "Type 1, bounds 16; Type 1, default 1; Type 1",
             ),
             (
                 "<const N: usize = { 1 + 2 }, const M: i8 = -1, const L: bool = true, const K: A = B::C>",
-                &[
-                    Param(ParamKind::Const, 0, 1, 1, 1),
-                    Param(ParamKind::Const, 0, 1, 1, 2),
-                    Param(ParamKind::Const, 0, 1, 1, 1),
-                    Param(ParamKind::Const, 0, 1, 1, 4),
-                    End,
-                ],
+                "Const 1, bounds 1, default 1; Const 1, bounds 1, default 2; \
+                 Const 1, bounds 1, default 1; Const 1, bounds 1, default 4",
             ),
             // Lifetimes may come after types, and raw identifiers are words.
-            (
-                "<r#fn, 'a>",
-                &[
-                    Param(ParamKind::Type, 0, 1, 0, 0),
-                    Param(ParamKind::Lifetime, 0, 2, 0, 0),
-                    End,
-                ],
-            ),
-            ("<fn>", &[FaultAt(0)]),
-            ("<'a = T>", &[FaultAt(2)]),
-            ("<T: A B>", &[FaultAt(3)]),
-            ("<T,, U>", &[Param(ParamKind::Type, 0, 1, 0, 0), FaultAt(0)]),
-            ("<const N>", &[EndsAt(2)]),
-            ("<const N: usize = ->", &[EndsAt(6)]),
-            ("<T = >", &[EndsAt(2)]),
-            ("<# T>", &[FaultAt(1)]),
+            ("<r#fn, 'a>", "Type 1; Lifetime 2"),
+            ("<fn>", "error at 0"),
+            ("<'a = T>", "error at 2"),
+            ("<T: A B>", "error at 3"),
+            ("<T,, U>", "Type 1; error at 0"),
+            ("<const N>", "missing after 2"),
+            ("<const N: usize = ->", "missing after 6"),
+            ("<T = >", "missing after 2"),
+            ("<# T>", "error at 1"),
         ],
     );
-}
-
-/// The first parameter, and how many trees come after it. After an error this is 0.
-fn first_count(trees: &[TokenTree]) -> (Part, usize) {
-    match parse_param(trees) {
-        Ok((param, rest)) => (param_parts(&param), rest.len()),
-        Err(fault) => (fault_place(&fault), 0),
-    }
-}
-
-/// Checks the first parameter of the text, and how many trees come after it.
-fn check_first(rt: &(impl Abort + AllocGlobal), text: HeldText<'_>, wanted: (Part, usize)) {
-    let stream = held_stream(rt, text);
-    let found = first_count(stream.trees());
-    release(stream);
-    check_held(rt, text, &found, &wanted);
 }
 
 // A macro by example passes `$b:block` so. No bound and no default of a type can be one.
 #[test]
 fn a_block_in_a_group_without_delimiters_is_a_default(rt: HostRuntime) {
-    let constant = Param(ParamKind::Const, 0, 1, 1, 1);
-    let rows = &[
-        ("const N: A =", ", T", constant, 1),
-        ("const N: A =", "", constant, 0),
-        ("T =", ", U", FaultAt(2), 0),
-        ("T: A +", ", U", FaultAt(4), 0),
-    ];
-    for &(before, after, wanted, rest) in rows {
-        check_first(&rt, (before, "{ 1 + 2 }", 1, after), (wanted, rest));
-    }
-}
-
-#[test]
-fn predicates_have_their_parts_in_order(rt: HostRuntime) {
-    check_predicates(
+    check_groups(
         &rt,
+        &FirstParam,
         &[
-            ("", &[End]),
-            ("where", &[End]),
             (
-                "where T: A<B, C>, for<'a> &'a [T; { N }]: D + 'a, 'b: 'c, U:,",
-                &[
-                    Predicate(1, 6),
-                    Predicate(9, 4),
-                    Predicate(2, 2),
-                    Predicate(1, 0),
-                    End,
-                ],
+                ("const N: A =", "{ 1 + 2 }", 1, ", T"),
+                "Const 1, bounds 1, default 1, left 1",
             ),
-            ("where Vec<T>: ?Sized", &[Predicate(4, 2), End]),
-            ("where T", &[EndsAt(1)]),
-            ("where T: A B", &[FaultAt(3)]),
-            ("where , T: A", &[FaultAt(0)]),
+            (
+                ("const N: A =", "{ 1 + 2 }", 1, ""),
+                "Const 1, bounds 1, default 1",
+            ),
+            (("T =", "{ 1 + 2 }", 1, ", U"), "error at 2"),
+            (("T: A +", "{ 1 + 2 }", 1, ", U"), "error at 4"),
         ],
     );
 }
 
-/// `End` if the brackets are taken off the trees, or else the error.
-fn bracket_place(trees: &[TokenTree]) -> Part {
-    match within_generics(trees) {
-        Ok(_) => End,
-        Err(fault) => fault_place(&fault),
-    }
-}
-
-fn check_brackets(rt: &(impl Abort + AllocGlobal), text: &str, wanted: Part) {
-    let stream = parsed(rt, text);
-    let found = bracket_place(stream.trees());
-    release(stream);
-    check_answer(rt, text, &found, &wanted);
+#[test]
+fn predicates_have_their_parts_in_order(rt: HostRuntime) {
+    check(
+        &rt,
+        &Predicates,
+        &[
+            ("", ""),
+            ("where", ""),
+            (
+                "where T: A<B, C>, for<'a> &'a [T; { N }]: D + 'a, 'b: 'c, U:,",
+                "bounded 1, bounds 6; bounded 9, bounds 4; bounded 2, bounds 2; bounded 1",
+            ),
+            ("where Vec<T>: ?Sized", "bounded 4, bounds 2"),
+            ("where T", "missing after 1"),
+            ("where T: A B", "error at 3"),
+            ("where , T: A", "error at 0"),
+        ],
+    );
 }
 
 #[test]
 fn brackets_and_where_are_taken_off(rt: HostRuntime) {
-    check_brackets(&rt, "T", FaultAt(0));
-    check_brackets(&rt, "<", EndsAt(1));
-    check_brackets(&rt, "< T", EndsAt(2));
-    check_brackets(&rt, "T >", FaultAt(0));
+    check(
+        &rt,
+        &Params,
+        &[
+            ("T", "brackets: error at 0"),
+            ("<", "brackets: missing after 1"),
+            ("< T", "brackets: missing after 2"),
+            ("T >", "brackets: error at 0"),
+        ],
+    );
     // A raw identifier is no keyword.
-    let stream = parsed(&rt, "r#where T: A");
-    let is_fault = after_where(stream.trees()).is_err();
-    release(stream);
-    check_answer(&rt, "r#where T: A", &is_fault, &true);
-}
-
-/// Checks what the error says.
-fn check_message(rt: &(impl Abort + AllocGlobal), fault: Option<Fault>, text: &str, wanted: &str) {
-    match fault {
-        Some(fault) => {
-            let printed = display_text(rt, &fault);
-            check_answer(rt, text, &printed.as_str(), &wanted);
-        }
-        None => assert!(rt; false, "no error of {text:?}"),
-    }
-}
-
-/// Checks what the error says of generic parameters, or of a where clause.
-fn check_missing(rt: &(impl Abort + AllocGlobal), in_where: bool, text: &str, wanted: &str) {
-    let stream = parsed(rt, text);
-    let fault = if in_where {
-        after_where(stream.trees()).err()
-    } else {
-        within_generics(stream.trees()).err()
-    };
-    check_message(rt, fault, text, wanted);
-    release(stream);
+    check(&rt, &Predicates, &[("r#where T: A", "where: error at 0")]);
 }
 
 #[test]
 fn an_error_names_the_bracket_or_the_word_that_is_missing(rt: HostRuntime) {
-    check_missing(&rt, false, "T >", "expected `<`");
     let early = "the declaration ends too early, expected `>`";
-    check_missing(&rt, false, "< T", early);
-    check_missing(&rt, true, "T: A", "expected `where`");
+    check(
+        &rt,
+        &Call::InGenerics,
+        &[("T >", "expected `<`"), ("< T", early)],
+    );
+    check(&rt, &Call::AfterWhere, &[("T: A", "expected `where`")]);
 }

@@ -1,95 +1,77 @@
-// Lists of fields and variants: how many elements come, and where the error is.
-use crate::tests::checks::{check_answer, parsed};
+// Lists of fields and variants: the elements that come, and where the error is.
+use crate::tests::checks::{Reads, check, put_error, separate};
+use crate::tests::items::{put_field, put_variant};
 use declarations::{Body, FieldList, VariantList, parse_type_item};
-use std::process::Abort;
-use test_helpers::release;
+use proc_macro2::TokenTree;
+use std::alloc::AllocError;
 
-/// The number of parts before the end, and the number of trees before the error, if there is one.
-#[derive(Clone, Copy, Debug, PartialEq, Eq)]
-struct Given {
-    parts: usize,
-    fault: Option<usize>,
-}
+/// The fields or variants of a struct, an enum or a union.
+struct Elements;
 
-fn whole(parts: usize) -> Given {
-    Given { parts, fault: None }
-}
-
-fn faulty(parts: usize, at: usize) -> Given {
-    Given {
-        parts,
-        fault: Some(at),
+impl Reads for Elements {
+    fn put(&self, trees: &[TokenTree], out: &mut String) -> Result<(), AllocError> {
+        match parse_type_item(trees) {
+            Ok(item) => match item.body {
+                Body::Struct(fields) => put_fields(out, fields.list()),
+                Body::Enum(group) => put_variants(out, VariantList::new(group)),
+                Body::Union(group) => put_fields(out, FieldList::named(group)),
+            },
+            Err(fault) => put_error(out, &fault),
+        }
     }
 }
 
-fn fields_given(list: FieldList<'_>) -> Given {
-    let mut parts = 0_usize;
+fn put_fields(out: &mut String, list: FieldList<'_>) -> Result<(), AllocError> {
     for field in list {
+        separate(out)?;
         match field {
-            Ok(_) => parts = parts.saturating_add(1),
-            Err(fault) => return faulty(parts, fault.at),
+            Ok(field) => put_field(out, &field)?,
+            Err(fault) => put_error(out, &fault)?,
         }
     }
-    whole(parts)
+    Ok(())
 }
 
-fn variants_given(list: VariantList<'_>) -> Given {
-    let mut parts = 0_usize;
+fn put_variants(out: &mut String, list: VariantList<'_>) -> Result<(), AllocError> {
     for variant in list {
+        separate(out)?;
         match variant {
-            Ok(_) => parts = parts.saturating_add(1),
-            Err(fault) => return faulty(parts, fault.at),
+            Ok(variant) => put_variant(out, &variant)?,
+            Err(fault) => put_error(out, &fault)?,
         }
     }
-    whole(parts)
-}
-
-fn parts_given(body: &Body<'_>) -> Given {
-    match body {
-        Body::Struct(fields) => fields_given(fields.list()),
-        Body::Enum(group) => variants_given(VariantList::new(group)),
-        Body::Union(group) => fields_given(FieldList::named(group)),
-    }
-}
-
-/// Checks the parts of the body of the item.
-fn check_item(rt: &(impl Abort + AllocGlobal), text: &str, wanted: Given) {
-    let stream = parsed(rt, text);
-    match parse_type_item(stream.trees()) {
-        Ok(item) => check_answer(rt, text, &parts_given(&item.body), &wanted),
-        Err(fault) => assert!(rt; false, "{text:?}: {fault}"),
-    }
-    release(stream);
-}
-
-fn check(rt: &(impl Abort + AllocGlobal), rows: &[(&str, Given)]) {
-    for &(text, wanted) in rows {
-        check_item(rt, text, wanted);
-    }
+    Ok(())
 }
 
 #[test]
 fn each_part_of_a_body_is_given_or_its_fault(rt: HostRuntime) {
     check(
         &rt,
+        &Elements,
         &[
-            ("struct S;", whole(0)),
-            ("struct S {}", whole(0)),
+            ("struct S;", ""),
+            ("struct S {}", ""),
             (
                 "struct S { #[x] pub a: Vec<u8, u8>, b: fn() -> u8, }",
-                whole(2),
+                "a, type 6, attributes 2, visibility 1; b, type 5",
             ),
-            ("struct S(u8, pub (u8, u8), Vec<A, B>);", whole(3)),
-            ("struct S(pub(crate) u8,);", whole(1)),
-            ("union U { a: u8, b: u16 }", whole(2)),
-            ("enum E { A, B(u8), C { c: u8 } = f::<X, Y>(), }", whole(3)),
-            ("struct S { a: u8 b: u8 }", faulty(0, 3)),
-            ("struct S { a: u8, , }", faulty(1, 0)),
-            ("struct S { a: u8, b }", faulty(1, 1)),
-            ("struct S(u8, fn);", faulty(1, 1)),
-            ("enum E { A = 1 B }", faulty(0, 3)),
-            ("enum E { A, B =, C }", faulty(1, 2)),
-            ("struct S { , }", faulty(0, 0)),
+            (
+                "struct S(u8, pub (u8, u8), Vec<A, B>);",
+                "type 1; type 1, visibility 1; type 6",
+            ),
+            ("struct S(pub(crate) u8,);", "type 1, visibility 2"),
+            ("union U { a: u8, b: u16 }", "a, type 1; b, type 1"),
+            (
+                "enum E { A, B(u8), C { c: u8 } = f::<X, Y>(), }",
+                "A, unit; B, tuple; C, named, discriminant 9",
+            ),
+            ("struct S { a: u8 b: u8 }", "error at 3"),
+            ("struct S { a: u8, , }", "a, type 1; error at 0"),
+            ("struct S { a: u8, b }", "a, type 1; missing after 1"),
+            ("struct S(u8, fn);", "type 1; missing after 1"),
+            ("enum E { A = 1 B }", "error at 3"),
+            ("enum E { A, B =, C }", "A, unit; error at 2"),
+            ("struct S { , }", "error at 0"),
         ],
     );
 }

@@ -1,107 +1,75 @@
 // The parameters of functions. The crate syn 2 reads each text in the same way, unless a row says otherwise.
-use crate::tests::checks::{check_answer, display_text, held_stream, parsed};
+use crate::tests::checks::{Reads, check, check_groups, put_error, put_parts, separate};
 use declarations::{Parameter, ParameterKind, Parameters, parse_parameter, split_pattern};
-use proc_macro2::{TokenStream, TokenTree};
-use std::process::Abort;
-use test_helpers::release;
+use proc_macro2::TokenTree;
+use std::alloc::AllocError;
 
-/// A parameter: the number of trees in its attributes, in its pattern or receiver, and in its type.
-#[derive(Clone, Copy, Debug, PartialEq, Eq)]
-enum Parts {
-    Receiver(usize, usize),
-    TypedReceiver(usize, usize, usize),
-    Typed(usize, usize, usize),
-    Variadic(usize, usize),
-    /// An error after so many of the remaining trees. No parameter comes after it.
-    Fault(usize),
-}
-
-/// Checks the parameters of each text. A text is what is in the parentheses of a function.
-fn check(rt: &(impl Abort + AllocGlobal), rows: &[(&str, &[Parts])]) {
-    for &(text, wanted) in rows {
-        let stream = parsed(rt, text);
-        check_trees(rt, stream.trees(), text, wanted);
-        release(stream);
-    }
-}
-
-fn parts_of(parameter: Parameter<'_>) -> Parts {
-    let given = parameter.attributes.len();
-    let pattern = parameter.pattern.len();
+/// Writes a parameter: its receiver or pattern, its type or `dots`, and its attributes.
+fn put_parameter(out: &mut String, parameter: &Parameter<'_>) -> Result<(), AllocError> {
+    let count = parameter.pattern.len();
     match parameter.kind {
-        ParameterKind::Receiver => Parts::Receiver(given, pattern),
-        ParameterKind::TypedReceiver(ty) => Parts::TypedReceiver(given, pattern, ty.len()),
-        ParameterKind::Typed(ty) => Parts::Typed(given, pattern, ty.len()),
-        ParameterKind::Variadic => Parts::Variadic(given, pattern),
+        ParameterKind::Receiver => write!(out, "receiver {count}")?,
+        ParameterKind::TypedReceiver(ty) => write!(out, "receiver {count}, type {}", ty.len())?,
+        ParameterKind::Typed(ty) => write!(out, "pattern {count}, type {}", ty.len())?,
+        ParameterKind::Variadic => write!(out, "pattern {count}, dots")?,
+    }
+    put_parts(out, &[("attributes", parameter.attributes.len())])
+}
+
+/// The parameters in the parentheses of a function.
+struct List;
+
+impl Reads for List {
+    fn put(&self, trees: &[TokenTree], out: &mut String) -> Result<(), AllocError> {
+        for parameter in (Parameters { left: trees }) {
+            separate(out)?;
+            match parameter {
+                Ok(parameter) => put_parameter(out, &parameter)?,
+                Err(fault) => put_error(out, &fault)?,
+            }
+        }
+        Ok(())
     }
 }
 
-fn next_parts(list: &mut Parameters<'_>) -> Option<Parts> {
-    match list.next() {
-        Some(Ok(parameter)) => Some(parts_of(parameter)),
-        Some(Err(fault)) => Some(Parts::Fault(fault.at)),
-        None => None,
-    }
-}
-
-/// Checks the parameters that the trees are.
-fn check_trees(rt: &impl Abort, trees: &[TokenTree], text: &str, wanted: &[Parts]) {
-    let mut list = Parameters { left: trees };
-    for &parts in wanted {
-        check_answer(rt, text, &next_parts(&mut list), &Some(parts));
-    }
-    check_answer(rt, text, &next_parts(&mut list), &None);
-}
-
-/// Checks the parameters that the trees of the stream are.
-fn check_stream(rt: &(impl Abort + AllocGlobal), stream: TokenStream, wanted: &[Parts]) {
-    let text = display_text(rt, &stream);
-    check_trees(rt, stream.trees(), text.as_str(), wanted);
-    release((stream, text));
-}
-
-// A macro by example passes `$l:lifetime` in a group without delimiters. Each row is the text before the lifetime `'a`,
-// the number of groups around it, the text after it, and the parameters.
+// A macro by example passes `$l:lifetime` in a group without delimiters.
 #[test]
 fn a_lifetime_may_be_in_a_group_without_delimiters(rt: HostRuntime) {
-    let rows: &[(&str, usize, &str, &[Parts])] = &[
-        ("&", 1, "self", &[Parts::Receiver(0, 3)]),
-        (
-            "&",
-            4,
-            "mut self, x: u8",
-            &[Parts::Receiver(0, 4), Parts::Typed(0, 1, 1)],
-        ),
-        ("self: &", 1, "Self", &[Parts::TypedReceiver(0, 1, 3)]),
-        ("x: &", 2, "str", &[Parts::Typed(0, 1, 3)]),
-        ("&", 1, "x: u8", &[Parts::Fault(2)]),
-    ];
-    for &(before, groups, after, wanted) in rows {
-        check_stream(&rt, held_stream(&rt, (before, "'a", groups, after)), wanted);
-    }
+    check_groups(
+        &rt,
+        &List,
+        &[
+            (("&", "'a", 1, "self"), "receiver 3"),
+            (
+                ("&", "'a", 4, "mut self, x: u8"),
+                "receiver 4; pattern 1, type 1",
+            ),
+            (("self: &", "'a", 1, "Self"), "receiver 1, type 3"),
+            (("x: &", "'a", 2, "str"), "pattern 1, type 3"),
+            (("&", "'a", 1, "x: u8"), "error at 2"),
+        ],
+    );
 }
 
 #[test]
 fn receivers_have_all_their_forms(rt: HostRuntime) {
     check(
         &rt,
+        &List,
         &[
-            ("", &[]),
-            ("self", &[Parts::Receiver(0, 1)]),
-            ("mut self,", &[Parts::Receiver(0, 2)]),
-            ("&self", &[Parts::Receiver(0, 2)]),
-            ("&mut self", &[Parts::Receiver(0, 3)]),
-            ("&'a self", &[Parts::Receiver(0, 4)]),
-            (
-                "&'a mut self, x: u8",
-                &[Parts::Receiver(0, 5), Parts::Typed(0, 1, 1)],
-            ),
-            ("self: Box<Self>", &[Parts::TypedReceiver(0, 1, 4)]),
+            ("", ""),
+            ("self", "receiver 1"),
+            ("mut self,", "receiver 2"),
+            ("&self", "receiver 2"),
+            ("&mut self", "receiver 3"),
+            ("&'a self", "receiver 4"),
+            ("&'a mut self, x: u8", "receiver 5; pattern 1, type 1"),
+            ("self: Box<Self>", "receiver 1, type 4"),
             (
                 "mut self: Pin<&mut Self>, n: usize",
-                &[Parts::TypedReceiver(0, 2, 6), Parts::Typed(0, 1, 1)],
+                "receiver 2, type 6; pattern 1, type 1",
             ),
-            ("#[a] #[b(c)] &self", &[Parts::Receiver(4, 2)]),
+            ("#[a] #[b(c)] &self", "receiver 2, attributes 4"),
         ],
     );
 }
@@ -110,37 +78,35 @@ fn receivers_have_all_their_forms(rt: HostRuntime) {
 fn patterns_end_at_their_colons(rt: HostRuntime) {
     check(
         &rt,
+        &List,
         &[
-            ("x: u8", &[Parts::Typed(0, 1, 1)]),
-            ("mut x: u8,", &[Parts::Typed(0, 2, 1)]),
-            (
-                "_: u8, ref x: u8",
-                &[Parts::Typed(0, 1, 1), Parts::Typed(0, 2, 1)],
-            ),
-            ("(a, b): (A, B)", &[Parts::Typed(0, 1, 1)]),
-            ("&x: &u8", &[Parts::Typed(0, 2, 2)]),
-            ("&mut x: &'a mut u8", &[Parts::Typed(0, 3, 5)]),
-            ("&&x: &&u8", &[Parts::Typed(0, 3, 3)]),
-            ("& &mut x: T", &[Parts::Typed(0, 4, 1)]),
-            ("[a, .., b]: [u8; 4]", &[Parts::Typed(0, 1, 1)]),
-            ("P { x, .. }: P", &[Parts::Typed(0, 2, 1)]),
-            ("a::P(x): a::P", &[Parts::Typed(0, 5, 4)]),
-            ("P::<u8>(x): P<u8>", &[Parts::Typed(0, 7, 4)]),
-            ("P::<T> { x }: P<T>", &[Parts::Typed(0, 7, 4)]),
-            ("<A as B>::C(x): D", &[Parts::Typed(0, 9, 1)]),
-            ("x @ P { .. }: P", &[Parts::Typed(0, 4, 1)]),
-            ("x @ 0..=255: u8", &[Parts::Typed(0, 7, 1)]),
-            ("-1..=1: i8", &[Parts::Typed(0, 6, 1)]),
-            ("p!(x): P", &[Parts::Typed(0, 3, 1)]),
+            ("x: u8", "pattern 1, type 1"),
+            ("mut x: u8,", "pattern 2, type 1"),
+            ("_: u8, ref x: u8", "pattern 1, type 1; pattern 2, type 1"),
+            ("(a, b): (A, B)", "pattern 1, type 1"),
+            ("&x: &u8", "pattern 2, type 2"),
+            ("&mut x: &'a mut u8", "pattern 3, type 5"),
+            ("&&x: &&u8", "pattern 3, type 3"),
+            ("& &mut x: T", "pattern 4, type 1"),
+            ("[a, .., b]: [u8; 4]", "pattern 1, type 1"),
+            ("P { x, .. }: P", "pattern 2, type 1"),
+            ("a::P(x): a::P", "pattern 5, type 4"),
+            ("P::<u8>(x): P<u8>", "pattern 7, type 4"),
+            ("P::<T> { x }: P<T>", "pattern 7, type 4"),
+            ("<A as B>::C(x): D", "pattern 9, type 1"),
+            ("x @ P { .. }: P", "pattern 4, type 1"),
+            ("x @ 0..=255: u8", "pattern 7, type 1"),
+            ("-1..=1: i8", "pattern 6, type 1"),
+            ("p!(x): P", "pattern 3, type 1"),
             (
                 "crate::A(x): A, super::B: B",
-                &[Parts::Typed(0, 5, 1), Parts::Typed(0, 4, 1)],
+                "pattern 5, type 1; pattern 4, type 1",
             ),
             (
                 "r#self2: u8, union: u8",
-                &[Parts::Typed(0, 1, 1), Parts::Typed(0, 1, 1)],
+                "pattern 1, type 1; pattern 1, type 1",
             ),
-            ("#[a] x: u8", &[Parts::Typed(2, 1, 1)]),
+            ("#[a] x: u8", "pattern 1, type 1, attributes 2"),
         ],
     );
 }
@@ -149,20 +115,18 @@ fn patterns_end_at_their_colons(rt: HostRuntime) {
 fn a_pattern_may_begin_with_two_dots(rt: HostRuntime) {
     check(
         &rt,
+        &List,
         &[
-            ("..: A", &[Parts::Typed(0, 2, 1)]),
-            (
-                "..5: u8, x: u8",
-                &[Parts::Typed(0, 3, 1), Parts::Typed(0, 1, 1)],
-            ),
-            ("..=9: u8,", &[Parts::Typed(0, 4, 1)]),
-            ("..=a::B: &u8", &[Parts::Typed(0, 7, 2)]),
-            ("#[a] ..=9: u8", &[Parts::Typed(2, 4, 1)]),
-            ("..: ...", &[Parts::Variadic(0, 2)]),
-            ("&..: &A", &[Parts::Typed(0, 3, 2)]),
+            ("..: A", "pattern 2, type 1"),
+            ("..5: u8, x: u8", "pattern 3, type 1; pattern 1, type 1"),
+            ("..=9: u8,", "pattern 4, type 1"),
+            ("..=a::B: &u8", "pattern 7, type 2"),
+            ("#[a] ..=9: u8", "pattern 4, type 1, attributes 2"),
+            ("..: ...", "pattern 2, dots"),
+            ("&..: &A", "pattern 3, type 2"),
             // The crate syn reads no pattern here and in the next row.
-            ("mut ..5: u8", &[Parts::Typed(0, 4, 1)]),
-            ("..P::<T> { x }: P<T>", &[Parts::Typed(0, 9, 4)]),
+            ("mut ..5: u8", "pattern 4, type 1"),
+            ("..P::<T> { x }: P<T>", "pattern 9, type 4"),
         ],
     );
 }
@@ -171,14 +135,15 @@ fn a_pattern_may_begin_with_two_dots(rt: HostRuntime) {
 fn a_pattern_may_have_self_after_its_first_sign(rt: HostRuntime) {
     check(
         &rt,
+        &List,
         &[
-            ("x @ self::A: T", &[Parts::Typed(0, 6, 1)]),
-            ("0..=self::MAX: u8", &[Parts::Typed(0, 8, 1)]),
-            ("..=self::MAX: u8", &[Parts::Typed(0, 7, 1)]),
-            ("&x @ self::A(a): &A", &[Parts::Typed(0, 8, 2)]),
-            ("mut x @ self::A: A", &[Parts::Typed(0, 7, 1)]),
-            ("&&self::A(a): &&A", &[Parts::Typed(0, 7, 3)]),
-            ("x @ self::A", &[Parts::Fault(6)]),
+            ("x @ self::A: T", "pattern 6, type 1"),
+            ("0..=self::MAX: u8", "pattern 8, type 1"),
+            ("..=self::MAX: u8", "pattern 7, type 1"),
+            ("&x @ self::A(a): &A", "pattern 8, type 2"),
+            ("mut x @ self::A: A", "pattern 7, type 1"),
+            ("&&self::A(a): &&A", "pattern 7, type 3"),
+            ("x @ self::A", "missing after 6"),
         ],
     );
 }
@@ -187,31 +152,32 @@ fn a_pattern_may_have_self_after_its_first_sign(rt: HostRuntime) {
 fn types_end_at_their_commas(rt: HostRuntime) {
     check(
         &rt,
+        &List,
         &[
             (
                 "f: &dyn Fn(A, B) -> C, d: D",
-                &[Parts::Typed(0, 1, 7), Parts::Typed(0, 1, 1)],
+                "pattern 1, type 7; pattern 1, type 1",
             ),
             (
                 "f: impl Fn(A, B) -> Vec<C>, d: D",
-                &[Parts::Typed(0, 1, 9), Parts::Typed(0, 1, 1)],
+                "pattern 1, type 9; pattern 1, type 1",
             ),
             (
                 "m: HashMap<A, Vec<B>>, d: D",
-                &[Parts::Typed(0, 1, 9), Parts::Typed(0, 1, 1)],
+                "pattern 1, type 9; pattern 1, type 1",
             ),
             (
                 "f: Box<dyn Fn() -> A>, d: D",
-                &[Parts::Typed(0, 1, 9), Parts::Typed(0, 1, 1)],
+                "pattern 1, type 9; pattern 1, type 1",
             ),
             (
                 "f: for<'a> fn(&'a A) -> &'a B, d: D",
-                &[Parts::Typed(0, 1, 13), Parts::Typed(0, 1, 1)],
+                "pattern 1, type 13; pattern 1, type 1",
             ),
             // A trait without `dyn`. The crate syn does not read it before `->`.
             (
                 "f: Fn(A, B) -> C, d: D",
-                &[Parts::Typed(0, 1, 5), Parts::Typed(0, 1, 1)],
+                "pattern 1, type 5; pattern 1, type 1",
             ),
         ],
     );
@@ -221,15 +187,13 @@ fn types_end_at_their_commas(rt: HostRuntime) {
 fn dots_are_the_last(rt: HostRuntime) {
     check(
         &rt,
+        &List,
         &[
-            (
-                "x: u8, ...",
-                &[Parts::Typed(0, 1, 1), Parts::Variadic(0, 0)],
-            ),
-            ("#[a] mut rest: ...", &[Parts::Variadic(2, 2)]),
-            ("#[a] ...,", &[Parts::Variadic(2, 0)]),
-            ("...: u8", &[Parts::Fault(3)]),
-            ("....", &[Parts::Fault(3)]),
+            ("x: u8, ...", "pattern 1, type 1; pattern 0, dots"),
+            ("#[a] mut rest: ...", "pattern 2, dots, attributes 2"),
+            ("#[a] ...,", "pattern 0, dots, attributes 2"),
+            ("...: u8", "error at 3"),
+            ("....", "error at 3"),
         ],
     );
 }
@@ -238,92 +202,103 @@ fn dots_are_the_last(rt: HostRuntime) {
 fn a_fault_ends_the_parameters(rt: HostRuntime) {
     check(
         &rt,
+        &List,
         &[
-            ("x", &[Parts::Fault(1)]),
-            ("x,", &[Parts::Fault(1)]),
-            ("x:", &[Parts::Fault(2)]),
-            (": u8", &[Parts::Fault(0)]),
-            ("mut: u8", &[Parts::Fault(1)]),
-            ("&: u8", &[Parts::Fault(1)]),
-            ("&self: A", &[Parts::Fault(2)]),
-            ("&'a mut self: A", &[Parts::Fault(5)]),
-            ("&'a x: A", &[Parts::Fault(3)]),
-            ("&&self", &[Parts::Fault(3)]),
-            ("self x", &[Parts::Fault(1)]),
+            ("x", "missing after 1"),
+            ("x,", "error at 1"),
+            ("x:", "missing after 2"),
+            (": u8", "error at 0"),
+            ("mut: u8", "error at 1"),
+            ("&: u8", "error at 1"),
+            ("&self: A", "error at 2"),
+            ("&'a mut self: A", "error at 5"),
+            ("&'a x: A", "error at 3"),
+            ("&&self", "missing after 3"),
+            ("self x", "error at 1"),
             // The compiler reads the next three.
-            ("self::A(a): A", &[Parts::Fault(1)]),
-            ("&self::A(a): &A", &[Parts::Fault(2)]),
-            ("&mut self::A(a): &mut A", &[Parts::Fault(3)]),
-            ("x: u8 y: u8", &[Parts::Fault(3)]),
-            ("x: u8 = 1", &[Parts::Fault(3)]),
-            ("x: A, , y: B", &[Parts::Typed(0, 1, 1), Parts::Fault(0)]),
-            ("#[a]", &[Parts::Fault(2)]),
-            (".", &[Parts::Fault(1)]),
-            (". x: u8", &[Parts::Fault(1)]),
-            ("..", &[Parts::Fault(2)]),
-            ("..5 | 7: u8", &[Parts::Fault(3)]),
-            ("fn x: u8", &[Parts::Fault(0)]),
+            ("self::A(a): A", "error at 1"),
+            ("&self::A(a): &A", "error at 2"),
+            ("&mut self::A(a): &mut A", "error at 3"),
+            ("x: u8 y: u8", "error at 3"),
+            ("x: u8 = 1", "error at 3"),
+            ("x: A, , y: B", "pattern 1, type 1; error at 0"),
+            ("#[a]", "missing after 2"),
+            (".", "missing after 1"),
+            (". x: u8", "error at 1"),
+            ("..", "missing after 2"),
+            ("..5 | 7: u8", "error at 3"),
+            ("fn x: u8", "error at 0"),
             // The crate syn reads this as `self` with `...`.
-            ("self: ...", &[Parts::Fault(2)]),
+            ("self: ...", "error at 2"),
         ],
     );
 }
 
-/// The number of trees in the pattern of the first parameter, and after the parameter.
-fn first_of(trees: &[TokenTree]) -> Option<(usize, usize)> {
-    match parse_parameter(trees) {
-        Ok((parameter, rest)) => Some((parameter.pattern.len(), rest.len())),
-        Err(_) => None,
-    }
-}
+/// The trees in the pattern that comes first, and those that are left after it.
+struct Pattern;
 
-/// The number of trees in the pattern that comes first, and after it.
-fn pattern_of(trees: &[TokenTree]) -> Option<(usize, usize)> {
-    match split_pattern(trees) {
-        Ok((pattern, rest)) => Some((pattern.len(), rest.len())),
-        Err(_) => None,
+impl Reads for Pattern {
+    fn put(&self, trees: &[TokenTree], out: &mut String) -> Result<(), AllocError> {
+        match split_pattern(trees) {
+            Ok((pattern, rest)) => {
+                write!(out, "pattern {}", pattern.len())?;
+                put_parts(out, &[("left", rest.len())])
+            }
+            Err(fault) => put_error(out, &fault),
+        }
     }
 }
 
 #[test]
 fn dots_can_begin_a_pattern_alone(rt: HostRuntime) {
-    let rows: &[(&str, Option<(usize, usize)>)] = &[
-        ("..", Some((2, 0))),
-        ("..5 | 7", Some((3, 2))),
-        ("..=9: u8", Some((4, 2))),
-        ("...", Some((3, 0))),
-        (". 5", None),
-    ];
-    for &(text, wanted) in rows {
-        let stream = parsed(&rt, text);
-        check_answer(&rt, text, &pattern_of(stream.trees()), &wanted);
-        release(stream);
-    }
+    check(
+        &rt,
+        &Pattern,
+        &[
+            ("..", "pattern 2"),
+            ("..5 | 7", "pattern 3, left 2"),
+            ("..=9: u8", "pattern 4, left 2"),
+            ("...", "pattern 3"),
+            (". 5", "error at 1"),
+        ],
+    );
 }
 
 #[test]
 fn a_split_pattern_may_have_self_after_its_first_sign(rt: HostRuntime) {
-    let rows: &[(&str, Option<(usize, usize)>)] = &[
-        ("x @ self::A: T", Some((6, 2))),
-        ("0..=self::MAX | 7", Some((8, 2))),
-        ("..self", Some((3, 0))),
-        ("&self::A(a): &A", Some((6, 3))),
-        ("mut self: A", Some((2, 2))),
-        ("self", None),
-        ("self::A: T", None),
-    ];
-    for &(text, wanted) in rows {
-        let stream = parsed(&rt, text);
-        check_answer(&rt, text, &pattern_of(stream.trees()), &wanted);
-        release(stream);
+    check(
+        &rt,
+        &Pattern,
+        &[
+            ("x @ self::A: T", "pattern 6, left 2"),
+            ("0..=self::MAX | 7", "pattern 8, left 2"),
+            ("..self", "pattern 3"),
+            ("&self::A(a): &A", "pattern 6, left 3"),
+            ("mut self: A", "pattern 2, left 2"),
+            ("self", "error at 0"),
+            ("self::A: T", "error at 0"),
+        ],
+    );
+}
+
+/// The first parameter, and the trees that are left after it.
+struct First;
+
+impl Reads for First {
+    fn put(&self, trees: &[TokenTree], out: &mut String) -> Result<(), AllocError> {
+        match parse_parameter(trees) {
+            Ok((parameter, rest)) => {
+                put_parameter(out, &parameter)?;
+                put_parts(out, &[("left", rest.len())])
+            }
+            Err(fault) => put_error(out, &fault),
+        }
     }
 }
 
 #[test]
 fn the_first_parameter_leaves_the_rest(rt: HostRuntime) {
     let text = "(a, b): (A, B), c: C";
-    let stream = parsed(&rt, text);
-    check_answer(&rt, text, &first_of(stream.trees()), &Some((1, 4)));
-    check_answer(&rt, text, &pattern_of(stream.trees()), &Some((1, 6)));
-    release(stream);
+    check(&rt, &First, &[(text, "pattern 1, type 1, left 4")]);
+    check(&rt, &Pattern, &[(text, "pattern 1, left 6")]);
 }

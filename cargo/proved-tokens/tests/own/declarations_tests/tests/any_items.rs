@@ -1,45 +1,25 @@
 // Made from crates/declarations_tests/src/tests/any_items.rt by dev/erase: change that file, not this one.
 
-use crate::shim::prelude::{AllocGlobal, HostRuntime};
+use crate::shim::prelude::{GrowText, HostRuntime};
 
 // The item that each text begins with.
-use crate::declarations_tests::tests::checks::{check_answer, parsed};
-use proved_tokens::declarations::{ItemKind, split_any_item};
-use proved_tokens::proc_macro2::{Ident, TokenTree};
-use crate::shim::process::Abort;
-use crate::test_helpers::release;
+use crate::declarations_tests::tests::checks::{Reads, check, put_error};
+use proved_tokens::declarations::split_any_item;
+use proved_tokens::proc_macro2::TokenTree;
+use crate::shim::alloc::AllocError;
 
-fn is_named(name: Option<&Ident>, wanted: &str) -> bool {
-    match name {
-        Some(ident) => ident.eq_str(wanted),
-        None => wanted.is_empty(),
-    }
-}
+/// The item that the trees begin with: its kind, the number of its trees, and its name, if it has one.
+pub struct FirstItem;
 
-/// The number of trees and the kind of the item that the trees begin with, and whether it has this name.
-fn item_of(trees: &[TokenTree], name: &str) -> Option<(usize, ItemKind, bool)> {
-    match split_any_item(trees) {
-        Ok((item, _)) => Some((item.trees.len(), item.kind, is_named(item.name, name))),
-        Err(_) => None,
-    }
-}
-
-/// Checks the item that the text begins with.
-fn check_item(
-    rt: &(impl Abort + AllocGlobal),
-    (text, trees, kind, name): (&str, usize, ItemKind, &str),
-) {
-    let stream = parsed(rt, text);
-    let found = item_of(stream.trees(), name);
-    release(stream);
-    check_answer(rt, text, &found, &Some((trees, kind, true)));
-}
-
-/// Checks the number of trees, the kind and the name of the item that each text begins with. No name is written as
-/// `""`.
-fn check(rt: &(impl Abort + AllocGlobal), rows: &[(&str, usize, ItemKind, &str)]) {
-    for &row in rows {
-        check_item(rt, row);
+impl Reads for FirstItem {
+    fn put(&self, trees: &[TokenTree], out: &mut String) -> Result<(), AllocError> {
+        match split_any_item(trees) {
+            Ok((item, _)) => match item.name {
+                Some(name) => write!(out, "{:?} {} {name}", item.kind, item.trees.len()),
+                None => write!(out, "{:?} {}", item.kind, item.trees.len()),
+            },
+            Err(fault) => put_error(out, &fault),
+        }
     }
 }
 
@@ -48,56 +28,40 @@ fn an_item_has_a_kind_and_a_name() {
     let rt = HostRuntime;
     check(
         &rt,
+        &FirstItem,
         &[
             (
                 "pub const unsafe extern \"C\" fn f<T>(x: T) -> Vec<T> where T: A {} fn",
-                22,
-                ItemKind::Function,
-                "f",
+                "Function 22 f",
             ),
-            ("fn union(); x", 4, ItemKind::Function, "union"),
-            ("extern \"C\" fn f() {}", 6, ItemKind::Function, "f"),
-            ("const safe fn f() {}", 6, ItemKind::Function, "f"),
-            ("const safe: u8 = 1 + 2; x", 9, ItemKind::Constant, "safe"),
-            ("const _: () = {};", 7, ItemKind::Constant, "_"),
-            ("pub(crate) static mut A: B;", 8, ItemKind::Static, "A"),
-            ("type A<T>: B = C where T: D;", 14, ItemKind::TypeAlias, "A"),
-            ("unsafe auto trait T {}", 5, ItemKind::Trait, "T"),
-            ("trait T: A + 'a where Self: B {}", 12, ItemKind::Trait, "T"),
-            ("trait T = A + B;", 7, ItemKind::TraitAlias, "T"),
-            (
-                "impl<T: A> B for C<T> where T: D {} x",
-                17,
-                ItemKind::Impl,
-                "",
-            ),
-            ("impl <T as U>::V {}", 10, ItemKind::Impl, ""),
-            (
-                "impl Trait for for<'a> fn(&'a u8) {}",
-                11,
-                ItemKind::Impl,
-                "",
-            ),
-            ("impl !A for B {}", 6, ItemKind::Impl, ""),
-            ("impl ! {}", 3, ItemKind::Impl, ""),
-            ("default unsafe impl A for B {}", 7, ItemKind::Impl, ""),
-            ("mod m { fn f() {} } x", 3, ItemKind::Module, "m"),
-            ("use a::{b, c as d}; x", 6, ItemKind::Use, ""),
-            ("use a as _;", 5, ItemKind::Use, ""),
-            ("extern crate self as a;", 6, ItemKind::ExternCrate, "self"),
-            (
-                "unsafe extern \"C\" { fn f(); }",
-                4,
-                ItemKind::ExternBlock,
-                "",
-            ),
-            ("macro m($x:expr) { 1 }", 4, ItemKind::Macro, "m"),
-            ("macro_rules! m { () => {} } x", 4, ItemKind::MacroCall, "m"),
-            ("a::b!(c); x", 7, ItemKind::MacroCall, ""),
-            ("union! {}", 3, ItemKind::MacroCall, ""),
-            ("union U { a: u8 }", 3, ItemKind::Union, "U"),
-            ("#[a] struct S(u8);", 6, ItemKind::Struct, "S"),
-            ("enum E {}", 3, ItemKind::Enum, "E"),
+            ("fn union(); x", "Function 4 union"),
+            ("extern \"C\" fn f() {}", "Function 6 f"),
+            ("const safe fn f() {}", "Function 6 f"),
+            ("const safe: u8 = 1 + 2; x", "Constant 9 safe"),
+            ("const _: () = {};", "Constant 7 _"),
+            ("pub(crate) static mut A: B;", "Static 8 A"),
+            ("type A<T>: B = C where T: D;", "TypeAlias 14 A"),
+            ("unsafe auto trait T {}", "Trait 5 T"),
+            ("trait T: A + 'a where Self: B {}", "Trait 12 T"),
+            ("trait T = A + B;", "TraitAlias 7 T"),
+            ("impl<T: A> B for C<T> where T: D {} x", "Impl 17"),
+            ("impl <T as U>::V {}", "Impl 10"),
+            ("impl Trait for for<'a> fn(&'a u8) {}", "Impl 11"),
+            ("impl !A for B {}", "Impl 6"),
+            ("impl ! {}", "Impl 3"),
+            ("default unsafe impl A for B {}", "Impl 7"),
+            ("mod m { fn f() {} } x", "Module 3 m"),
+            ("use a::{b, c as d}; x", "Use 6"),
+            ("use a as _;", "Use 5"),
+            ("extern crate self as a;", "ExternCrate 6 self"),
+            ("unsafe extern \"C\" { fn f(); }", "ExternBlock 4"),
+            ("macro m($x:expr) { 1 }", "Macro 4 m"),
+            ("macro_rules! m { () => {} } x", "MacroCall 4 m"),
+            ("a::b!(c); x", "MacroCall 7"),
+            ("union! {}", "MacroCall 3"),
+            ("union U { a: u8 }", "Union 3 U"),
+            ("#[a] struct S(u8);", "Struct 6 S"),
+            ("enum E {}", "Enum 3 E"),
         ],
     );
 }
@@ -107,30 +71,24 @@ fn gen_is_a_qualifier_of_functions() {
     let rt = HostRuntime;
     check(
         &rt,
+        &FirstItem,
         &[
-            ("gen fn f() {} x", 5, ItemKind::Function, "f"),
-            ("pub gen fn f() {} x", 6, ItemKind::Function, "f"),
-            ("async gen fn f() {}", 6, ItemKind::Function, "f"),
-            ("const gen fn f() {}", 6, ItemKind::Function, "f"),
-            ("const async gen fn f();", 7, ItemKind::Function, "f"),
-            ("gen unsafe fn f() {}", 6, ItemKind::Function, "f"),
-            ("pub gen safe fn f();", 7, ItemKind::Function, "f"),
-            ("const gen safe fn f();", 7, ItemKind::Function, "f"),
-            ("gen extern fn f() {}", 6, ItemKind::Function, "f"),
-            (
-                "const gen unsafe extern \"C\" fn f() {}",
-                9,
-                ItemKind::Function,
-                "f",
-            ),
-            ("default gen fn f() {}", 6, ItemKind::Function, "f"),
+            ("gen fn f() {} x", "Function 5 f"),
+            ("pub gen fn f() {} x", "Function 6 f"),
+            ("async gen fn f() {}", "Function 6 f"),
+            ("const gen fn f() {}", "Function 6 f"),
+            ("const async gen fn f();", "Function 7 f"),
+            ("gen unsafe fn f() {}", "Function 6 f"),
+            ("pub gen safe fn f();", "Function 7 f"),
+            ("const gen safe fn f();", "Function 7 f"),
+            ("gen extern fn f() {}", "Function 6 f"),
+            ("const gen unsafe extern \"C\" fn f() {}", "Function 9 f"),
+            ("default gen fn f() {}", "Function 6 f"),
             (
                 "default const async gen unsafe extern fn f() {} x",
-                10,
-                ItemKind::Function,
-                "f",
+                "Function 10 f",
             ),
-            ("gen fn gen() {}", 5, ItemKind::Function, "gen"),
+            ("gen fn gen() {}", "Function 5 gen"),
         ],
     );
 }
@@ -140,26 +98,27 @@ fn gen_is_a_name_where_no_function_follows() {
     let rt = HostRuntime;
     check(
         &rt,
+        &FirstItem,
         &[
-            ("gen!(); x", 4, ItemKind::MacroCall, ""),
-            ("gen::f!{} x", 6, ItemKind::MacroCall, ""),
-            ("a::gen!{}", 6, ItemKind::MacroCall, ""),
-            ("r#gen!{}", 3, ItemKind::MacroCall, ""),
-            ("macro_rules! gen {}", 4, ItemKind::MacroCall, "gen"),
-            ("fn gen() {}", 4, ItemKind::Function, "gen"),
-            ("const gen: u8 = 1; x", 7, ItemKind::Constant, "gen"),
-            ("const gen<T>: u8 = 1;", 10, ItemKind::Constant, "gen"),
-            ("default const gen: gen;", 6, ItemKind::Constant, "gen"),
-            ("const r#gen: u8 = 1;", 7, ItemKind::Constant, "r#gen"),
-            ("static gen: gen = gen;", 7, ItemKind::Static, "gen"),
-            ("type gen<gen> = gen;", 8, ItemKind::TypeAlias, "gen"),
-            ("struct gen(gen);", 4, ItemKind::Struct, "gen"),
-            ("union gen { gen: gen }", 3, ItemKind::Union, "gen"),
-            ("trait gen: gen {}", 5, ItemKind::Trait, "gen"),
-            ("impl<gen> gen for gen<gen> {}", 11, ItemKind::Impl, ""),
-            ("mod gen;", 3, ItemKind::Module, "gen"),
-            ("use gen::gen as gen;", 8, ItemKind::Use, ""),
-            ("extern crate gen;", 4, ItemKind::ExternCrate, "gen"),
+            ("gen!(); x", "MacroCall 4"),
+            ("gen::f!{} x", "MacroCall 6"),
+            ("a::gen!{}", "MacroCall 6"),
+            ("r#gen!{}", "MacroCall 3"),
+            ("macro_rules! gen {}", "MacroCall 4 gen"),
+            ("fn gen() {}", "Function 4 gen"),
+            ("const gen: u8 = 1; x", "Constant 7 gen"),
+            ("const gen<T>: u8 = 1;", "Constant 10 gen"),
+            ("default const gen: gen;", "Constant 6 gen"),
+            ("const r#gen: u8 = 1;", "Constant 7 r#gen"),
+            ("static gen: gen = gen;", "Static 7 gen"),
+            ("type gen<gen> = gen;", "TypeAlias 8 gen"),
+            ("struct gen(gen);", "Struct 4 gen"),
+            ("union gen { gen: gen }", "Union 3 gen"),
+            ("trait gen: gen {}", "Trait 5 gen"),
+            ("impl<gen> gen for gen<gen> {}", "Impl 11"),
+            ("mod gen;", "Module 3 gen"),
+            ("use gen::gen as gen;", "Use 8"),
+            ("extern crate gen;", "ExternCrate 4 gen"),
         ],
     );
 }
@@ -169,20 +128,21 @@ fn what_comes_first_leads_to_the_kind() {
     let rt = HostRuntime;
     check(
         &rt,
+        &FirstItem,
         &[
-            ("default impl A for B {} x", 6, ItemKind::Impl, ""),
-            ("default type A = B; x", 6, ItemKind::TypeAlias, "A"),
-            ("default unsafe fn f() {}", 6, ItemKind::Function, "f"),
-            ("safe static A: B; x", 6, ItemKind::Static, "A"),
-            ("safe fn f(); x", 5, ItemKind::Function, "f"),
-            ("unsafe mod m {} x", 4, ItemKind::Module, "m"),
-            ("unsafe static mut A: B = c;", 9, ItemKind::Static, "A"),
-            ("unsafe trait T = A; x", 6, ItemKind::TraitAlias, "T"),
-            ("unsafe extern fn f(); x", 6, ItemKind::Function, "f"),
-            ("extern {} x", 2, ItemKind::ExternBlock, ""),
-            ("auto trait T {} x", 4, ItemKind::Trait, "T"),
-            ("use ::a::*; x", 8, ItemKind::Use, ""),
-            ("use {a, b}; x", 3, ItemKind::Use, ""),
+            ("default impl A for B {} x", "Impl 6"),
+            ("default type A = B; x", "TypeAlias 6 A"),
+            ("default unsafe fn f() {}", "Function 6 f"),
+            ("safe static A: B; x", "Static 6 A"),
+            ("safe fn f(); x", "Function 5 f"),
+            ("unsafe mod m {} x", "Module 4 m"),
+            ("unsafe static mut A: B = c;", "Static 9 A"),
+            ("unsafe trait T = A; x", "TraitAlias 6 T"),
+            ("unsafe extern fn f(); x", "Function 6 f"),
+            ("extern {} x", "ExternBlock 2"),
+            ("auto trait T {} x", "Trait 4 T"),
+            ("use ::a::*; x", "Use 8"),
+            ("use {a, b}; x", "Use 3"),
         ],
     );
 }
@@ -192,20 +152,19 @@ fn a_trait_may_have_const_before_it() {
     let rt = HostRuntime;
     check(
         &rt,
+        &FirstItem,
         &[
-            ("const trait T { fn f(); } x", 4, ItemKind::Trait, "T"),
-            ("pub const trait T: A {} x", 7, ItemKind::Trait, "T"),
+            ("const trait T { fn f(); } x", "Trait 4 T"),
+            ("pub const trait T: A {} x", "Trait 7 T"),
             (
                 "#[a] pub(crate) const trait T<U> where U: A {}",
-                15,
-                ItemKind::Trait,
-                "T",
+                "Trait 15 T",
             ),
-            ("default const trait T {} x", 5, ItemKind::Trait, "T"),
-            ("const trait T = A + B; x", 8, ItemKind::TraitAlias, "T"),
-            ("const trait gen {}", 4, ItemKind::Trait, "gen"),
-            ("const r#trait: u8 = 1;", 7, ItemKind::Constant, "r#trait"),
-            ("const auto: u8 = 1;", 7, ItemKind::Constant, "auto"),
+            ("default const trait T {} x", "Trait 5 T"),
+            ("const trait T = A + B; x", "TraitAlias 8 T"),
+            ("const trait gen {}", "Trait 4 gen"),
+            ("const r#trait: u8 = 1;", "Constant 7 r#trait"),
+            ("const auto: u8 = 1;", "Constant 7 auto"),
         ],
     );
 }
@@ -215,12 +174,13 @@ fn the_path_of_a_macro_call_may_begin_with_any_word() {
     let rt = HostRuntime;
     check(
         &rt,
+        &FirstItem,
         &[
-            ("auto!{} x", 3, ItemKind::MacroCall, ""),
-            ("default::a!(b); x", 7, ItemKind::MacroCall, ""),
-            ("safe!(x); x", 4, ItemKind::MacroCall, ""),
-            ("self::a!{} x", 6, ItemKind::MacroCall, ""),
-            ("::a::b! c {} x", 9, ItemKind::MacroCall, "c"),
+            ("auto!{} x", "MacroCall 3"),
+            ("default::a!(b); x", "MacroCall 7"),
+            ("safe!(x); x", "MacroCall 4"),
+            ("self::a!{} x", "MacroCall 6"),
+            ("::a::b! c {} x", "MacroCall 9 c"),
         ],
     );
 }

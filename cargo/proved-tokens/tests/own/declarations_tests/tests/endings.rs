@@ -1,96 +1,82 @@
 // Made from crates/declarations_tests/src/tests/endings.rt by dev/erase: change that file, not this one.
 
-use crate::shim::prelude::{AllocGlobal, HostRuntime};
+use crate::shim::prelude::{GrowText, HostRuntime};
 
 // Errors at the end of a group, which can be reported at its closing delimiter.
-use crate::declarations_tests::tests::checks::{check_answer, debug_text, parsed};
-use proved_tokens::declarations::{Attribute, AttributeArgs, Attributes, check_entries, split_type};
-use proved_tokens::proc_macro2::{Group, Span, TokenTree};
-use crate::shim::process::Abort;
-use crate::test_helpers::release;
+use crate::declarations_tests::tests::checks::{Reads, check, separate};
+use proved_tokens::declarations::{AttributeArgs, Attributes, check_entries, split_type};
+use proved_tokens::proc_macro2::TokenTree;
+use crate::shim::alloc::AllocError;
 
-/// Checks the span of an error, as Debug shows it.
-fn check_span(rt: &(impl Abort + AllocGlobal), span: Option<Span>, wanted: &str, text: &str) {
-    let shown = debug_text(rt, &span);
-    check_answer(rt, text, &shown.as_str(), &wanted);
-}
+/// For each attribute, the span of its error as one entry. If the attribute has a list, the span of the error in the
+/// list follows, where the known names are `b` and `c`.
+struct EntrySpans;
 
-/// The span of the error of the attribute as one entry.
-fn entry_span(attribute: Attribute<'_>) -> Option<Span> {
-    match attribute.entry() {
-        Ok(_) => None,
-        Err(fault) => fault.span,
+impl Reads for EntrySpans {
+    fn put(&self, trees: &[TokenTree], out: &mut String) -> Result<(), AllocError> {
+        for attribute in Attributes::new(trees) {
+            separate(out)?;
+            match attribute.entry() {
+                Ok(_) => write!(out, "None")?,
+                Err(fault) => write!(out, "{:?}", fault.span)?,
+            }
+            if let AttributeArgs::Group(group) = attribute.args() {
+                match check_entries(group.stream_ref().trees(), &["b", "c"]) {
+                    Ok(()) => write!(out, ", None")?,
+                    Err(error) => write!(out, ", {:?}", error.within(group).span)?,
+                }
+            }
+        }
+        Ok(())
     }
-}
-
-/// The span of the error of the entries in the group.
-fn list_span(group: &Group) -> Option<Span> {
-    match check_entries(group.stream_ref().trees(), &["b", "c"]) {
-        Ok(()) => None,
-        Err(error) => error.within(group).span,
-    }
-}
-
-/// Checks the spans of the errors of the attribute as one entry, and of the entries in its brackets if it has any.
-fn check_attribute(
-    rt: &(impl Abort + AllocGlobal),
-    attribute: Attribute<'_>,
-    text: &str,
-    (one, checked): (&str, &str),
-) {
-    check_span(rt, entry_span(attribute), one, text);
-    if let AttributeArgs::Group(group) = attribute.args() {
-        check_span(rt, list_span(group), checked, text);
-    }
-}
-
-/// Checks these spans for each attribute of the text.
-fn check_attributes(rt: &(impl Abort + AllocGlobal), text: &str, spans: (&str, &str)) {
-    let stream = parsed(rt, text);
-    for attribute in Attributes::new(stream.trees()) {
-        check_attribute(rt, attribute, text, spans);
-    }
-    release(stream);
 }
 
 #[test]
 fn entries_end_too_early_at_their_brackets() {
     let rt = HostRuntime;
-    let rows = &[
-        ("#[a(b, c =)]", ("None", "Some(bytes(11..12))")),
-        ("#[a(b, c d)]", ("None", "Some(bytes(10..11))")),
-        ("#[a(b, c)]", ("None", "None")),
-        ("#[a =]", ("Some(bytes(6..7))", "None")),
-    ];
-    for &(text, spans) in rows {
-        check_attributes(&rt, text, spans);
-    }
+    check(
+        &rt,
+        &EntrySpans,
+        &[
+            ("#[a(b, c =)]", "None, Some(bytes(11..12))"),
+            ("#[a(b, c d)]", "None, Some(bytes(10..11))"),
+            ("#[a(b, c)]", "None, None"),
+            ("#[a =]", "Some(bytes(6..7))"),
+        ],
+    );
 }
 
-/// The span of the error of a type in a group, before and after the group is named.
-fn type_spans(group: &Group) -> (Option<Span>, Option<Span>) {
-    match split_type(group.stream_ref().trees()) {
-        Ok(_) => (None, None),
-        Err(fault) => (fault.span, fault.within(group).span),
-    }
-}
+/// For each group, the span of the error of the type in it, before and after the group is named.
+struct TypeSpans;
 
-/// Checks these spans for each group of the text.
-fn check_types(rt: &(impl Abort + AllocGlobal), text: &str, (before, after): (&str, &str)) {
-    let stream = parsed(rt, text);
-    for tree in stream.trees() {
-        if let TokenTree::Group(group) = tree {
-            let (alone, within) = type_spans(group);
-            check_span(rt, alone, before, text);
-            check_span(rt, within, after, text);
+impl Reads for TypeSpans {
+    fn put(&self, trees: &[TokenTree], out: &mut String) -> Result<(), AllocError> {
+        for tree in trees {
+            if let TokenTree::Group(group) = tree {
+                separate(out)?;
+                match split_type(group.stream_ref().trees()) {
+                    Ok(_) => write!(out, "None, None")?,
+                    Err(fault) => {
+                        let before = fault.span;
+                        let after = fault.within(group).span;
+                        write!(out, "{before:?}, {after:?}")?;
+                    }
+                }
+            }
         }
+        Ok(())
     }
-    release(stream);
 }
 
 #[test]
 fn a_caller_names_the_group_of_trees_that_it_passed() {
     let rt = HostRuntime;
-    check_types(&rt, "(&)", ("None", "Some(bytes(3..4))"));
-    check_types(&rt, "( & = )", ("Some(bytes(5..6))", "Some(bytes(5..6))"));
+    check(
+        &rt,
+        &TypeSpans,
+        &[
+            ("(&)", "None, Some(bytes(3..4))"),
+            ("( & = )", "Some(bytes(5..6)), Some(bytes(5..6))"),
+        ],
+    );
 }

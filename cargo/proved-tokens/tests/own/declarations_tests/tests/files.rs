@@ -1,136 +1,98 @@
 // Made from crates/declarations_tests/src/tests/files.rt by dev/erase: change that file, not this one.
 
-use crate::shim::prelude::{AllocGlobal, HostRuntime};
+use crate::shim::prelude::{GrowText, HostRuntime};
 
 // The items of each text.
-use crate::declarations_tests::tests::checks::{check_answer, parsed};
-use proved_tokens::declarations::{AnyItem, ItemKind, Items, parse_file, parse_item};
+use crate::declarations_tests::tests::checks::{Reads, check, put_error, separate};
+use proved_tokens::declarations::{AnyItem, Items, parse_file, parse_item};
 use proved_tokens::proc_macro2::TokenTree;
-use crate::shim::process::Abort;
-use crate::test_helpers::release;
+use crate::shim::alloc::AllocError;
 
-/// The number of trees of the items in the item's braces.
-fn count_inside(item: AnyItem<'_>) -> usize {
+/// Writes the kind of an item and, if it has braces with items, the number of trees of those items.
+fn put_item(out: &mut String, item: &AnyItem<'_>) -> Result<(), AllocError> {
+    write!(out, "{:?}", item.kind)?;
     let Some(group) = item.body() else {
-        return 0;
+        return Ok(());
     };
     match parse_file(group.stream_ref().trees()) {
-        Ok(body) => body.items.left.len(),
-        Err(_) => 1000,
+        Ok(body) => write!(out, ", items {}", body.items.left.len()),
+        Err(fault) => put_error(out, &fault),
     }
 }
 
-/// The kind of the next item and the number of trees of the items in its braces.
-fn next_item(items: &mut Items<'_>) -> Option<(ItemKind, usize)> {
-    match items.next() {
-        Some(Ok(item)) => Some((item.kind, count_inside(item))),
-        _ => None,
-    }
-}
-
-/// Checks for each item its kind and the number of trees of the items in its braces.
-fn check_items(
-    rt: &(impl Abort + AllocGlobal),
-    text: &str,
-    mut items: Items<'_>,
-    wanted: &[(ItemKind, usize)],
-) {
-    for &item in wanted {
-        check_answer(rt, text, &next_item(&mut items), &Some(item));
-    }
-    check_answer(rt, text, &items.next().is_none(), &true);
-}
-
-/// Checks a file: the number of trees in its inner attributes, and for each item its kind and the number of trees of
-/// the items in its braces.
-fn check_file(
-    rt: &(impl Abort + AllocGlobal),
-    text: &str,
-    inner: usize,
-    wanted: &[(ItemKind, usize)],
-) {
-    let stream = parsed(rt, text);
-    match parse_file(stream.trees()) {
-        Ok(file) => {
-            check_answer(rt, text, &file.inner.len(), &inner);
-            check_items(rt, text, file.items, wanted);
+/// Writes each of the items.
+fn put_items(out: &mut String, items: Items<'_>) -> Result<(), AllocError> {
+    for item in items {
+        separate(out)?;
+        match item {
+            Ok(item) => put_item(out, &item)?,
+            Err(fault) => put_error(out, &fault)?,
         }
-        Err(fault) => assert!(false, "{text:?}: {fault}"),
     }
-    release(stream);
+    Ok(())
 }
 
-fn fault_at(file: bool, trees: &[TokenTree]) -> Option<(usize, bool)> {
-    if file {
+/// A file: the trees in its inner attributes, and its items.
+pub struct File;
+
+impl Reads for File {
+    fn put(&self, trees: &[TokenTree], out: &mut String) -> Result<(), AllocError> {
         match parse_file(trees) {
-            Ok(_) => None,
-            Err(fault) => Some((fault.at, fault.span.is_some())),
-        }
-    } else {
-        match parse_item(trees) {
-            Ok(_) => None,
-            Err(fault) => Some((fault.at, fault.span.is_some())),
+            Ok(file) => {
+                write!(out, "inner {}", file.inner.len())?;
+                put_items(out, file.items)
+            }
+            Err(fault) => put_error(out, &fault),
         }
     }
 }
 
-/// Checks where the error of a file or an item is, and whether a tree is there. `None` means that there is no error.
-fn check_fault(
-    rt: &(impl Abort + AllocGlobal),
-    file: bool,
-    text: &str,
-    wanted: Option<(usize, bool)>,
-) {
-    let stream = parsed(rt, text);
-    let found = fault_at(file, stream.trees());
-    release(stream);
-    check_answer(rt, text, &found, &wanted);
+/// An item that is all of the trees.
+struct WholeItem;
+
+impl Reads for WholeItem {
+    fn put(&self, trees: &[TokenTree], out: &mut String) -> Result<(), AllocError> {
+        match parse_item(trees) {
+            Ok(item) => put_item(out, &item),
+            Err(fault) => put_error(out, &fault),
+        }
+    }
+}
+
+/// The items that the iterator gives.
+struct EachItem;
+
+impl Reads for EachItem {
+    fn put(&self, trees: &[TokenTree], out: &mut String) -> Result<(), AllocError> {
+        put_items(out, Items { left: trees })
+    }
 }
 
 #[test]
 fn a_file_has_inner_attributes_and_items() {
     let rt = HostRuntime;
-    check_file(&rt, "", 0, &[]);
-    check_file(&rt, "#![a]", 3, &[]);
-    check_file(
+    check(
         &rt,
-        "//! a\n#![b] fn f() { x } mod m { #![c] struct S; } mod n; impl A { fn g(); }",
-        6,
+        &File,
         &[
-            (ItemKind::Function, 0),
-            (ItemKind::Module, 3),
-            (ItemKind::Module, 0),
-            (ItemKind::Impl, 4),
-        ],
-    );
-    check_file(
-        &rt,
-        "trait T { type A; } extern \"C\" { static X: u8; } m! { fn f() {} }",
-        0,
-        &[
-            (ItemKind::Trait, 3),
-            (ItemKind::ExternBlock, 5),
-            (ItemKind::MacroCall, 0),
-        ],
-    );
-    check_file(
-        &rt,
-        "gen fn f() {} trait T { gen fn f(); const gen: u8; } impl T for S { async gen fn f() {} gen! {} }",
-        0,
-        &[
-            (ItemKind::Function, 0),
-            (ItemKind::Trait, 10),
-            (ItemKind::Impl, 9),
-        ],
-    );
-    check_file(
-        &rt,
-        "const trait T { fn f(); } pub const trait U: A {} const X: u8 = 1;",
-        0,
-        &[
-            (ItemKind::Trait, 4),
-            (ItemKind::Trait, 0),
-            (ItemKind::Constant, 0),
+            ("", "inner 0"),
+            ("#![a]", "inner 3"),
+            (
+                "//! a\n#![b] fn f() { x } mod m { #![c] struct S; } mod n; impl A { fn g(); }",
+                "inner 6; Function; Module, items 3; Module; Impl, items 4",
+            ),
+            (
+                "trait T { type A; } extern \"C\" { static X: u8; } m! { fn f() {} }",
+                "inner 0; Trait, items 3; ExternBlock, items 5; MacroCall",
+            ),
+            (
+                "gen fn f() {} trait T { gen fn f(); const gen: u8; } impl T for S { async gen fn f() {} gen! {} }",
+                "inner 0; Function; Trait, items 10; Impl, items 9",
+            ),
+            (
+                "const trait T { fn f(); } pub const trait U: A {} const X: u8 = 1;",
+                "inner 0; Trait, items 4; Trait, items 0; Constant",
+            ),
         ],
     );
 }
@@ -138,48 +100,45 @@ fn a_file_has_inner_attributes_and_items() {
 #[test]
 fn a_fault_is_counted_from_the_front_of_the_file() {
     let rt = HostRuntime;
-    check_fault(&rt, true, "fn f() {} struct S;", None);
-    check_fault(&rt, true, "#![a] fn f() {} fn g fn", Some((9, true)));
-    check_fault(&rt, true, "#![a] struct S; #[b]", Some((8, false)));
-    check_fault(&rt, true, "#! a", Some((2, true)));
-    check_fault(&rt, true, "fn f() {} #![a]", Some((4, true)));
+    check(
+        &rt,
+        &File,
+        &[
+            ("fn f() {} struct S;", "inner 0; Function; Struct"),
+            ("#![a] fn f() {} fn g fn", "error at 9"),
+            ("#![a] struct S; #[b]", "missing after 8"),
+            ("#! a", "error at 2"),
+            ("fn f() {} #![a]", "error at 4"),
+        ],
+    );
 }
 
 #[test]
 fn an_item_is_all_of_the_trees() {
     let rt = HostRuntime;
-    check_fault(&rt, false, "#[a] fn f() {}", None);
-    check_fault(&rt, false, "fn f() {} fn", Some((4, true)));
-    check_fault(&rt, false, "", Some((0, false)));
-}
-
-/// The number of items that come, and the position of the last error.
-fn items_given(items: Items<'_>) -> (usize, Option<usize>) {
-    let mut count = 0_usize;
-    let mut at = None;
-    for item in items {
-        match item {
-            Ok(_) => count = count.saturating_add(1),
-            Err(fault) => at = Some(fault.at),
-        }
-    }
-    (count, at)
-}
-
-/// Checks the number of items of the text that come, and the position of the last error.
-fn check_given(rt: &(impl Abort + AllocGlobal), text: &str, wanted: (usize, Option<usize>)) {
-    let stream = parsed(rt, text);
-    let found = items_given(Items {
-        left: stream.trees(),
-    });
-    release(stream);
-    check_answer(rt, text, &found, &wanted);
+    check(
+        &rt,
+        &WholeItem,
+        &[
+            ("#[a] fn f() {}", "Function"),
+            ("fn f() {} fn", "error at 4"),
+            ("", "missing after 0"),
+        ],
+    );
 }
 
 #[test]
 fn nothing_comes_after_a_fault() {
     let rt = HostRuntime;
-    check_given(&rt, "fn f() {} struct S; use a;", (3, None));
-    let text = "fn f() {} struct S fn g() {} use a;";
-    check_given(&rt, text, (1, Some(2)));
+    check(
+        &rt,
+        &EachItem,
+        &[
+            ("fn f() {} struct S; use a;", "Function; Struct; Use"),
+            (
+                "fn f() {} struct S fn g() {} use a;",
+                "Function; error at 2",
+            ),
+        ],
+    );
 }

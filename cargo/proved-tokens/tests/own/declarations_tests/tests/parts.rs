@@ -1,19 +1,19 @@
 // Made from crates/declarations_tests/src/tests/parts.rt by dev/erase: change that file, not this one.
 
-use crate::shim::prelude::{AllocGlobal, HostRuntime};
+use crate::shim::prelude::{GrowText, HostRuntime};
 
 // The part that each text begins with.
-use crate::declarations_tests::tests::checks::{HeldText, check_answer, check_held, held_stream, parsed};
+use crate::declarations_tests::tests::any_items::FirstItem;
+use crate::declarations_tests::tests::checks::{Reads, check, check_group, check_groups, put_error};
 use proved_tokens::declarations::{
-    Fault, split_any_item, split_attributes, split_bounds, split_expression, split_field,
-    split_fields, split_generics, split_inner_attributes, split_item, split_tuple_field,
-    split_tuple_fields, split_type, split_variant, split_variants, split_visibility, split_where,
+    split_attributes, split_bounds, split_expression, split_field, split_fields, split_generics,
+    split_inner_attributes, split_item, split_tuple_field, split_tuple_fields, split_type,
+    split_variant, split_variants, split_visibility, split_where,
 };
 use proved_tokens::proc_macro2::TokenTree;
-use crate::shim::process::Abort;
-use crate::test_helpers::release;
+use crate::shim::alloc::AllocError;
 
-#[derive(Clone, Copy, Debug, PartialEq, Eq)]
+/// A part that the trees begin with. The answer is the number of its trees.
 enum Part {
     Type,
     Bounds,
@@ -30,74 +30,31 @@ enum Part {
     Where,
     Item,
     InnerAttributes,
-    AnyItem,
 }
 
-/// The number of trees in the part, or before the error.
-#[derive(Clone, Copy, Debug, PartialEq, Eq)]
-enum Answer {
-    Reads(usize),
-    FaultAt(usize),
-}
-
-use crate::declarations_tests::tests::parts::Answer::{FaultAt, Reads};
-
-fn answer_of(found: &Result<(&[TokenTree], &[TokenTree]), Fault>) -> Answer {
-    match found {
-        Ok((part, _)) => Reads(part.len()),
-        Err(fault) => FaultAt(fault.at),
-    }
-}
-
-fn read(part: Part, trees: &[TokenTree]) -> Answer {
-    match part {
-        Part::Type => answer_of(&split_type(trees)),
-        Part::Bounds => answer_of(&split_bounds(trees)),
-        Part::Attributes => answer_of(&split_attributes(trees)),
-        Part::Visibility => answer_of(&split_visibility(trees)),
-        Part::Field => answer_of(&split_field(trees)),
-        Part::Fields => answer_of(&split_fields(trees)),
-        Part::TupleField => answer_of(&split_tuple_field(trees)),
-        Part::TupleFields => answer_of(&split_tuple_fields(trees)),
-        Part::Variant => answer_of(&split_variant(trees)),
-        Part::Variants => answer_of(&split_variants(trees)),
-        Part::Expression => answer_of(&split_expression(trees)),
-        Part::Generics => answer_of(&split_generics(trees)),
-        Part::Where => answer_of(&split_where(trees)),
-        Part::Item => answer_of(&split_item(trees)),
-        Part::InnerAttributes => answer_of(&split_inner_attributes(trees)),
-        Part::AnyItem => match split_any_item(trees) {
-            Ok((item, _)) => Reads(item.trees.len()),
-            Err(fault) => FaultAt(fault.at),
-        },
-    }
-}
-
-fn check_text(rt: &(impl Abort + AllocGlobal), part: Part, text: &str, wanted: Answer) {
-    let stream = parsed(rt, text);
-    let found = read(part, stream.trees());
-    release(stream);
-    check_answer(rt, text, &(part, found), &(part, wanted));
-}
-
-fn check(rt: &(impl Abort + AllocGlobal), part: Part, rows: &[(&str, Answer)]) {
-    for &(text, wanted) in rows {
-        check_text(rt, part, text, wanted);
-    }
-}
-
-/// Checks the part in trees with groups without delimiters.
-fn check_groups(rt: &(impl Abort + AllocGlobal), part: Part, text: HeldText<'_>, wanted: Answer) {
-    let stream = held_stream(rt, text);
-    let found = read(part, stream.trees());
-    release(stream);
-    check_held(rt, text, &(part, found), &(part, wanted));
-}
-
-/// Checks the part in trees that begin with a group without delimiters. The group holds the first text.
-fn check_unseen(rt: &(impl Abort + AllocGlobal), part: Part, rows: &[(&str, &str, Answer)]) {
-    for &(inside, after, wanted) in rows {
-        check_groups(rt, part, ("", inside, 1, after), wanted);
+impl Reads for Part {
+    fn put(&self, trees: &[TokenTree], out: &mut String) -> Result<(), AllocError> {
+        let found = match self {
+            Part::Type => split_type(trees),
+            Part::Bounds => split_bounds(trees),
+            Part::Attributes => split_attributes(trees),
+            Part::Visibility => split_visibility(trees),
+            Part::Field => split_field(trees),
+            Part::Fields => split_fields(trees),
+            Part::TupleField => split_tuple_field(trees),
+            Part::TupleFields => split_tuple_fields(trees),
+            Part::Variant => split_variant(trees),
+            Part::Variants => split_variants(trees),
+            Part::Expression => split_expression(trees),
+            Part::Generics => split_generics(trees),
+            Part::Where => split_where(trees),
+            Part::Item => split_item(trees),
+            Part::InnerAttributes => split_inner_attributes(trees),
+        };
+        match found {
+            Ok((part, _)) => write!(out, "{}", part.len()),
+            Err(fault) => put_error(out, &fault),
+        }
     }
 }
 
@@ -106,39 +63,35 @@ fn a_type_ends_where_an_operand_stands_and_no_step_follows() {
     let rt = HostRuntime;
     check(
         &rt,
-        Part::Type,
+        &Part::Type,
         &[
-            ("Vec<A, B>, C", Reads(6)),
-            ("impl Fn(A) -> B where C: D", Reads(6)),
-            ("! {}", Reads(1)),
-            ("m! { x } {}", Reads(3)),
-            ("&'static ! {}", Reads(4)),
-            ("Foo<{ N > 3 }> = x", Reads(4)),
-            ("Foo<-1, 'x', true>,", Reads(9)),
-            ("Vec<Vec<u8>>= x", Reads(7)),
-            ("dyn for<'a> Fn(&'a A) -> B, C", Reads(11)),
-            ("<T as U>::V {}", Reads(8)),
-            ("*const extern \"C\" fn(A) = x", Reads(6)),
-            ("Vec<u8, b: u8", FaultAt(7)),
-            ("A::", FaultAt(3)),
-            ("Foo<,>", FaultAt(2)),
-            ("Foo<A,,>", FaultAt(4)),
-            ("A + + B", Reads(2)),
-            ("Foo<'a, T: 'b + U,>,", Reads(13)),
-            ("* A", FaultAt(1)),
-            ("r#struct", Reads(1)),
-            ("struct", FaultAt(0)),
-            ("", FaultAt(0)),
+            ("Vec<A, B>, C", "6"),
+            ("impl Fn(A) -> B where C: D", "6"),
+            ("! {}", "1"),
+            ("m! { x } {}", "3"),
+            ("&'static ! {}", "4"),
+            ("Foo<{ N > 3 }> = x", "4"),
+            ("Foo<-1, 'x', true>,", "9"),
+            ("Vec<Vec<u8>>= x", "7"),
+            ("dyn for<'a> Fn(&'a A) -> B, C", "11"),
+            ("<T as U>::V {}", "8"),
+            ("*const extern \"C\" fn(A) = x", "6"),
+            ("Vec<u8, b: u8", "missing after 7"),
+            ("A::", "missing after 3"),
+            ("Foo<,>", "error at 2"),
+            ("Foo<A,,>", "error at 4"),
+            ("A + + B", "2"),
+            ("Foo<'a, T: 'b + U,>,", "13"),
+            ("* A", "error at 1"),
+            ("r#struct", "1"),
+            ("struct", "error at 0"),
+            ("", "missing after 0"),
         ],
     );
     check(
         &rt,
-        Part::Bounds,
-        &[
-            ("A + 'b = C", Reads(4)),
-            ("", Reads(0)),
-            ("?Sized>", Reads(2)),
-        ],
+        &Part::Bounds,
+        &[("A + 'b = C", "4"), ("", "0"), ("?Sized>", "2")],
     );
 }
 
@@ -147,66 +100,73 @@ fn parentheses_restrict_a_visibility_or_are_a_type() {
     let rt = HostRuntime;
     check(
         &rt,
-        Part::Visibility,
+        &Part::Visibility,
         &[
-            ("pub (A) x", Reads(1)),
-            ("pub(crate) x", Reads(2)),
-            ("pub(self) x", Reads(2)),
-            ("pub(super) x", Reads(2)),
-            ("pub(in a::b) x", Reads(2)),
-            ("pub(crate::a) x", Reads(1)),
-            ("pub(r#in a) x", Reads(1)),
-            ("pub[crate] x", Reads(1)),
-            ("crate x", Reads(0)),
+            ("pub (A) x", "1"),
+            ("pub(crate) x", "2"),
+            ("pub(self) x", "2"),
+            ("pub(super) x", "2"),
+            ("pub(in a::b) x", "2"),
+            ("pub(crate::a) x", "1"),
+            ("pub(r#in a) x", "1"),
+            ("pub[crate] x", "1"),
+            ("crate x", "0"),
         ],
     );
     check(
         &rt,
-        Part::TupleFields,
+        &Part::TupleFields,
         &[(
             "pub (A, B), pub(crate) A, pub (crate::A), pub(in a::b) (A), crate::A",
-            Reads(18),
+            "18",
         )],
     );
-    check(&rt, Part::TupleField, &[("pub (crate)", FaultAt(2))]);
+    check(
+        &rt,
+        &Part::TupleField,
+        &[("pub (crate)", "missing after 2")],
+    );
 }
 
 #[test]
 fn groups_without_delimiters_are_what_they_hold() {
     let rt = HostRuntime;
-    check_unseen(
+    check_group(
         &rt,
-        Part::Visibility,
+        &Part::Visibility,
         &[
-            ("", "x", Reads(1)),
-            ("pub", "x", Reads(1)),
-            ("pub(in a)", "x", Reads(1)),
-            ("pub (A)", "x", Reads(0)),
-            ("pub x", "x", Reads(0)),
+            ("", "x", "1"),
+            ("pub", "x", "1"),
+            ("pub(in a)", "x", "1"),
+            ("pub (A)", "x", "0"),
+            ("pub x", "x", "0"),
         ],
     );
-    check_unseen(
+    check_group(
         &rt,
-        Part::TupleField,
+        &Part::TupleField,
         &[
-            ("pub", "(crate), B", Reads(2)),
-            ("A", ", B", Reads(1)),
-            ("", "", FaultAt(1)),
+            ("pub", "(crate), B", "2"),
+            ("A", ", B", "1"),
+            ("", "", "missing after 1"),
         ],
     );
-    check_unseen(&rt, Part::Field, &[("", "a: u8, b", Reads(4))]);
-    check_unseen(&rt, Part::Item, &[("pub", "struct S;", Reads(4))]);
-    check_unseen(
+    check_group(&rt, &Part::Field, &[("", "a: u8, b", "4")]);
+    check_group(&rt, &Part::Item, &[("pub", "struct S;", "4")]);
+    check_group(
         &rt,
-        Part::AnyItem,
-        &[("struct S;", "fn", Reads(1)), ("", "fn f() {}", Reads(5))],
+        &FirstItem,
+        &[
+            ("struct S;", "fn", "Group 1"),
+            ("", "fn f() {}", "Function 5 f"),
+        ],
     );
-    check_unseen(
+    check_group(
         &rt,
-        Part::Expression,
-        &[("1 + 2", "* 3, B", Reads(3)), ("{ 1 }", "+ 1", Reads(3))],
+        &Part::Expression,
+        &[("1 + 2", "* 3, B", "3"), ("{ 1 }", "+ 1", "3")],
     );
-    check_unseen(&rt, Part::Type, &[("", "", FaultAt(0))]);
+    check_group(&rt, &Part::Type, &[("", "", "error at 0")]);
 }
 
 #[test]
@@ -214,38 +174,38 @@ fn fields_have_attributes_names_and_types() {
     let rt = HostRuntime;
     check(
         &rt,
-        Part::Attributes,
-        &[("#[a] #[b(c)] pub x", Reads(4)), ("#(a)", FaultAt(1))],
+        &Part::Attributes,
+        &[("#[a] #[b(c)] pub x", "4"), ("#(a)", "error at 1")],
     );
     check(
         &rt,
-        Part::Fields,
+        &Part::Fields,
         &[
-            ("#[x] pub(crate) a: A, b: B,", Reads(12)),
-            ("a: u8 b: u8", Reads(3)),
-            ("a: Vec<u8, b: u8", FaultAt(9)),
-            ("a, b: u8", FaultAt(1)),
-            ("a: A, #[x]", FaultAt(6)),
-            ("", Reads(0)),
+            ("#[x] pub(crate) a: A, b: B,", "12"),
+            ("a: u8 b: u8", "3"),
+            ("a: Vec<u8, b: u8", "missing after 9"),
+            ("a, b: u8", "error at 1"),
+            ("a: A, #[x]", "missing after 6"),
+            ("", "0"),
         ],
     );
     check(
         &rt,
-        Part::Field,
+        &Part::Field,
         &[
-            ("union: union, b: B", Reads(3)),
-            ("fn: A", FaultAt(0)),
-            ("", FaultAt(0)),
+            ("union: union, b: B", "3"),
+            ("fn: A", "error at 0"),
+            ("", "missing after 0"),
         ],
     );
     check(
         &rt,
-        Part::Variant,
+        &Part::Variant,
         &[
-            ("#[a] B { c: D } = 1", Reads(6)),
-            ("B(A), C", Reads(2)),
-            ("B = 1, C", Reads(3)),
-            ("B =", FaultAt(2)),
+            ("#[a] B { c: D } = 1", "6"),
+            ("B(A), C", "2"),
+            ("B = 1, C", "3"),
+            ("B =", "missing after 2"),
         ],
     );
 }
@@ -255,62 +215,62 @@ fn a_discriminant_ends_at_a_comma_that_is_in_no_brackets() {
     let rt = HostRuntime;
     check(
         &rt,
-        Part::Expression,
+        &Part::Expression,
         &[
-            ("f::<X, Y>(), B", Reads(9)),
-            ("1 << 2, B", Reads(4)),
-            ("a < b, C", Reads(3)),
-            ("x as Vec<A, B>, C", Reads(8)),
-            ("x as u8 <= 3, B", Reads(6)),
-            ("x as u8 < 3, B", FaultAt(7)),
-            ("x as (u8) < 3, B", Reads(5)),
-            ("x as [u8; 2] << 3, B", Reads(6)),
-            ("f as extern \"C\" fn(u8) -> u8, B", Reads(9)),
-            ("x as \"C\", B", FaultAt(3)),
-            ("continue 'a, B", Reads(3)),
-            ("1 + <T>::C, D", Reads(8)),
-            ("a<<T>::C, F", Reads(8)),
-            ("a << <T>::C, F", Reads(9)),
-            ("|a: Vec<X, Y>, b| -> Vec<A, B> { a }, D", Reads(21)),
-            ("a || b, F", Reads(4)),
-            ("|| 1, F", Reads(3)),
-            ("|a| |b, c| d, F", Reads(9)),
-            ("a | b, c", Reads(3)),
-            ("|a; b| 1", FaultAt(2)),
-            ("return, B", Reads(1)),
-            ("'a: loop { break 'a 1 }, B", Reads(5)),
-            ("async move |x| x + 1, B", Reads(8)),
-            ("&raw const x, B", Reads(4)),
+            ("f::<X, Y>(), B", "9"),
+            ("1 << 2, B", "4"),
+            ("a < b, C", "3"),
+            ("x as Vec<A, B>, C", "8"),
+            ("x as u8 <= 3, B", "6"),
+            ("x as u8 < 3, B", "missing after 7"),
+            ("x as (u8) < 3, B", "5"),
+            ("x as [u8; 2] << 3, B", "6"),
+            ("f as extern \"C\" fn(u8) -> u8, B", "9"),
+            ("x as \"C\", B", "error at 3"),
+            ("continue 'a, B", "3"),
+            ("1 + <T>::C, D", "8"),
+            ("a<<T>::C, F", "8"),
+            ("a << <T>::C, F", "9"),
+            ("|a: Vec<X, Y>, b| -> Vec<A, B> { a }, D", "21"),
+            ("a || b, F", "4"),
+            ("|| 1, F", "3"),
+            ("|a| |b, c| d, F", "9"),
+            ("a | b, c", "3"),
+            ("|a; b| 1", "error at 2"),
+            ("return, B", "1"),
+            ("'a: loop { break 'a 1 }, B", "5"),
+            ("async move |x| x + 1, B", "8"),
+            ("&raw const x, B", "4"),
             (
                 "if let Some(a) = b && let Some(c) = d && e { 1 } else { 2 }, B",
-                Reads(19),
+                "19",
             ),
-            ("..=5, B", Reads(4)),
-            ("a..b, C", Reads(4)),
-            ("a.await?.b[1](c), D", Reads(8)),
-            ("if a { 1 } else { 2 }, B", Reads(5)),
-            ("#[a] -!1, B", Reads(5)),
-            ("1 B", Reads(1)),
-            ("a as, b", FaultAt(2)),
-            ("a. , b", FaultAt(2)),
-            ("1 +", FaultAt(2)),
-            (", 1", FaultAt(0)),
-            ("", FaultAt(0)),
+            ("..=5, B", "4"),
+            ("a..b, C", "4"),
+            ("a.await?.b[1](c), D", "8"),
+            ("if a { 1 } else { 2 }, B", "5"),
+            ("#[a] -!1, B", "5"),
+            ("1 B", "1"),
+            ("a as, b", "error at 2"),
+            ("a. , b", "error at 2"),
+            ("1 +", "missing after 2"),
+            (", 1", "error at 0"),
+            ("", "missing after 0"),
         ],
     );
     check(
         &rt,
-        Part::Variants,
+        &Part::Variants,
         &[
-            ("A = f::<X, Y>(), B = 1 << 2", Reads(18)),
-            ("A, #[a] B(u8) = x as Vec<A, B>, C { d: D },", Reads(19)),
-            ("A = a < b, C > ::d()", Reads(7)),
-            ("A = 1 B", Reads(3)),
-            ("A = 1, #[a]", FaultAt(6)),
-            ("A B", Reads(1)),
-            ("A,, B", Reads(2)),
-            ("A = , B", FaultAt(2)),
-            ("", Reads(0)),
+            ("A = f::<X, Y>(), B = 1 << 2", "18"),
+            ("A, #[a] B(u8) = x as Vec<A, B>, C { d: D },", "19"),
+            ("A = a < b, C > ::d()", "7"),
+            ("A = 1 B", "3"),
+            ("A = 1, #[a]", "missing after 6"),
+            ("A B", "1"),
+            ("A,, B", "2"),
+            ("A = , B", "error at 2"),
+            ("", "0"),
         ],
     );
 }
@@ -320,26 +280,26 @@ fn generics_and_where_clauses_end_before_the_body() {
     let rt = HostRuntime;
     check(
         &rt,
-        Part::Generics,
+        &Part::Generics,
         &[
-            ("<'a, T: A<B> = C, const N: usize = 3> where", Reads(20)),
-            ("<T = Vec<[u8; 3]>>(T)", Reads(8)),
-            ("<#[a] T,> {}", Reads(6)),
-            ("<const N: i8 = -1> {}", Reads(9)),
-            ("<T { a: T }", FaultAt(2)),
-            ("<,>", FaultAt(1)),
-            ("(T)", Reads(0)),
+            ("<'a, T: A<B> = C, const N: usize = 3> where", "20"),
+            ("<T = Vec<[u8; 3]>>(T)", "8"),
+            ("<#[a] T,> {}", "6"),
+            ("<const N: i8 = -1> {}", "9"),
+            ("<T { a: T }", "error at 2"),
+            ("<,>", "error at 1"),
+            ("(T)", "0"),
         ],
     );
     check(
         &rt,
-        Part::Where,
+        &Part::Where,
         &[
-            ("where T: A, [U; 2]: B { x }", Reads(8)),
-            ("where for<'a> T: A<'a>, {}", Reads(14)),
-            ("where {}", Reads(1)),
-            ("where T {}", FaultAt(2)),
-            ("{}", Reads(0)),
+            ("where T: A, [U; 2]: B { x }", "8"),
+            ("where for<'a> T: A<'a>, {}", "14"),
+            ("where {}", "1"),
+            ("where T {}", "error at 2"),
+            ("{}", "0"),
         ],
     );
 }
@@ -349,25 +309,22 @@ fn items_are_structs_enums_and_unions() {
     let rt = HostRuntime;
     check(
         &rt,
-        Part::Item,
+        &Part::Item,
         &[
-            ("struct S;", Reads(3)),
-            (
-                "#[a] pub(crate) struct S<T> where T: A { a: T } fn",
-                Reads(14),
-            ),
-            ("struct S(u8) where T: A;", Reads(8)),
-            ("pub struct union(u8);", Reads(5)),
-            ("pub struct gen<gen>(gen);", Reads(8)),
-            ("gen struct S;", FaultAt(0)),
-            ("enum E<T> where T: A { B(T) }", Reads(10)),
-            ("union U { a: u8 }", Reads(3)),
-            ("struct S<T { a: T }", FaultAt(4)),
-            ("struct S(u8) {}", FaultAt(3)),
-            ("struct S(u8)", FaultAt(3)),
-            ("enum E;", FaultAt(2)),
-            ("pub fn f() {}", FaultAt(1)),
-            ("", FaultAt(0)),
+            ("struct S;", "3"),
+            ("#[a] pub(crate) struct S<T> where T: A { a: T } fn", "14"),
+            ("struct S(u8) where T: A;", "8"),
+            ("pub struct union(u8);", "5"),
+            ("pub struct gen<gen>(gen);", "8"),
+            ("gen struct S;", "error at 0"),
+            ("enum E<T> where T: A { B(T) }", "10"),
+            ("union U { a: u8 }", "3"),
+            ("struct S<T { a: T }", "error at 4"),
+            ("struct S(u8) {}", "error at 3"),
+            ("struct S(u8)", "missing after 3"),
+            ("enum E;", "error at 2"),
+            ("pub fn f() {}", "error at 1"),
+            ("", "missing after 0"),
         ],
     );
 }
@@ -377,11 +334,11 @@ fn a_file_begins_with_inner_attributes() {
     let rt = HostRuntime;
     check(
         &rt,
-        Part::InnerAttributes,
+        &Part::InnerAttributes,
         &[
-            ("#![a] # ![b] #[c] fn", Reads(6)),
-            ("fn", Reads(0)),
-            ("#!a", FaultAt(2)),
+            ("#![a] # ![b] #[c] fn", "6"),
+            ("fn", "0"),
+            ("#!a", "error at 2"),
         ],
     );
 }
@@ -391,101 +348,90 @@ fn what_is_no_item_has_a_fault() {
     let rt = HostRuntime;
     check(
         &rt,
-        Part::AnyItem,
+        &FirstItem,
         &[
-            ("pub m! {}", FaultAt(1)),
-            ("unsafe const fn f() {}", FaultAt(1)),
-            ("unsafe gen fn f() {}", FaultAt(1)),
-            ("gen async fn f() {}", FaultAt(1)),
-            ("const gen gen fn f() {}", FaultAt(2)),
-            ("pub gen! {}", FaultAt(2)),
-            ("gen static X: u8;", FaultAt(1)),
-            ("default gen struct S;", FaultAt(2)),
-            ("const gen = 1;", FaultAt(2)),
-            ("gen: u8", FaultAt(1)),
-            ("r#gen fn f() {}", FaultAt(1)),
-            ("async r#gen fn f() {}", FaultAt(1)),
-            ("m!(a) m! {}", FaultAt(3)),
-            ("const N = 1;", FaultAt(2)),
-            ("const N: u8 = ;", FaultAt(5)),
-            ("impl A + for B {}", FaultAt(4)),
-            ("trait A: B = C;", FaultAt(4)),
-            ("const unsafe trait T {}", FaultAt(2)),
-            ("const auto trait T {}", FaultAt(2)),
-            ("const safe trait T {}", FaultAt(2)),
-            ("const async trait T {}", FaultAt(2)),
-            ("const const trait T {}", FaultAt(1)),
-            ("unsafe const trait T {}", FaultAt(1)),
-            ("auto const trait T {}", FaultAt(1)),
-            ("const trait {}", FaultAt(2)),
-            ("const trait T: u8 = 1;", FaultAt(5)),
-            ("const trait T;", FaultAt(3)),
-            ("fn f() -> ;", FaultAt(5)),
-            ("fn f {}", FaultAt(2)),
-            ("use a::;", FaultAt(4)),
-            ("#![a]", FaultAt(0)),
-            ("", FaultAt(0)),
+            ("pub m! {}", "error at 1"),
+            ("unsafe const fn f() {}", "error at 1"),
+            ("unsafe gen fn f() {}", "error at 1"),
+            ("gen async fn f() {}", "error at 1"),
+            ("const gen gen fn f() {}", "error at 2"),
+            ("pub gen! {}", "error at 2"),
+            ("gen static X: u8;", "error at 1"),
+            ("default gen struct S;", "error at 2"),
+            ("const gen = 1;", "error at 2"),
+            ("gen: u8", "error at 1"),
+            ("r#gen fn f() {}", "error at 1"),
+            ("async r#gen fn f() {}", "error at 1"),
+            ("m!(a) m! {}", "error at 3"),
+            ("const N = 1;", "error at 2"),
+            ("const N: u8 = ;", "error at 5"),
+            ("impl A + for B {}", "error at 4"),
+            ("trait A: B = C;", "error at 4"),
+            ("const unsafe trait T {}", "error at 2"),
+            ("const auto trait T {}", "error at 2"),
+            ("const safe trait T {}", "error at 2"),
+            ("const async trait T {}", "error at 2"),
+            ("const const trait T {}", "error at 1"),
+            ("unsafe const trait T {}", "error at 1"),
+            ("auto const trait T {}", "error at 1"),
+            ("const trait {}", "error at 2"),
+            ("const trait T: u8 = 1;", "error at 5"),
+            ("const trait T;", "error at 3"),
+            ("fn f() -> ;", "error at 5"),
+            ("fn f {}", "error at 2"),
+            ("use a::;", "error at 4"),
+            ("#![a]", "error at 0"),
+            ("", "missing after 0"),
         ],
     );
-}
-
-/// A text in groups without delimiters between two texts: what comes before, what is in the groups, the number of
-/// groups, what comes after, and the answer.
-type HeldRow<'a> = (&'a str, &'a str, usize, &'a str, Answer);
-
-/// Checks the part in trees with groups without delimiters.
-fn check_rows(rt: &(impl Abort + AllocGlobal), part: Part, rows: &[HeldRow<'_>]) {
-    for &(before, inside, groups, after, wanted) in rows {
-        check_groups(rt, part, (before, inside, groups, after), wanted);
-    }
 }
 
 // A macro by example passes `$l:lifetime`, `$l:literal` and `$v:vis` so.
 #[test]
 fn a_group_without_delimiters_has_the_class_of_what_it_holds() {
     let rt = HostRuntime;
-    check_rows(
+    check_groups(
         &rt,
-        Part::Type,
+        &Part::Type,
         &[
-            ("&", "'a", 1, "u8, x", Reads(3)),
-            ("&", "'a", 7, "mut u8, x", Reads(4)),
-            ("Vec<", "'a", 2, ", T> = x", Reads(6)),
-            ("dyn A +", "'a", 1, ", x", Reads(4)),
-            ("&", "'a b", 1, "u8, x", Reads(2)),
-            ("&", "1", 1, ", x", FaultAt(1)),
-            ("A<", "1", 2, ">, x", Reads(4)),
-            ("A<-", "1", 1, ">, x", Reads(5)),
-            ("extern", "\"C\"", 1, "fn(), x", Reads(4)),
-            ("extern", "f()", 1, "fn(), x", Reads(2)),
-            ("", "Vec<A>", 5, "::B, x", Reads(4)),
+            (("&", "'a", 1, "u8, x"), "3"),
+            (("&", "'a", 7, "mut u8, x"), "4"),
+            (("Vec<", "'a", 2, ", T> = x"), "6"),
+            (("dyn A +", "'a", 1, ", x"), "4"),
+            (("&", "'a b", 1, "u8, x"), "2"),
+            (("&", "1", 1, ", x"), "error at 1"),
+            (("A<", "1", 2, ">, x"), "4"),
+            (("A<-", "1", 1, ">, x"), "5"),
+            (("extern", "\"C\"", 1, "fn(), x"), "4"),
+            (("extern", "f()", 1, "fn(), x"), "2"),
+            (("", "Vec<A>", 5, "::B, x"), "4"),
         ],
     );
-    check_rows(
+    check_groups(
         &rt,
-        Part::Generics,
+        &Part::Generics,
         &[
-            ("<", "'a", 1, ": 'b, T> x", Reads(8)),
-            ("<T:", "'a", 3, "> x", Reads(5)),
-            ("<T:", "'a", 1, " + B> x", Reads(7)),
+            (("<", "'a", 1, ": 'b, T> x"), "8"),
+            (("<T:", "'a", 3, "> x"), "5"),
+            (("<T:", "'a", 1, " + B> x"), "7"),
         ],
     );
-    check_rows(
+    check_groups(
         &rt,
-        Part::Where,
+        &Part::Where,
         &[
-            ("where T:", "'a", 1, ", {}", Reads(5)),
-            ("where", "'a", 2, ": 'b {}", Reads(5)),
+            (("where T:", "'a", 1, ", {}"), "5"),
+            (("where", "'a", 2, ": 'b {}"), "5"),
         ],
     );
-    check_rows(
+    check_groups(
         &rt,
-        Part::Visibility,
+        &Part::Visibility,
         &[
-            ("", "pub", 2, "x", Reads(1)),
-            ("", "", 3, "x", Reads(1)),
-            ("", "pub(crate)", 9, "x", Reads(1)),
-            ("", "'a", 2, "x", Reads(0)),
+            (("", "pub", 2, "x"), "1"),
+            (("", "", 3, "x"), "1"),
+            (("", "pub(crate)", 9, "x"), "1"),
+            (("", "'a", 2, "x"), "0"),
         ],
     );
 }
@@ -494,41 +440,41 @@ fn a_group_without_delimiters_has_the_class_of_what_it_holds() {
 #[test]
 fn a_block_is_a_body_a_constant_or_an_operand_of_an_expression() {
     let rt = HostRuntime;
-    check_rows(
+    check_groups(
         &rt,
-        Part::AnyItem,
+        &FirstItem,
         &[
-            ("fn f()", "{ x }", 1, "struct S;", Reads(4)),
-            ("fn f() -> A where T: B", "{ x }", 3, ";", Reads(11)),
-            ("fn f()", "{ x } y", 1, "", FaultAt(3)),
-            ("struct S", "{ x: u8 }", 1, "", FaultAt(2)),
-            ("impl A", "{}", 1, "", FaultAt(2)),
-            ("mod m", "{}", 1, "", FaultAt(2)),
-            ("m!", "{}", 1, "", FaultAt(2)),
-            ("", "{}", 1, "", FaultAt(0)),
+            (("fn f()", "{ x }", 1, "struct S;"), "Function 4 f"),
+            (("fn f() -> A where T: B", "{ x }", 3, ";"), "Function 11 f"),
+            (("fn f()", "{ x } y", 1, ""), "error at 3"),
+            (("struct S", "{ x: u8 }", 1, ""), "error at 2"),
+            (("impl A", "{}", 1, ""), "error at 2"),
+            (("mod m", "{}", 1, ""), "error at 2"),
+            (("m!", "{}", 1, ""), "error at 2"),
+            (("", "{}", 1, ""), "error at 0"),
         ],
     );
-    check_rows(
+    check_groups(
         &rt,
-        Part::Type,
+        &Part::Type,
         &[
-            ("A<", "{ N }", 2, ">, x", Reads(4)),
-            ("A +", "{ N }", 1, "", Reads(2)),
-            ("", "{ N }", 1, ", x", FaultAt(0)),
+            (("A<", "{ N }", 2, ">, x"), "4"),
+            (("A +", "{ N }", 1, ""), "2"),
+            (("", "{ N }", 1, ", x"), "error at 0"),
         ],
     );
-    check_rows(
+    check_groups(
         &rt,
-        Part::Generics,
-        &[("<const N: u8 =", "{ 1 }", 2, ", T> x", Reads(10))],
+        &Part::Generics,
+        &[(("<const N: u8 =", "{ 1 }", 2, ", T> x"), "10")],
     );
-    check_rows(
+    check_groups(
         &rt,
-        Part::Expression,
+        &Part::Expression,
         &[
-            ("1 +", "{ 2 }", 1, ", x", Reads(3)),
-            ("1 as", "{ 2 }", 2, "* 3, x", Reads(5)),
+            (("1 +", "{ 2 }", 1, ", x"), "3"),
+            (("1 as", "{ 2 }", 2, "* 3, x"), "5"),
         ],
     );
-    check_rows(&rt, Part::Variant, &[("V", "{ x: u8 }", 1, "", Reads(1))]);
+    check_groups(&rt, &Part::Variant, &[(("V", "{ x: u8 }", 1, ""), "1")]);
 }
