@@ -84,14 +84,6 @@ compile_error_chars = refl
 
 -- ---- the texts of the tokens
 
-pub unexpected_chars : chars (codes "not expected here") ≡ codes "not expected here"
-unfolding chars
-unexpected_chars = refl
-
-pub early_chars : chars (codes "the declaration ends too early") ≡ codes "the declaration ends too early"
-unfolding chars
-early_chars = refl
-
 -- ---- the trees of an array
 
 pub drain_gives : {A : Type 0} {n : ℕ} (it : _) (xs : List A) → Drains (array_steps {A = A} {n = n}) it xs

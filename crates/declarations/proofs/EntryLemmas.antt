@@ -75,9 +75,6 @@ starts_value = starts rule.entry_value refl refl
 pub starts_literal : IsStart rules follows (rule.entry_literal ∷ [])
 starts_literal = starts rule.entry_literal refl refl
 
-pub starts_entries : IsStart rules follows (rule.entries ∷ [])
-starts_entries = starts rule.entries refl refl
-
 -- ---- values
 
 pub expression_reads : (trees : List TokenTree) (result : Result (Bor (List TokenTree)) (Bor (List TokenTree)))

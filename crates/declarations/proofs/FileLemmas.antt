@@ -1,17 +1,15 @@
 -- Items one after the other, files, and the errors of files.
 use Rattle.std.proofs.Common.{◌≡◌, refl, sym, ◌∙◌, ap, subst, ℕ, ◌+◌, ◌<◌, ◌≤◌, ◌==◌, false, List, []}
 use Rattle.std.proofs.Common.{Result, Ok, Err, IfErr}
-use Rattle.std.proofs.Common.{◌∷◌, ◌++◌, length, drop, arith, append_assoc, inr}
+use Rattle.std.proofs.Common.{◌∷◌, ◌++◌, length, drop, arith, append_assoc}
 use Rattle.std.proofs.Math.Seq.{drop-append-add}
 use Rattle.std.proofs.lemmas.List.{length-append}
 use Rattle.pm_stream.specs.declared.stream.TokenTree.{TokenTree}
-use Rattle.declarations.specs.Expected.{Expects}
 use Rattle.declarations.specs.Fault.{first_extent, extent_at}
-use Rattle.declarations.specs.File.{AreItems, AreItemsBefore, FileFaultAt, IsFile, braces, last_braces}
+use Rattle.declarations.specs.File.{AreItems, AreItemsBefore, IsFile, braces, last_braces}
 use Rattle.declarations.specs.Forms.{AreInnerAttributes, IsAnyItem}
 use Rattle.declarations.specs.Reading.{FaultAt, Reads}
 use Rattle.declarations.specs.Whole.{ReadsAll}
-use Rattle.declarations.specs.declared.expected.Expected.{Expected}
 use Rattle.declarations.proofs.StartLemmas as begin
 use Rattle.declarations.proofs.RuleFormLemmas.{only_reading, rule_fewer}
 use Rattle.declarations.specs.rules.Parts.{inner_attributes}
@@ -85,10 +83,6 @@ one_read trees items left part rest up reads = record {
   whole = up.whole ∙ ap (λ ts. up.front ++ ts) reads.whole ∙ sym (append_assoc up.front part rest);
 }
 
-pub all_read : (trees items left : List TokenTree) → ReadUpTo trees items left → length left ≡ 0 → AreItems items
-all_read trees items [] up none = (up.parts, up.before)
-all_read trees items (tree ∷ left) up none = absurd (omega arith)
-
 pub some_left : (left : List TokenTree) → 0 < length left → left ≡ [] → ⊥
 some_left left more none =
     let count : length left ≡ 0 = ap length none in
@@ -102,27 +96,6 @@ pub left_fits : (trees items left : List TokenTree) → ReadUpTo trees items lef
 left_fits trees items left up =
     let sum : length trees ≡ length up.front + length left = ap length up.whole ∙ length-append up.front left in
     omega arith
-
-pub file_fault : (trees inner items left : List TokenTree) (within at : ℕ) → Reads AreInnerAttributes trees inner items
-    → ReadUpTo trees items left → 0 < length left → FaultAt IsAnyItem left within → (set : Expected)
-    → Expects IsAnyItem left within set → at + length left ≡ length trees + within → FileFaultAt trees at set
-file_fault trees inner items left within at reads up more fault set expected counted =
-    let sum : length trees ≡ length up.front + length left = ap length up.whole ∙ length-append up.front left in
-    inr (record {
-      inner = inner;
-      items = items;
-      inner_read = reads;
-      parts = up.parts;
-      front = up.front;
-      left = left;
-      before = up.before;
-      whole = up.whole;
-      more = some_left left more;
-      within = within;
-      fault = fault;
-      expected = expected;
-      counted = omega arith;
-    })
 
 -- the tree of an error is the same, counted from the left trees or from all of them
 pub fault_extent : (trees items left : List TokenTree) (within at : ℕ) → ReadUpTo trees items left

@@ -68,9 +68,6 @@ opened_parameters = Either less less_joint
 less_first : (c : SignClass) → may_begin less c ≡ is signs.Less c
 less_first c = or_nothing (is signs.Less c) (may_begin closed_parameters c)
 
-less_joint_first : (c : SignClass) → may_begin less_joint c ≡ is signs.LessJoint c
-less_joint_first c = or_nothing (is signs.LessJoint c) (may_begin closed_parameters c)
-
 generics_first : (c : SignClass) → may_begin (Then (Mark Generics) opened_parameters) c ≡ opens c
 generics_first c = go (is signs.Less c) (is signs.LessJoint c) (may_begin closed_parameters c)
   where

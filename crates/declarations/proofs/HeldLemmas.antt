@@ -87,15 +87,6 @@ module _ (begins : Begins) where
   held_path_fault fails g after path held (Err fault) within kind goes =
       inr (record { held = held; within = within; path = kind; stands = goes })
 
-  pub held_other : (inside after : List TokenTree) (held : Entry) (kind : EntryKind) → begins inside held []
-      → held.kind ≡ kind → Continues kind held after held after
-      → IsHeldEntryAt begins inside after held after
-  held_other inside after held kind within is goes = record {
-    held = held;
-    within = within;
-    goes_on = subst (λ k. Continues k held after held after) (sym is) goes;
-  }
-
 pub within_fault : (begins : Begins) (fails : Fails) (g : Grouped) (after : List TokenTree) (inner fault : Fault)
     → fails (inside_of g) inner → fault.at ≡ 0 → fault.span ≡ Some (span_or inner.span g.span)
     → IsFaultWithin fails g fault ⊎ IsFaultAfter begins g after fault

@@ -4,7 +4,6 @@ use Rattle.std.proofs.Common.{◌++◌, length, Option, drop, arith}
 use Rattle.std.proofs.lemmas.List.{length-append}
 use Rattle.std.proofs.Math.Seq.{drop-append_seam}
 use Rattle.pm_span.specs.Extent.{Extent}
-use Rattle.pm_token.specs.Leaf.{Mark}
 use Rattle.pm_stream.specs.declared.stream.TokenTree.{TokenTree}
 use Rattle.pm_stream.specs.declared.stream.TokenTree.TheVariants.{Group, Ident, Punct, Literal}
 use Rattle.declarations.specs.Fault.{extent_at, first_extent}
@@ -23,10 +22,6 @@ use Rattle.declarations.specs.rules.Parts as rule
 pub none_past : (trees : List TokenTree) → length trees ≡ 0 → IsPastComma trees trees
 none_past [] none = refl
 none_past (tree ∷ trees) none = absurd (omega arith)
-
-pub past_mark : (trees left : List TokenTree) (tree : TokenTree) (mark : Mark) → trees ≡ tree ∷ left → tree ≡ Punct mark
-    → mark.mark ≡ 44 → IsPastComma trees left
-past_mark trees left tree mark whole is comma = rw (whole, is) (comma, refl)
 
 pub past_fewer : (rest left : List TokenTree) → IsPastComma rest left → length left ≤ length rest
 past_fewer [] left past = rw past (omega arith)

@@ -1,11 +1,9 @@
 -- The parts of parameters and predicates: at most one can be read, and when none can.
-use Rattle.std.proofs.Common.{◌≡◌, refl, sym, ◌∙◌, ap, subst, ℕ, ◌+◌, ◌≤◌, ◌<◌, true, false, List, [], ◌∷◌}
+use Rattle.std.proofs.Common.{◌≡◌, refl, sym, ◌∙◌, ap, subst, ℕ, ◌≤◌, ◌<◌, true, false, List, [], ◌∷◌}
 use Rattle.std.proofs.Common.{Result, Ok, Err, MatchResult}
-use Rattle.std.proofs.Common.{◌++◌, append_assoc, arith, drop, length}
+use Rattle.std.proofs.Common.{◌++◌, append_assoc, arith, length}
 use Rattle.std.proofs.lemmas.List.{append_cancel_left, append_cancel_right, length-append}
-use Rattle.std.proofs.Math.Seq.{drop-append_seam}
 use Rattle.pm_stream.specs.declared.stream.TokenTree.{TokenTree}
-use Rattle.declarations.specs.Fault.{first_extent, extent_at}
 use Rattle.declarations.specs.Forms.{AreAttributes, AreBounds, IsType}
 use Rattle.declarations.specs.Param.{EndsElement, Fails, HasBounds, HasDefault, HasName, HasNo, HasParam, HasPredicate}
 use Rattle.declarations.specs.Param.{HasSign, IsBack}
@@ -401,9 +399,6 @@ one_predicate trees predicate rest is predicate2 rest2 is2 =
 pub back_here : (trees : List TokenTree) → IsBack trees trees
 back_here trees = ([], refl)
 
-pub back_by : (trees front left : List TokenTree) → trees ≡ front ++ left → IsBack left trees
-back_by trees front left whole = (front, whole)
-
 pub back_more : (trees middle left : List TokenTree) → IsBack middle trees → IsBack left middle → IsBack left trees
 back_more trees middle left outer inner = (
   outer.0 ++ inner.0,
@@ -467,22 +462,6 @@ back_bounded trees attributes kind name bounds from_default so_far =
     (back_reads _ trees attributes so_far.named.from_name so_far.named.attributes_read)
     (back_name kind so_far.named.from_name name so_far.from_bounds so_far.named.name_read))
     (back_bounds kind so_far.from_bounds bounds from_default so_far.bounds_read)
-
-pub back_defaulted : (trees : List TokenTree) (param : ParamTrees) (from_end : List TokenTree)
-    → Defaulted trees param from_end → IsBack from_end trees
-back_defaulted trees param from_end so_far =
-    back_more trees so_far.from_default from_end
-    (back_bounded trees param.attributes param.kind param.name param.bounds so_far.from_default so_far.bounded)
-    (back_default param.kind so_far.from_default param.default from_end so_far.default_read)
-
--- the span of the first left tree is that of the tree after as many trees as come before it
-pub fault_span : (trees left : List TokenTree) (at : ℕ) → IsBack left trees → at + length left ≡ length trees
-    → first_extent left ≡ extent_at trees at
-fault_span trees left at back counted =
-    let sum = ap length back.1 ∙ length-append back.0 left in
-    let count : length back.0 ≡ at = omega arith in
-    ap first_extent (sym (drop-append_seam back.0 left)
-    ∙ ap (λ n. drop n (back.0 ++ left)) count ∙ ap (drop at) (sym back.1))
 
 pub back_fewer : (trees left : List TokenTree) → IsBack left trees → length left ≤ length trees
 back_fewer trees left back =
@@ -647,12 +626,6 @@ predicate_end_fails trees bounded from_colon bounds from_end first second fails 
     is.from_end second
     (subst (λ t. MustHave classes.Colon (Reads AreBounds) t predicate.bounds is.from_end) same.1 is.bounds) in
     fails rest (subst (λ t. EndsElement t rest) both.1 is.ends)
-
-pub back_must_bounds : (trees bounds rest : List TokenTree) → MustHave classes.Colon (Reads AreBounds) trees bounds rest
-    → IsBack rest trees
-back_must_bounds trees bounds rest has =
-    back_more trees has.left rest (back_sign trees classes.Colon has.left has.begins)
-    (back_reads _ has.left bounds rest has.reads)
 
 pub no_end : (trees rest : List TokenTree) → HasNo classes.Comma trees → (length trees ≡ 0 → ⊥)
     → EndsElement trees rest → ⊥

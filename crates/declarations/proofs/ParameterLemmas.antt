@@ -74,9 +74,6 @@ starts_dots = starts rule.dots refl refl
 starts_type : IsStart rules follows (type ∷ [])
 starts_type = begin.type_starts
 
-starts_parameters : IsStart rules follows (rule.function_parameters ∷ [])
-starts_parameters = starts rule.function_parameters refl refl
-
 -- ---- types and attributes, by the tables
 
 pub type_reads : (trees : List TokenTree) (result : Result (Bor (List TokenTree)) (Bor (List TokenTree)))
@@ -948,9 +945,6 @@ pub named_sticks : (shape : Shape) (trees mid left : List TokenTree)
     → Sticks rule.named_parameter trees left
 named_sticks shape trees mid left l f = leads_sticks rule.named_parameter (left_of shape) trees mid left l f
 
-pub reference_end : (trees : List TokenTree) → Finds (left_of shapes.Reference) trees trees
-reference_end trees = nothing_finds trees
-
 pub ruleset named = (named_kind, named_finds, named_sticks)
 
 -- ---- parameters that begin with `..`
@@ -1171,11 +1165,5 @@ pub pattern_span : (trees left : List TokenTree) (at : ℕ) (span : Option Exten
     → at ≡ length trees - length left → span ≡ first_extent left
     → span ≡ extent_at trees at
 pattern_span trees left at span f counted first = remains_span trees left at span f.remains counted first
-
-pub parameter_span : (trees left : List TokenTree) (at : ℕ) (span : Option Extent)
-    → Sticks rule.function_parameter trees left
-    → at ≡ length trees - length left → span ≡ first_extent left
-    → span ≡ extent_at trees at
-parameter_span trees left at span f counted first = remains_span trees left at span f.remains counted first
 
 pub ruleset splits = (pattern_read, pattern_only, pattern_fault, pattern_span)

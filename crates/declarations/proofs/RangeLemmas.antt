@@ -7,7 +7,7 @@ use Rattle.grammars.specs.Machine.{is_nullable}
 use Rattle.grammars.specs.Machine as machine
 use Rattle.grammars.proofs.FlatLemmas.{flat, move}
 use Rattle.item_tables.specs.Classes.{is}
-use Rattle.item_tables.specs.TypeStep.{may_end, step_of}
+use Rattle.item_tables.specs.TypeStep.{step_of}
 use Rattle.item_tables.specs.Walk.{after_angle, after_range, depth_after, else_for, range_state, step}
 use Rattle.declarations.specs.rules.Names.{G, Inside, Name, Outside, Range, Target}
 use Rattle.declarations.specs.rules.Rules.{rules}
@@ -194,17 +194,17 @@ one_more n = omega arith
 one_less : (n : ℕ) → suc (suc n) - 1 ≡ suc n
 one_less n = omega arith
 
-deep_agrees : (depth : ℕ) (rule : Continuation) (state : TypeState) (c : SignClass)
-    → left_after (step (at_range state (suc depth) rule) c)
-    ≡ stack_after (move rules (range state Inside ∷ brackets_left rule depth) c)
-deep_agrees zero rule state c =
-    inside_agrees rule 0 (after_brackets rule) [] (λ s. refl) (λ s. refl) (close_agrees rule) refl state c
-deep_agrees (suc depth) rule state c =
-    inside_agrees rule (suc depth) (Range types.Whole Inside) (brackets_left rule depth) (λ s. refl)
+deep_agrees : (depth : ℕ) (outer : Continuation) (state : TypeState) (c : SignClass)
+    → left_after (step (at_range state (suc depth) outer) c)
+    ≡ stack_after (move rules (range state Inside ∷ brackets_left outer depth) c)
+deep_agrees zero outer state c =
+    inside_agrees outer 0 (after_brackets outer) [] (λ s. refl) (λ s. refl) (close_agrees outer) refl state c
+deep_agrees (suc depth) outer state c =
+    inside_agrees outer (suc depth) (Range types.Whole Inside) (brackets_left outer depth) (λ s. refl)
     (λ s. rw (one_more (suc depth)) refl) close (not_zero (suc depth)) state c
   where
-    close : state_left (range_state rule types.Whole turns.Close (suc (suc depth) - 1)) (suc (suc depth) - 1) rule
-        ≡ Some (flat (rules (Range types.Whole Inside)) ++ brackets_left rule depth)
+    close : state_left (range_state outer types.Whole turns.Close (suc (suc depth) - 1)) (suc (suc depth) - 1) outer
+        ≡ Some (flat (rules (Range types.Whole Inside)) ++ brackets_left outer depth)
     close = rw (one_less depth, not_zero depth) refl
 
 pub range_agrees : (depth : ℕ) (state : TypeState) (rule : Continuation) (c : SignClass)
@@ -216,10 +216,6 @@ range_agrees zero state places.Target c = target_agrees state c
 range_agrees zero state _ c = refl
 
 -- ---- ends
-
-state_end : (state : TypeState) → is_nullable (range state Outside) ≡ may_end state
-state_end types.Wanted = refl
-state_end _ = refl
 
 never : (x : Bool) → (x && false) ≡ false
 never true = refl

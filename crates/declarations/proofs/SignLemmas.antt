@@ -1,5 +1,5 @@
 -- How trees begin with a sign.
-use Rattle.std.proofs.Common.{◌≡◌, refl, sym, ◌∙◌, ap, suc, ◌==◌, Bool, true, false, List, [], ◌∷◌, Option, Some, None}
+use Rattle.std.proofs.Common.{◌≡◌, refl, sym, ◌∙◌, ap, suc, ◌==◌, Bool, false, List, [], ◌∷◌, Option, Some, None}
 use Rattle.std.proofs.Common.{◌++◌, length, arith}
 use Rattle.std.proofs.lemmas.Bool.Decides.{nat_tests}
 use Rattle.pm_token.specs.Leaf.{Name}
@@ -17,7 +17,6 @@ use Rattle.declarations.specs.Bare.{innermost, innermost_trees}
 use Rattle.declarations.specs.Signs.{held_class, is_pub, is_visibility, may_restrict, restricts, restricts_in}
 use Rattle.declarations.specs.Signs.{unseen_class}
 use Rattle.item_tables.specs.declared.class.SignClass.{SignClass}
-use Rattle.item_tables.specs.declared.class.SignClass.TheVariants as classes
 
 -- the signs of trees, if it is known whether the first two trees are one sign
 abbrev pub pair_signs : Option SignClass → TokenTree → TokenTree → List TokenTree → List Sign
@@ -158,13 +157,6 @@ after_first_sign (first ∷ second ∷ rest) sign after read =
     ] (sym (signs-cons first second rest) ∙ read)
 
 -- ---- groups without delimiters
-
--- the class of a group without delimiters that holds a visibility
-pub unseen_visible : (inside held : Forest) (b : Bool) → held ≡ innermost inside → b ≡ is_visibility held → b ≡ true
-    → classes.Visibility ≡ unseen_class inside
-unseen_visible inside held b same is shown =
-    let some : is_visibility (innermost inside) ≡ true = ap is_visibility (sym same) ∙ sym is ∙ shown in
-    rw some refl
 
 -- the class of a group without delimiters that holds no visibility
 pub unseen_other : (inside held : Forest) (trees : List TokenTree) (b : Bool) → held ≡ innermost inside

@@ -1,6 +1,6 @@
 -- Walks over signs: at most one begins in a state, and when none does.
 use Rattle.std.proofs.Common.{◌≡◌, refl, sym, ◌∙◌, ap, subst, Bool, true, false, cond, List, [], ◌∷◌, ◌++◌, Option}
-use Rattle.std.proofs.Common.{Some, None, append_assoc, append-nil}
+use Rattle.std.proofs.Common.{Some, None, append_assoc}
 use Rattle.declarations.specs.Walk.{walk, Stops, IsWalk, IsFront}
 use Rattle.item_tables.specs.declared.class.SignClass.{SignClass}
 
@@ -121,23 +121,6 @@ none_stands step ends start signs piece rest nothing whole stands =
     let pair : List SignClass × List SignClass = (piece, rest) in
     let clash : Some pair ≡ None = sym here ∙ ap (find step ends start) (sym whole) ∙ nothing in
     cc
-
--- a walk can be completed, if some signs lead from its last state to one in which it may end
-pub is_front : {P : Type 0} → (step : P → SignClass → Option P) (ends : P → Bool) (start last final : P)
-    (front more : List SignClass) → walk step start front ≡ Some last → walk step last more ≡ Some final
-    → ends final ≡ true → IsFront (IsWalk step ends start) front
-is_front step ends start last final front more walks goes ended = record {
-  more = more;
-  piece = front ++ more;
-  rest = [];
-  whole = sym (append-nil (front ++ more));
-  stands = record {
-    last = final;
-    walks = walk-append step start front more ∙ ap (λ o. after step o more) walks ∙ goes;
-    ended = ended;
-    stops = tt;
-  };
-}
 
 -- a walk and a sign that is no step cannot be completed, if the walk may not end there
 pub no_front : {P : Type 0} → (step : P → SignClass → Option P) (ends : P → Bool) (start last : P)

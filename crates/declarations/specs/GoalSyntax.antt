@@ -8,8 +8,8 @@ use Rattle.declarations.specs.declared.syntax.Goal.TheVariants as goals
 use Rattle.declarations.specs.rules.Rules.{rules}
 
 -- the goal's rule is the data, which its number covers, or the loop reads it
-abbrev pub LeadsTo : Goal → NamedRule → Type 0
-LeadsTo goal (named.Data syntax) =
+abbrev pub IsReadBy : Goal → NamedRule → Type 0
+IsReadBy goal (named.Data syntax) =
     (grammar_of syntax.now ≡ rules (name_of goal)) × (size_of syntax.now ≤ goal_size goal)
-LeadsTo goal named.Call = goal ≡ goals.Call
-LeadsTo goal named.UsePath = goal ≡ goals.UsePath
+IsReadBy goal named.Call = goal ≡ goals.Call
+IsReadBy goal named.UsePath = goal ≡ goals.UsePath

@@ -11,10 +11,10 @@ pub mod Whole
 pub mod Expected
 pub mod ExpectedText
 pub mod Syntax
+pub mod Nonterminals
 pub mod GoalSyntax
 pub mod Explore
 pub mod ExplorePath
-pub mod ExploreItem
 pub mod Item
 pub mod ItemParts
 pub mod Ending

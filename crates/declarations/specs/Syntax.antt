@@ -1,6 +1,7 @@
 -- Rules of the grammar as data.
 use Rattle.std.specs.Prelude.{ℕ, suc, ◌+◌, Bool, true, false, not, ◌&&◌, ◌||◌}
 use Rattle.grammars.specs.Grammar.{Nothing, Sign, To, Mark, Then, Either, Many}
+use Rattle.declarations.specs.Nonterminals.{nonterminal_size, rule_named}
 use Rattle.declarations.specs.Tables.{IsFrom}
 use Rattle.item_tables.specs.declared.class.SignClass.{SignClass}
 use Rattle.item_tables.specs.declared.class.SignClass.TheVariants as classes
@@ -165,20 +166,20 @@ name_of goals.TargetRest = Range types.Whole Target
 
 -- a number for the named rule: at least that of its data, which src/goal_syntax.rt names
 abbrev pub goal_size : Goal → ℕ
-goal_size goals.Function = 344
-goal_size goals.Qualified = 703
-goal_size goals.Static = 48
-goal_size goals.Alias = 376
-goal_size goals.Struct = 364
-goal_size goals.Enum = 317
-goal_size goals.Union = 317
-goal_size goals.Trait = 379
+goal_size goals.Function = 360
+goal_size goals.Qualified = 735
+goal_size goals.Static = 49
+goal_size goals.Alias = 394
+goal_size goals.Struct = 381
+goal_size goals.Enum = 332
+goal_size goals.Union = 332
+goal_size goals.Trait = 397
 goal_size goals.Module = 16
-goal_size goals.Async = 2825
-goal_size goals.Constant = 7699
+goal_size goals.Async = 2955
+goal_size goals.Constant = 8052
 goal_size goals.TargetRest = 1
-goal_size goals.Impl = 2514
-goal_size goals.Call = 44
+goal_size goals.Impl = 2638
+goal_size goals.Call = 45
 goal_size goals.UsePath = 14
 goal_size goals.Use = 61
 
@@ -189,6 +190,7 @@ size_of (forms.Either' p a q b) = suc (suc (size_of a + size_of b))
 size_of (forms.Many' p a) = suc (suc (size_of a))
 size_of (forms.To test goal) = suc (suc (goal_size goal))
 size_of (forms.List' p a) = suc (suc (size_of a))
+size_of (forms.Nonterminal nonterminal) = suc (nonterminal_size nonterminal)
 size_of _ = 1
 
 -- the rule of the grammar
@@ -203,3 +205,4 @@ grammar_of (forms.Then' p a q b) = Then (grammar_of a) (grammar_of b)
 grammar_of (forms.Either' p a q b) = Either (grammar_of a) (grammar_of b)
 grammar_of (forms.Many' p a) = Many (grammar_of a)
 grammar_of (forms.List' p a) = comma_list (grammar_of a)
+grammar_of (forms.Nonterminal nonterminal) = rule_named nonterminal

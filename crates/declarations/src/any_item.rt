@@ -7,9 +7,10 @@ ghost use Rattle.declarations.specs.Forms.{IsAnyItem};
 ghost use Rattle.declarations.specs.Kind.{HasKind, name_at};
 ghost use Rattle.declarations.specs.Reading.{FaultAt, IsOnly, Reads, first_name};
 
-use crate::explore_item::fault_of_item;
+use crate::explore::fault_by;
 use crate::fault::Fault;
 use crate::item_kinds::past_any_item;
+use crate::item_syntax::ANY_ITEM;
 use crate::reader::part;
 use pm_stream::TokenTree;
 use pm_token::Ident;
@@ -97,7 +98,7 @@ pub fn split_any_item<'a>(trees: &'a [TokenTree]) -> Result<(AnyItem<'a>, &'a [T
                 found.rest,
             ))
         }
-        Err(left) => Err(fault_of_item(trees, left)),
+        Err(left) => Err(fault_by(&ANY_ITEM, trees, left)),
     }
 }
 

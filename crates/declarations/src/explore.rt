@@ -17,7 +17,7 @@ ghost use Rattle.item_tables.specs.declared.class.SignClass.TheVariants as signs
 
 use crate::expected::{CLASSES, Expected};
 use crate::fault::Fault;
-use crate::goal_syntax::{NamedRule, named_rule};
+use crate::goal_syntax::{NamedRule, reader_of, rule_of};
 use crate::item_syntax::{MARKED_CALL, USE_END, USE_LIST};
 use crate::reader::is;
 use crate::signs::first_sign;
@@ -264,6 +264,7 @@ pub(crate) fn explore<'a>(syntax: &Syntax<'_>, trees: &'a [TokenTree]) -> Seen<'
         }
         Syntax::Many(item) => explore_many(item, trees),
         Syntax::List(item) => explore_list(item, trees),
+        Syntax::Nonterminal(nonterminal) => explore(rule_of(*nonterminal), trees),
     }
 }
 
@@ -272,7 +273,7 @@ pub(crate) fn explore<'a>(syntax: &Syntax<'_>, trees: &'a [TokenTree]) -> Seen<'
 fn explore_goal(goal: Goal, trees: &[TokenTree]) -> Seen<'_>
     ensures { Sees (rules (name_of goal)) trees.now result }
 {
-    match named_rule(goal) {
+    match reader_of(goal) {
         NamedRule::Data(syntax) => explore(syntax, trees),
         NamedRule::Call => explore_call(trees),
         NamedRule::UsePath => explore_use_path(trees),

@@ -11,9 +11,10 @@ ghost use Rattle.declarations.specs.Reading.{FaultAt};
 ghost use Rattle.declarations.specs.Whole.{IsWhole, ReadsAll};
 
 use crate::any_item::{AnyItem, ItemKind, name_of, split_any_item};
-use crate::explore_item::fault_of_item;
+use crate::explore::fault_by;
 use crate::fault::Fault;
 use crate::item_kinds::past_any_item;
+use crate::item_syntax::ANY_ITEM;
 use crate::part_splitting::split_inner_attributes;
 use pm_stream::{Group, TokenTree};
 use pm_token::Delimiter;
@@ -94,10 +95,10 @@ pub fn parse_item(trees: &[TokenTree]) -> Result<AnyItem<'_>, Fault>
                     trees,
                 })
             } else {
-                Err(fault_of_item(trees, found.rest))
+                Err(fault_by(&ANY_ITEM, trees, found.rest))
             }
         }
-        Err(left) => Err(fault_of_item(trees, left)),
+        Err(left) => Err(fault_by(&ANY_ITEM, trees, left)),
     }
 }
 

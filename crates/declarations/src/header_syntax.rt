@@ -1,7 +1,7 @@
 //! Items from their names on as data, for the signs that can come next at an error.
 
 use crate::part_syntax::{GENERICS, WHERE, WITH_BOUNDS};
-use crate::syntax::{FUNCTION_REST, Goal, Label, Syntax, Table, Test};
+use crate::syntax::{FUNCTION_REST, Goal, Label, Nonterminal, Syntax, Table, Test};
 use item_tables::class::{Keyword, SignClass, Word};
 
 /// The name of an item.
@@ -59,7 +59,7 @@ const STRUCT_REST: Syntax<'static> = Syntax::Either(
 pub(crate) const WHERE_AND_BODY: Syntax<'static> = Syntax::Then(&WHERE, &BRACES);
 
 /// The rest of a constant or a static after its name.
-const TYPE_AND_VALUE: Syntax<'static> = Syntax::Then(
+pub(crate) static TYPE_AND_VALUE_DATA: Syntax<'static> = Syntax::Then(
     &Syntax::Mark(Label::Rest),
     &Syntax::Then(
         &Syntax::Sign(Test::Is(SignClass::Colon)),
@@ -72,6 +72,9 @@ const TYPE_AND_VALUE: Syntax<'static> = Syntax::Then(
         ),
     ),
 );
+
+/// The nonterminal of [`TYPE_AND_VALUE_DATA`].
+const TYPE_AND_VALUE: Syntax<'static> = Syntax::Nonterminal(Nonterminal::TypeAndValue);
 
 /// `=`, the type of an alias and a where clause, or nothing.
 const ALIAS_VALUE: Syntax<'static> = Syntax::Either(
@@ -113,7 +116,7 @@ pub(crate) const FUNCTION_ITEM: Syntax<'static> = Syntax::Then(
 );
 
 /// A function from its `extern` or its `fn` on.
-pub(crate) const FUNCTION_FRONT: Syntax<'static> = Syntax::Either(
+pub(crate) static FUNCTION_FRONT_DATA: Syntax<'static> = Syntax::Either(
     &Syntax::Then(
         &Syntax::Sign(Test::Is(SignClass::Keyword(Keyword::Extern))),
         &Syntax::Then(
@@ -126,6 +129,9 @@ pub(crate) const FUNCTION_FRONT: Syntax<'static> = Syntax::Either(
     ),
     &Syntax::To(Test::Is(SignClass::Keyword(Keyword::Fn)), Goal::Function),
 );
+
+/// The nonterminal of [`FUNCTION_FRONT_DATA`].
+pub(crate) const FUNCTION_FRONT: Syntax<'static> = Syntax::Nonterminal(Nonterminal::FunctionFront);
 
 /// A static after its keyword.
 pub(crate) const STATIC: Syntax<'static> = Syntax::Then(

@@ -20,7 +20,6 @@ mod entry_list;
 mod expected;
 mod expected_text;
 mod explore;
-mod explore_item;
 mod explore_path;
 mod fault;
 mod field;

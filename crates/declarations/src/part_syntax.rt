@@ -1,6 +1,6 @@
 //! Types, bounds, expressions and the parts of items as data, for the signs that can come next at an error.
 
-use crate::syntax::{Guard, Label, Syntax, Table, Test};
+use crate::syntax::{Guard, Label, Nonterminal, Syntax, Table, Test};
 use item_tables::class::{Keyword, SignClass};
 
 /// A type.
@@ -22,7 +22,10 @@ const ATTRIBUTE: Syntax<'static> = Syntax::Then(
 );
 
 /// Attributes.
-pub(crate) const ATTRIBUTES: Syntax<'static> = Syntax::Many(&ATTRIBUTE);
+pub(crate) static ATTRIBUTES_DATA: Syntax<'static> = Syntax::Many(&ATTRIBUTE);
+
+/// The nonterminal of [`ATTRIBUTES_DATA`].
+pub(crate) const ATTRIBUTES: Syntax<'static> = Syntax::Nonterminal(Nonterminal::Attributes);
 
 /// An inner attribute.
 const INNER_ATTRIBUTE: Syntax<'static> = Syntax::Then(
@@ -49,13 +52,16 @@ pub(crate) const VISIBLE: Syntax<'static> = Syntax::Either(
 );
 
 /// A visibility, or nothing.
-pub(crate) const VISIBILITY: Syntax<'static> = Syntax::Either(
+pub(crate) static VISIBILITY_DATA: Syntax<'static> = Syntax::Either(
     &Syntax::Then(&Syntax::Mark(Label::Visible), &VISIBLE),
     &Syntax::Nothing,
 );
 
+/// The nonterminal of [`VISIBILITY_DATA`].
+pub(crate) const VISIBILITY: Syntax<'static> = Syntax::Nonterminal(Nonterminal::Visibility);
+
 /// A named field.
-pub(crate) const FIELD: Syntax<'static> = Syntax::Then(
+pub(crate) static FIELD_DATA: Syntax<'static> = Syntax::Then(
     &ATTRIBUTES,
     &Syntax::Then(
         &VISIBILITY,
@@ -74,6 +80,9 @@ pub(crate) const FIELD: Syntax<'static> = Syntax::Then(
         ),
     ),
 );
+
+/// The nonterminal of [`FIELD_DATA`].
+pub(crate) const FIELD: Syntax<'static> = Syntax::Nonterminal(Nonterminal::Field);
 
 /// The type of a field without a name, after `pub`.
 const PUBLIC_TYPE: Syntax<'static> = Syntax::Either(
@@ -109,7 +118,10 @@ const TUPLE_FIELD_REST: Syntax<'static> = Syntax::Either(
 );
 
 /// A field without a name.
-pub(crate) const TUPLE_FIELD: Syntax<'static> = Syntax::Then(&ATTRIBUTES, &TUPLE_FIELD_REST);
+pub(crate) static TUPLE_FIELD_DATA: Syntax<'static> = Syntax::Then(&ATTRIBUTES, &TUPLE_FIELD_REST);
+
+/// The nonterminal of [`TUPLE_FIELD_DATA`].
+pub(crate) const TUPLE_FIELD: Syntax<'static> = Syntax::Nonterminal(Nonterminal::TupleField);
 
 /// The fields of a variant, or nothing.
 const VARIANT_FIELDS: Syntax<'static> = Syntax::Either(
@@ -139,7 +151,7 @@ const DISCRIMINANT: Syntax<'static> = Syntax::Either(
 );
 
 /// A variant.
-pub(crate) const VARIANT: Syntax<'static> = Syntax::Then(
+pub(crate) static VARIANT_DATA: Syntax<'static> = Syntax::Then(
     &ATTRIBUTES,
     &Syntax::Then(
         &VISIBILITY,
@@ -153,6 +165,9 @@ pub(crate) const VARIANT: Syntax<'static> = Syntax::Then(
     ),
 );
 
+/// The nonterminal of [`VARIANT_DATA`].
+pub(crate) const VARIANT: Syntax<'static> = Syntax::Nonterminal(Nonterminal::Variant);
+
 /// Named fields.
 pub(crate) const FIELDS: Syntax<'static> = Syntax::List(&FIELD);
 
@@ -163,7 +178,7 @@ pub(crate) const TUPLE_FIELDS: Syntax<'static> = Syntax::List(&TUPLE_FIELD);
 pub(crate) const VARIANTS: Syntax<'static> = Syntax::List(&VARIANT);
 
 /// `:` and bounds, or nothing.
-pub(crate) const WITH_BOUNDS: Syntax<'static> = Syntax::Either(
+pub(crate) static WITH_BOUNDS_DATA: Syntax<'static> = Syntax::Either(
     &Syntax::Then(
         &Syntax::Mark(Label::Rest),
         &Syntax::Then(
@@ -173,6 +188,9 @@ pub(crate) const WITH_BOUNDS: Syntax<'static> = Syntax::Either(
     ),
     &Syntax::Nothing,
 );
+
+/// The nonterminal of [`WITH_BOUNDS_DATA`].
+pub(crate) const WITH_BOUNDS: Syntax<'static> = Syntax::Nonterminal(Nonterminal::WithBounds);
 
 /// `=` and a type.
 pub(crate) const DEFAULT_TYPE: Syntax<'static> = Syntax::Then(
@@ -214,7 +232,7 @@ const WITH_CONSTANT: Syntax<'static> = Syntax::Either(
 );
 
 /// A constant parameter, after `const`.
-pub(crate) const CONSTANT_PARAMETER: Syntax<'static> = Syntax::Then(
+pub(crate) static CONSTANT_PARAMETER_DATA: Syntax<'static> = Syntax::Then(
     &Syntax::Mark(Label::Named),
     &Syntax::Then(
         &Syntax::Sign(Test::Word),
@@ -231,8 +249,13 @@ pub(crate) const CONSTANT_PARAMETER: Syntax<'static> = Syntax::Then(
     ),
 );
 
+/// The nonterminal of [`CONSTANT_PARAMETER_DATA`].
+pub(crate) const CONSTANT_PARAMETER: Syntax<'static> = Syntax::Nonterminal(
+    Nonterminal::ConstantParameter,
+);
+
 /// A generic parameter, after its attributes.
-pub(crate) const GENERIC_REST: Syntax<'static> = Syntax::Either(
+pub(crate) static GENERIC_REST_DATA: Syntax<'static> = Syntax::Either(
     &Syntax::Then(
         &Syntax::Mark(Label::Named),
         &Syntax::Then(&Syntax::Sign(Test::Is(SignClass::Lifetime)), &WITH_BOUNDS),
@@ -258,11 +281,17 @@ pub(crate) const GENERIC_REST: Syntax<'static> = Syntax::Either(
     ),
 );
 
+/// The nonterminal of [`GENERIC_REST_DATA`].
+pub(crate) const GENERIC_REST: Syntax<'static> = Syntax::Nonterminal(Nonterminal::GenericRest);
+
 /// A generic parameter.
-pub(crate) const GENERIC: Syntax<'static> = Syntax::Then(
+pub(crate) static GENERIC_DATA: Syntax<'static> = Syntax::Then(
     &Syntax::Mark(Label::Parameter),
     &Syntax::Then(&ATTRIBUTES, &GENERIC_REST),
 );
+
+/// The nonterminal of [`GENERIC_DATA`].
+pub(crate) const GENERIC: Syntax<'static> = Syntax::Nonterminal(Nonterminal::Generic);
 
 /// Generic parameters and the `>` after them.
 const CLOSED_GENERICS: Syntax<'static> = Syntax::Then(
@@ -274,7 +303,7 @@ const CLOSED_GENERICS: Syntax<'static> = Syntax::Then(
 );
 
 /// Generic parameters, or nothing.
-pub(crate) const GENERICS: Syntax<'static> = Syntax::Either(
+pub(crate) static GENERICS_DATA: Syntax<'static> = Syntax::Either(
     &Syntax::Then(
         &Syntax::Mark(Label::Generics),
         &Syntax::Either(
@@ -288,8 +317,11 @@ pub(crate) const GENERICS: Syntax<'static> = Syntax::Either(
     &Syntax::Nothing,
 );
 
+/// The nonterminal of [`GENERICS_DATA`].
+pub(crate) const GENERICS: Syntax<'static> = Syntax::Nonterminal(Nonterminal::Generics);
+
 /// A predicate of a where clause.
-pub(crate) const PREDICATE: Syntax<'static> = Syntax::Then(
+pub(crate) static PREDICATE_DATA: Syntax<'static> = Syntax::Then(
     &Syntax::Mark(Label::Bounded),
     &Syntax::Then(
         &Syntax::Table(Table::Type),
@@ -303,8 +335,11 @@ pub(crate) const PREDICATE: Syntax<'static> = Syntax::Then(
     ),
 );
 
+/// The nonterminal of [`PREDICATE_DATA`].
+pub(crate) const PREDICATE: Syntax<'static> = Syntax::Nonterminal(Nonterminal::Predicate);
+
 /// A where clause, or nothing.
-pub(crate) const WHERE: Syntax<'static> = Syntax::Either(
+pub(crate) static WHERE_DATA: Syntax<'static> = Syntax::Either(
     &Syntax::Then(
         &Syntax::Mark(Label::Where),
         &Syntax::Then(
@@ -314,3 +349,6 @@ pub(crate) const WHERE: Syntax<'static> = Syntax::Either(
     ),
     &Syntax::Nothing,
 );
+
+/// The nonterminal of [`WHERE_DATA`].
+pub(crate) const WHERE: Syntax<'static> = Syntax::Nonterminal(Nonterminal::Where);

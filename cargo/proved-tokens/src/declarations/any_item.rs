@@ -1,9 +1,10 @@
 // Made from crates/declarations/src/any_item.rt by dev/erase: change that file, not this one.
 //! The item at the start of trees, with its kind and name.
 
-use crate::declarations::explore_item::fault_of_item;
+use crate::declarations::explore::fault_by;
 use crate::declarations::fault::Fault;
 use crate::declarations::item_kinds::past_any_item;
+use crate::declarations::item_syntax::ANY_ITEM;
 use crate::declarations::reader::part;
 use crate::pm_stream::TokenTree;
 use crate::pm_token::Ident;
@@ -113,7 +114,7 @@ pub fn split_any_item<'a>(trees: &'a [TokenTree]) -> Result<(AnyItem<'a>, &'a [T
                 found.rest,
             ))
         }
-        Err(left) => Err(fault_of_item(trees, left)),
+        Err(left) => Err(fault_by(&ANY_ITEM, trees, left)),
     }
 }
 

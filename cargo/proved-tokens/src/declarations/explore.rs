@@ -3,7 +3,7 @@
 
 use crate::declarations::expected::{CLASSES, Expected};
 use crate::declarations::fault::Fault;
-use crate::declarations::goal_syntax::{NamedRule, named_rule};
+use crate::declarations::goal_syntax::{NamedRule, reader_of, rule_of};
 use crate::declarations::item_syntax::{MARKED_CALL, USE_END, USE_LIST};
 use crate::declarations::reader::is;
 use crate::declarations::signs::first_sign;
@@ -229,13 +229,14 @@ pub(crate) fn explore<'a>(syntax: &Syntax<'_>, trees: &'a [TokenTree]) -> Seen<'
         }
         Syntax::Many(item) => explore_many(item, trees),
         Syntax::List(item) => explore_list(item, trees),
+        Syntax::Nonterminal(nonterminal) => explore(rule_of(*nonterminal), trees),
     }
 }
 
 /// Reads by the named rule.
 fn explore_goal(goal: Goal, trees: &[TokenTree]) -> Seen<'_>
 {
-    match named_rule(goal) {
+    match reader_of(goal) {
         NamedRule::Data(syntax) => explore(syntax, trees),
         NamedRule::Call => explore_call(trees),
         NamedRule::UsePath => explore_use_path(trees),

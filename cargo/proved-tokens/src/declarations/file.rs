@@ -2,9 +2,10 @@
 //! Files, and the bodies of modules, traits, `impl`s and `extern` blocks: inner attributes, and then items.
 
 use crate::declarations::any_item::{AnyItem, ItemKind, name_of, split_any_item};
-use crate::declarations::explore_item::fault_of_item;
+use crate::declarations::explore::fault_by;
 use crate::declarations::fault::Fault;
 use crate::declarations::item_kinds::past_any_item;
+use crate::declarations::item_syntax::ANY_ITEM;
 use crate::declarations::part_splitting::split_inner_attributes;
 use crate::pm_stream::{Group, TokenTree};
 use crate::pm_token::Delimiter;
@@ -115,10 +116,10 @@ pub fn parse_item(trees: &[TokenTree]) -> Result<AnyItem<'_>, Fault>
                     trees,
                 })
             } else {
-                Err(fault_of_item(trees, found.rest))
+                Err(fault_by(&ANY_ITEM, trees, found.rest))
             }
         }
-        Err(left) => Err(fault_of_item(trees, left)),
+        Err(left) => Err(fault_by(&ANY_ITEM, trees, left)),
     }
 }
 

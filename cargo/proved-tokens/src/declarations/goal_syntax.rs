@@ -1,19 +1,29 @@
 // Made from crates/declarations/src/goal_syntax.rt by dev/erase: change that file, not this one.
-//! How named rules are read, for the signs that can come next at an error.
+//! How named rules and nonterminals are read, for the signs that can come next at an error.
 
 use crate::declarations::header_syntax::{
-    ALIAS, ASYNC_FRONT, CONST_FRONT, ENUM, FUNCTION_FRONT, FUNCTION_ITEM, MODULE, STATIC, STRUCT,
-    TRAIT,
+    ALIAS, ASYNC_FRONT, CONST_FRONT, ENUM, FUNCTION_FRONT_DATA, FUNCTION_ITEM, MODULE, STATIC,
+    STRUCT, TRAIT, TYPE_AND_VALUE_DATA,
 };
-use crate::declarations::impl_syntax::{IMPL_FRONT, TARGET_REST};
-use crate::declarations::item_syntax::USE;
-use crate::declarations::syntax::{Goal, Syntax};
+use crate::declarations::impl_syntax::{IMPL_FRONT, MORE_GENERICS_DATA, TARGET_DATA, TARGET_REST};
+use crate::declarations::item_syntax::{
+    ANY_ITEM_DATA, CALL_DATA, DEFAULT_FRONT_DATA, KEYWORD_ITEM_DATA, MARKED_CALL_DATA,
+    TYPE_ITEM_DATA, USE,
+};
+use crate::declarations::part_syntax::{
+    ATTRIBUTES_DATA, CONSTANT_PARAMETER_DATA, FIELD_DATA, GENERIC_DATA, GENERIC_REST_DATA,
+    GENERICS_DATA, PREDICATE_DATA, TUPLE_FIELD_DATA, VARIANT_DATA, VISIBILITY_DATA, WHERE_DATA,
+    WITH_BOUNDS_DATA,
+};
+use crate::declarations::syntax::{
+    AFTER_AND_DATA, ARGUMENT_DATA, ENTRY_DATA, ENTRY_REST_DATA, FUNCTION_DATA, FUNCTION_REST_DATA,
+    Goal, IMPL_DATA, NAMED_PARAMETER_DATA, Nonterminal, PARAMETER_DATA, PATTERN_DATA,
+    PATTERN_REST_DATA, Syntax, TYPED_DATA,
+};
 
 // The data of the named rules. A reference to a static outlives the function that returns it, unlike one to a constant.
 
 static FUNCTION_RULE: Syntax<'static> = FUNCTION_ITEM;
-
-static QUALIFIED_RULE: Syntax<'static> = FUNCTION_FRONT;
 
 static ASYNC_RULE: Syntax<'static> = ASYNC_FRONT;
 
@@ -48,11 +58,11 @@ pub enum NamedRule {
 }
 
 /// Returns how the named rule is read.
-pub(crate) fn named_rule(goal: Goal) -> NamedRule
+pub(crate) fn reader_of(goal: Goal) -> NamedRule
 {
     match goal {
         Goal::Function => NamedRule::Data(&FUNCTION_RULE),
-        Goal::Qualified => NamedRule::Data(&QUALIFIED_RULE),
+        Goal::Qualified => NamedRule::Data(&FUNCTION_FRONT_DATA),
         Goal::Async => NamedRule::Data(&ASYNC_RULE),
         Goal::Constant => NamedRule::Data(&CONSTANT_RULE),
         Goal::Static => NamedRule::Data(&STATIC_RULE),
@@ -66,5 +76,46 @@ pub(crate) fn named_rule(goal: Goal) -> NamedRule
         Goal::UsePath => NamedRule::UsePath,
         Goal::Call => NamedRule::Call,
         Goal::TargetRest => NamedRule::Data(&TARGET_REST_RULE),
+    }
+}
+
+/// Returns the rule of the nonterminal.
+pub(crate) fn rule_of(nonterminal: Nonterminal) -> &'static Syntax<'static>
+{
+    match nonterminal {
+        Nonterminal::Attributes => &ATTRIBUTES_DATA,
+        Nonterminal::Visibility => &VISIBILITY_DATA,
+        Nonterminal::Field => &FIELD_DATA,
+        Nonterminal::TupleField => &TUPLE_FIELD_DATA,
+        Nonterminal::Variant => &VARIANT_DATA,
+        Nonterminal::WithBounds => &WITH_BOUNDS_DATA,
+        Nonterminal::ConstantParameter => &CONSTANT_PARAMETER_DATA,
+        Nonterminal::GenericRest => &GENERIC_REST_DATA,
+        Nonterminal::Generic => &GENERIC_DATA,
+        Nonterminal::Generics => &GENERICS_DATA,
+        Nonterminal::Predicate => &PREDICATE_DATA,
+        Nonterminal::Where => &WHERE_DATA,
+        Nonterminal::TypeAndValue => &TYPE_AND_VALUE_DATA,
+        Nonterminal::FunctionFront => &FUNCTION_FRONT_DATA,
+        Nonterminal::FunctionRest => &FUNCTION_REST_DATA,
+        Nonterminal::Function => &FUNCTION_DATA,
+        Nonterminal::Target => &TARGET_DATA,
+        Nonterminal::MoreGenerics => &MORE_GENERICS_DATA,
+        Nonterminal::Impl => &IMPL_DATA,
+        Nonterminal::MarkedCall => &MARKED_CALL_DATA,
+        Nonterminal::Call => &CALL_DATA,
+        Nonterminal::DefaultFront => &DEFAULT_FRONT_DATA,
+        Nonterminal::KeywordItem => &KEYWORD_ITEM_DATA,
+        Nonterminal::TypeItem => &TYPE_ITEM_DATA,
+        Nonterminal::AnyItem => &ANY_ITEM_DATA,
+        Nonterminal::EntryRest => &ENTRY_REST_DATA,
+        Nonterminal::Entry => &ENTRY_DATA,
+        Nonterminal::PatternRest => &PATTERN_REST_DATA,
+        Nonterminal::Pattern => &PATTERN_DATA,
+        Nonterminal::Typed => &TYPED_DATA,
+        Nonterminal::AfterAnd => &AFTER_AND_DATA,
+        Nonterminal::NamedParameter => &NAMED_PARAMETER_DATA,
+        Nonterminal::Parameter => &PARAMETER_DATA,
+        Nonterminal::Argument => &ARGUMENT_DATA,
     }
 }

@@ -5,7 +5,7 @@ use crate::declarations::header_syntax::WHERE_AND_BODY;
 use crate::declarations::part_syntax::{
     ATTRIBUTES, CONSTANT_PARAMETER, DEFAULT_TYPE, GENERIC, GENERIC_REST, WITH_BOUNDS,
 };
-use crate::declarations::syntax::{Goal, Guard, Label, Syntax, Table, Test};
+use crate::declarations::syntax::{Goal, Guard, Label, Nonterminal, Syntax, Table, Test};
 use crate::item_tables::class::{Keyword, SignClass};
 
 /// The rest of an `impl` after `!`.
@@ -30,7 +30,7 @@ const CONST_TARGET: Syntax<'static> = Syntax::Either(
 );
 
 /// The rest of an `impl` after its generic parameters.
-const TARGET: Syntax<'static> = Syntax::Either(
+pub(crate) static TARGET_DATA: Syntax<'static> = Syntax::Either(
     &Syntax::Then(
         &Syntax::Sign(Test::Is(SignClass::Keyword(Keyword::Const))),
         &CONST_TARGET,
@@ -40,6 +40,9 @@ const TARGET: Syntax<'static> = Syntax::Either(
         &TARGET_TYPE,
     ),
 );
+
+/// The nonterminal of [`TARGET_DATA`].
+const TARGET: Syntax<'static> = Syntax::Nonterminal(Nonterminal::Target);
 
 /// The rest of an `impl` without generic parameters.
 const PLAIN_TARGET: Syntax<'static> = Syntax::Either(
@@ -54,7 +57,7 @@ const PLAIN_TARGET: Syntax<'static> = Syntax::Either(
 );
 
 /// The rest of an `impl` after one of its generic parameters.
-const MORE_GENERICS: Syntax<'static> = Syntax::Then(
+pub(crate) static MORE_GENERICS_DATA: Syntax<'static> = Syntax::Then(
     &Syntax::Either(
         &Syntax::Then(
             &Syntax::Then(
@@ -70,6 +73,9 @@ const MORE_GENERICS: Syntax<'static> = Syntax::Then(
         &Syntax::Then(&Syntax::Sign(Test::Is(SignClass::Greater)), &TARGET),
     ),
 );
+
+/// The nonterminal of [`MORE_GENERICS_DATA`].
+const MORE_GENERICS: Syntax<'static> = Syntax::Nonterminal(Nonterminal::MoreGenerics);
 
 /// The rest of an `impl` after the arguments of a type that begins with `<`.
 const ANGLE_TARGET: Syntax<'static> = Syntax::Then(

@@ -2,8 +2,8 @@
 //! Items as data, for the signs that can come next at an error.
 
 use crate::declarations::header_syntax::{BRACES, ENUM, FUNCTION_FRONT, GEN_FRONT, NAME, SEMICOLON};
-use crate::declarations::part_syntax::{ATTRIBUTES, VISIBILITY};
-use crate::declarations::syntax::{Goal, Label, Syntax, Test};
+use crate::declarations::part_syntax::{ATTRIBUTES, VISIBILITY, VISIBLE};
+use crate::declarations::syntax::{Goal, Label, Nonterminal, Syntax, Test};
 use crate::item_tables::class::{Keyword, SignClass, Word};
 
 /// The group of a macro call, and the `;` that must follow parentheses and brackets.
@@ -19,19 +19,25 @@ const CALL_END: Syntax<'static> = Syntax::Either(
 const CALL_NAME: Syntax<'static> = Syntax::Either(&Syntax::Then(&NAME, &CALL_END), &CALL_END);
 
 /// The rest of a macro call from its `!` on.
-pub(crate) const MARKED_CALL: Syntax<'static> = Syntax::Then(
+pub(crate) static MARKED_CALL_DATA: Syntax<'static> = Syntax::Then(
     &Syntax::Sign(Test::Is(SignClass::Exclamation)),
     &CALL_NAME,
 );
 
+/// The nonterminal of [`MARKED_CALL_DATA`].
+pub(crate) const MARKED_CALL: Syntax<'static> = Syntax::Nonterminal(Nonterminal::MarkedCall);
+
 /// The rest of a macro call after a segment of its path.
-const CALL: Syntax<'static> = Syntax::Either(
+pub(crate) static CALL_DATA: Syntax<'static> = Syntax::Either(
     &MARKED_CALL,
     &Syntax::Then(
         &Syntax::Sign(Test::Is(SignClass::PathSeparator)),
         &Syntax::To(Test::ItemSegment, Goal::Call),
     ),
 );
+
+/// The nonterminal of [`CALL_DATA`].
+const CALL: Syntax<'static> = Syntax::Nonterminal(Nonterminal::Call);
 
 /// `as` and a name or `_`, or nothing.
 const AS_NAME: Syntax<'static> = Syntax::Either(
@@ -115,7 +121,7 @@ const DEFAULT_UNSAFE: Syntax<'static> = Syntax::Either(
 );
 
 /// An item after `default`.
-const DEFAULT_FRONT: Syntax<'static> = Syntax::Either(
+pub(crate) static DEFAULT_FRONT_DATA: Syntax<'static> = Syntax::Either(
     &Syntax::To(Test::Is(SignClass::Keyword(Keyword::Async)), Goal::Async),
     &Syntax::Either(
         &Syntax::To(Test::Is(SignClass::Keyword(Keyword::Const)), Goal::Constant),
@@ -143,6 +149,9 @@ const DEFAULT_FRONT: Syntax<'static> = Syntax::Either(
         ),
     ),
 );
+
+/// The nonterminal of [`DEFAULT_FRONT_DATA`].
+const DEFAULT_FRONT: Syntax<'static> = Syntax::Nonterminal(Nonterminal::DefaultFront);
 
 /// An item after `unsafe`.
 const UNSAFE_FRONT: Syntax<'static> = Syntax::Either(
@@ -181,7 +190,7 @@ const MACRO: Syntax<'static> = Syntax::Then(
 );
 
 /// An item that begins with a keyword.
-const KEYWORD_ITEM: Syntax<'static> = Syntax::Either(
+pub(crate) static KEYWORD_ITEM_DATA: Syntax<'static> = Syntax::Either(
     &Syntax::To(Test::Is(SignClass::Keyword(Keyword::Async)), Goal::Async),
     &Syntax::Either(
         &Syntax::To(Test::Is(SignClass::Keyword(Keyword::Const)), Goal::Constant),
@@ -251,8 +260,11 @@ const KEYWORD_ITEM: Syntax<'static> = Syntax::Either(
     ),
 );
 
+/// The nonterminal of [`KEYWORD_ITEM_DATA`].
+const KEYWORD_ITEM: Syntax<'static> = Syntax::Nonterminal(Nonterminal::KeywordItem);
+
 /// An item after a visibility.
-pub(crate) const DECLARATION: Syntax<'static> = Syntax::Either(
+const DECLARATION: Syntax<'static> = Syntax::Either(
     &Syntax::Then(
         &Syntax::Sign(Test::Is(SignClass::Word(Word::Auto))),
         &AUTO_FRONT,
@@ -282,37 +294,37 @@ pub(crate) const DECLARATION: Syntax<'static> = Syntax::Either(
 );
 
 /// An item without a visibility that begins with `auto`.
-pub(crate) const AUTO_ITEM: Syntax<'static> = Syntax::Then(
+const AUTO_ITEM: Syntax<'static> = Syntax::Then(
     &Syntax::Sign(Test::Is(SignClass::Word(Word::Auto))),
     &Syntax::Either(&CALL, &AUTO_FRONT),
 );
 
 /// An item without a visibility that begins with `default`.
-pub(crate) const DEFAULT_ITEM: Syntax<'static> = Syntax::Then(
+const DEFAULT_ITEM: Syntax<'static> = Syntax::Then(
     &Syntax::Sign(Test::Is(SignClass::Word(Word::Default))),
     &Syntax::Either(&CALL, &DEFAULT_FRONT),
 );
 
 /// An item without a visibility that begins with `gen`.
-pub(crate) const GEN_ITEM: Syntax<'static> = Syntax::Then(
+const GEN_ITEM: Syntax<'static> = Syntax::Then(
     &Syntax::Sign(Test::Is(SignClass::Word(Word::Gen))),
     &Syntax::Either(&CALL, &GEN_FRONT),
 );
 
 /// An item without a visibility that begins with `safe`.
-pub(crate) const SAFE_ITEM: Syntax<'static> = Syntax::Then(
+const SAFE_ITEM: Syntax<'static> = Syntax::Then(
     &Syntax::Sign(Test::Is(SignClass::Word(Word::Safe))),
     &Syntax::Either(&CALL, &SAFE_FRONT),
 );
 
 /// An item without a visibility that begins with `union`.
-pub(crate) const UNION_ITEM: Syntax<'static> = Syntax::Then(
+const UNION_ITEM: Syntax<'static> = Syntax::Then(
     &Syntax::Sign(Test::Is(SignClass::Word(Word::Union))),
     &Syntax::Either(&CALL, &ENUM),
 );
 
 /// An item without a visibility that begins with none of these words.
-pub(crate) const OTHER_ITEM: Syntax<'static> = Syntax::Either(
+const OTHER_ITEM: Syntax<'static> = Syntax::Either(
     &Syntax::Then(&Syntax::Sign(Test::BeginsCall), &CALL),
     &Syntax::Either(
         &Syntax::Then(
@@ -323,8 +335,38 @@ pub(crate) const OTHER_ITEM: Syntax<'static> = Syntax::Either(
     ),
 );
 
+/// An item without a visibility.
+const PRIVATE_ITEM: Syntax<'static> = Syntax::Either(
+    &AUTO_ITEM,
+    &Syntax::Either(
+        &DEFAULT_ITEM,
+        &Syntax::Either(
+            &GEN_ITEM,
+            &Syntax::Either(&SAFE_ITEM, &Syntax::Either(&UNION_ITEM, &OTHER_ITEM)),
+        ),
+    ),
+);
+
+/// An item of any kind after its attributes.
+const ANY_REST: Syntax<'static> = Syntax::Either(
+    &Syntax::Then(
+        &Syntax::Mark(Label::Visible),
+        &Syntax::Then(
+            &VISIBLE,
+            &Syntax::Then(&Syntax::Mark(Label::Front), &DECLARATION),
+        ),
+    ),
+    &Syntax::Then(&Syntax::Mark(Label::Front), &PRIVATE_ITEM),
+);
+
+/// An item of any kind, or a group without delimiters.
+pub(crate) static ANY_ITEM_DATA: Syntax<'static> = Syntax::Then(&ATTRIBUTES, &ANY_REST);
+
+/// The nonterminal of [`ANY_ITEM_DATA`].
+pub(crate) const ANY_ITEM: Syntax<'static> = Syntax::Nonterminal(Nonterminal::AnyItem);
+
 /// A struct, an enum or a union.
-pub(crate) const TYPE_ITEM: Syntax<'static> = Syntax::Then(
+pub(crate) static TYPE_ITEM_DATA: Syntax<'static> = Syntax::Then(
     &ATTRIBUTES,
     &Syntax::Then(
         &VISIBILITY,
@@ -340,3 +382,6 @@ pub(crate) const TYPE_ITEM: Syntax<'static> = Syntax::Then(
         ),
     ),
 );
+
+/// The nonterminal of [`TYPE_ITEM_DATA`].
+pub(crate) const TYPE_ITEM: Syntax<'static> = Syntax::Nonterminal(Nonterminal::TypeItem);

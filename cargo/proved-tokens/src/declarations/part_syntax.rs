@@ -1,7 +1,7 @@
 // Made from crates/declarations/src/part_syntax.rt by dev/erase: change that file, not this one.
 //! Types, bounds, expressions and the parts of items as data, for the signs that can come next at an error.
 
-use crate::declarations::syntax::{Guard, Label, Syntax, Table, Test};
+use crate::declarations::syntax::{Guard, Label, Nonterminal, Syntax, Table, Test};
 use crate::item_tables::class::{Keyword, SignClass};
 
 /// A type.
@@ -23,7 +23,10 @@ const ATTRIBUTE: Syntax<'static> = Syntax::Then(
 );
 
 /// Attributes.
-pub(crate) const ATTRIBUTES: Syntax<'static> = Syntax::Many(&ATTRIBUTE);
+pub(crate) static ATTRIBUTES_DATA: Syntax<'static> = Syntax::Many(&ATTRIBUTE);
+
+/// The nonterminal of [`ATTRIBUTES_DATA`].
+pub(crate) const ATTRIBUTES: Syntax<'static> = Syntax::Nonterminal(Nonterminal::Attributes);
 
 /// An inner attribute.
 const INNER_ATTRIBUTE: Syntax<'static> = Syntax::Then(
@@ -50,13 +53,16 @@ pub(crate) const VISIBLE: Syntax<'static> = Syntax::Either(
 );
 
 /// A visibility, or nothing.
-pub(crate) const VISIBILITY: Syntax<'static> = Syntax::Either(
+pub(crate) static VISIBILITY_DATA: Syntax<'static> = Syntax::Either(
     &Syntax::Then(&Syntax::Mark(Label::Visible), &VISIBLE),
     &Syntax::Nothing,
 );
 
+/// The nonterminal of [`VISIBILITY_DATA`].
+pub(crate) const VISIBILITY: Syntax<'static> = Syntax::Nonterminal(Nonterminal::Visibility);
+
 /// A named field.
-pub(crate) const FIELD: Syntax<'static> = Syntax::Then(
+pub(crate) static FIELD_DATA: Syntax<'static> = Syntax::Then(
     &ATTRIBUTES,
     &Syntax::Then(
         &VISIBILITY,
@@ -75,6 +81,9 @@ pub(crate) const FIELD: Syntax<'static> = Syntax::Then(
         ),
     ),
 );
+
+/// The nonterminal of [`FIELD_DATA`].
+pub(crate) const FIELD: Syntax<'static> = Syntax::Nonterminal(Nonterminal::Field);
 
 /// The type of a field without a name, after `pub`.
 const PUBLIC_TYPE: Syntax<'static> = Syntax::Either(
@@ -110,7 +119,10 @@ const TUPLE_FIELD_REST: Syntax<'static> = Syntax::Either(
 );
 
 /// A field without a name.
-pub(crate) const TUPLE_FIELD: Syntax<'static> = Syntax::Then(&ATTRIBUTES, &TUPLE_FIELD_REST);
+pub(crate) static TUPLE_FIELD_DATA: Syntax<'static> = Syntax::Then(&ATTRIBUTES, &TUPLE_FIELD_REST);
+
+/// The nonterminal of [`TUPLE_FIELD_DATA`].
+pub(crate) const TUPLE_FIELD: Syntax<'static> = Syntax::Nonterminal(Nonterminal::TupleField);
 
 /// The fields of a variant, or nothing.
 const VARIANT_FIELDS: Syntax<'static> = Syntax::Either(
@@ -140,7 +152,7 @@ const DISCRIMINANT: Syntax<'static> = Syntax::Either(
 );
 
 /// A variant.
-pub(crate) const VARIANT: Syntax<'static> = Syntax::Then(
+pub(crate) static VARIANT_DATA: Syntax<'static> = Syntax::Then(
     &ATTRIBUTES,
     &Syntax::Then(
         &VISIBILITY,
@@ -154,6 +166,9 @@ pub(crate) const VARIANT: Syntax<'static> = Syntax::Then(
     ),
 );
 
+/// The nonterminal of [`VARIANT_DATA`].
+pub(crate) const VARIANT: Syntax<'static> = Syntax::Nonterminal(Nonterminal::Variant);
+
 /// Named fields.
 pub(crate) const FIELDS: Syntax<'static> = Syntax::List(&FIELD);
 
@@ -164,7 +179,7 @@ pub(crate) const TUPLE_FIELDS: Syntax<'static> = Syntax::List(&TUPLE_FIELD);
 pub(crate) const VARIANTS: Syntax<'static> = Syntax::List(&VARIANT);
 
 /// `:` and bounds, or nothing.
-pub(crate) const WITH_BOUNDS: Syntax<'static> = Syntax::Either(
+pub(crate) static WITH_BOUNDS_DATA: Syntax<'static> = Syntax::Either(
     &Syntax::Then(
         &Syntax::Mark(Label::Rest),
         &Syntax::Then(
@@ -174,6 +189,9 @@ pub(crate) const WITH_BOUNDS: Syntax<'static> = Syntax::Either(
     ),
     &Syntax::Nothing,
 );
+
+/// The nonterminal of [`WITH_BOUNDS_DATA`].
+pub(crate) const WITH_BOUNDS: Syntax<'static> = Syntax::Nonterminal(Nonterminal::WithBounds);
 
 /// `=` and a type.
 pub(crate) const DEFAULT_TYPE: Syntax<'static> = Syntax::Then(
@@ -215,7 +233,7 @@ const WITH_CONSTANT: Syntax<'static> = Syntax::Either(
 );
 
 /// A constant parameter, after `const`.
-pub(crate) const CONSTANT_PARAMETER: Syntax<'static> = Syntax::Then(
+pub(crate) static CONSTANT_PARAMETER_DATA: Syntax<'static> = Syntax::Then(
     &Syntax::Mark(Label::Named),
     &Syntax::Then(
         &Syntax::Sign(Test::Word),
@@ -232,8 +250,13 @@ pub(crate) const CONSTANT_PARAMETER: Syntax<'static> = Syntax::Then(
     ),
 );
 
+/// The nonterminal of [`CONSTANT_PARAMETER_DATA`].
+pub(crate) const CONSTANT_PARAMETER: Syntax<'static> = Syntax::Nonterminal(
+    Nonterminal::ConstantParameter,
+);
+
 /// A generic parameter, after its attributes.
-pub(crate) const GENERIC_REST: Syntax<'static> = Syntax::Either(
+pub(crate) static GENERIC_REST_DATA: Syntax<'static> = Syntax::Either(
     &Syntax::Then(
         &Syntax::Mark(Label::Named),
         &Syntax::Then(&Syntax::Sign(Test::Is(SignClass::Lifetime)), &WITH_BOUNDS),
@@ -259,11 +282,17 @@ pub(crate) const GENERIC_REST: Syntax<'static> = Syntax::Either(
     ),
 );
 
+/// The nonterminal of [`GENERIC_REST_DATA`].
+pub(crate) const GENERIC_REST: Syntax<'static> = Syntax::Nonterminal(Nonterminal::GenericRest);
+
 /// A generic parameter.
-pub(crate) const GENERIC: Syntax<'static> = Syntax::Then(
+pub(crate) static GENERIC_DATA: Syntax<'static> = Syntax::Then(
     &Syntax::Mark(Label::Parameter),
     &Syntax::Then(&ATTRIBUTES, &GENERIC_REST),
 );
+
+/// The nonterminal of [`GENERIC_DATA`].
+pub(crate) const GENERIC: Syntax<'static> = Syntax::Nonterminal(Nonterminal::Generic);
 
 /// Generic parameters and the `>` after them.
 const CLOSED_GENERICS: Syntax<'static> = Syntax::Then(
@@ -275,7 +304,7 @@ const CLOSED_GENERICS: Syntax<'static> = Syntax::Then(
 );
 
 /// Generic parameters, or nothing.
-pub(crate) const GENERICS: Syntax<'static> = Syntax::Either(
+pub(crate) static GENERICS_DATA: Syntax<'static> = Syntax::Either(
     &Syntax::Then(
         &Syntax::Mark(Label::Generics),
         &Syntax::Either(
@@ -289,8 +318,11 @@ pub(crate) const GENERICS: Syntax<'static> = Syntax::Either(
     &Syntax::Nothing,
 );
 
+/// The nonterminal of [`GENERICS_DATA`].
+pub(crate) const GENERICS: Syntax<'static> = Syntax::Nonterminal(Nonterminal::Generics);
+
 /// A predicate of a where clause.
-pub(crate) const PREDICATE: Syntax<'static> = Syntax::Then(
+pub(crate) static PREDICATE_DATA: Syntax<'static> = Syntax::Then(
     &Syntax::Mark(Label::Bounded),
     &Syntax::Then(
         &Syntax::Table(Table::Type),
@@ -304,8 +336,11 @@ pub(crate) const PREDICATE: Syntax<'static> = Syntax::Then(
     ),
 );
 
+/// The nonterminal of [`PREDICATE_DATA`].
+pub(crate) const PREDICATE: Syntax<'static> = Syntax::Nonterminal(Nonterminal::Predicate);
+
 /// A where clause, or nothing.
-pub(crate) const WHERE: Syntax<'static> = Syntax::Either(
+pub(crate) static WHERE_DATA: Syntax<'static> = Syntax::Either(
     &Syntax::Then(
         &Syntax::Mark(Label::Where),
         &Syntax::Then(
@@ -315,3 +350,6 @@ pub(crate) const WHERE: Syntax<'static> = Syntax::Either(
     ),
     &Syntax::Nothing,
 );
+
+/// The nonterminal of [`WHERE_DATA`].
+pub(crate) const WHERE: Syntax<'static> = Syntax::Nonterminal(Nonterminal::Where);

@@ -185,6 +185,79 @@ pub enum Goal {
     TargetRest,
 }
 
+/// A rule that several other rules cite, or that a function reads.
+#[derive(Clone, Copy)]
+pub enum Nonterminal {
+    /// Attributes.
+    Attributes,
+    /// A visibility, or nothing.
+    Visibility,
+    /// A named field.
+    Field,
+    /// A field without a name.
+    TupleField,
+    /// A variant.
+    Variant,
+    /// `:` and bounds, or nothing.
+    WithBounds,
+    /// A constant parameter, after `const`.
+    ConstantParameter,
+    /// A generic parameter, after its attributes.
+    GenericRest,
+    /// A generic parameter.
+    Generic,
+    /// Generic parameters, or nothing.
+    Generics,
+    /// A predicate of a where clause.
+    Predicate,
+    /// A where clause, or nothing.
+    Where,
+    /// The rest of a constant or a static after its name.
+    TypeAndValue,
+    /// A function from its `extern` or its `fn` on.
+    FunctionFront,
+    /// What follows the name of a function and its generic parameters.
+    FunctionRest,
+    /// A function.
+    Function,
+    /// The rest of an `impl` after its generic parameters.
+    Target,
+    /// The rest of an `impl` after one of its generic parameters.
+    MoreGenerics,
+    /// An `impl`.
+    Impl,
+    /// The rest of a macro call from its `!` on.
+    MarkedCall,
+    /// The rest of a macro call after a segment of its path.
+    Call,
+    /// An item after `default`.
+    DefaultFront,
+    /// An item that begins with a keyword.
+    KeywordItem,
+    /// A struct, an enum or a union.
+    TypeItem,
+    /// An item of any kind, or a group without delimiters.
+    AnyItem,
+    /// What follows the path of an entry.
+    EntryRest,
+    /// An entry of an attribute's list.
+    Entry,
+    /// The rest of a pattern after its first sign.
+    PatternRest,
+    /// A pattern.
+    Pattern,
+    /// `:` and a type or `...`
+    Typed,
+    /// The rest of a parameter after `&`.
+    AfterAnd,
+    /// A receiver, or a pattern and its type, which does not begin with `..`.
+    NamedParameter,
+    /// A parameter of a function.
+    Parameter,
+    /// A generic argument.
+    Argument,
+}
+
 /// A rule of the grammar, apart from types, bounds and expressions, which tables read.
 #[derive(Clone, Copy)]
 pub enum Syntax<'a> {
@@ -208,6 +281,8 @@ pub enum Syntax<'a> {
     Many(&'a Syntax<'a>),
     /// The rule any number of times, with `,` between two and perhaps after the last.
     List(&'a Syntax<'a>),
+    /// What the nonterminal reads.
+    Nonterminal(Nonterminal),
 }
 
 /// Whether the sign is a group with delimiters.
@@ -325,7 +400,7 @@ const ENTRY_PATH: Syntax<'static> = Syntax::Then(
 );
 
 /// What follows the path of an entry: a list, a value or nothing.
-pub(crate) const ENTRY_REST: Syntax<'static> = Syntax::Either(
+pub(crate) static ENTRY_REST_DATA: Syntax<'static> = Syntax::Either(
     &Syntax::Either(
         &Syntax::Then(&Syntax::Mark(Label::Body), &Syntax::Sign(Test::List)),
         &Syntax::Then(
@@ -338,6 +413,9 @@ pub(crate) const ENTRY_REST: Syntax<'static> = Syntax::Either(
     ),
     &Syntax::Nothing,
 );
+
+/// The nonterminal of [`ENTRY_REST_DATA`].
+pub(crate) const ENTRY_REST: Syntax<'static> = Syntax::Nonterminal(Nonterminal::EntryRest);
 
 /// A literal as an entry.
 const LITERAL_ENTRY: Syntax<'static> = Syntax::Then(
@@ -352,13 +430,16 @@ const LITERAL_ENTRY: Syntax<'static> = Syntax::Then(
 );
 
 /// An entry of an attribute's list.
-pub(crate) const ENTRY: Syntax<'static> = Syntax::Either(
+pub(crate) static ENTRY_DATA: Syntax<'static> = Syntax::Either(
     &LITERAL_ENTRY,
     &Syntax::Then(
         &Syntax::Mark(Label::Named),
         &Syntax::Then(&ENTRY_PATH, &ENTRY_REST),
     ),
 );
+
+/// The nonterminal of [`ENTRY_DATA`].
+pub(crate) const ENTRY: Syntax<'static> = Syntax::Nonterminal(Nonterminal::Entry);
 
 /// The qualifiers before `fn`.
 const QUALIFIERS: Syntax<'static> = Syntax::Then(
@@ -409,7 +490,7 @@ const FUNCTION_END: Syntax<'static> = Syntax::Either(
 );
 
 /// What follows the name of a function and its generic parameters.
-pub(crate) const FUNCTION_REST: Syntax<'static> = Syntax::Then(
+pub(crate) static FUNCTION_REST_DATA: Syntax<'static> = Syntax::Then(
     &Syntax::Mark(Label::Fields),
     &Syntax::Then(
         &Syntax::Sign(Test::Round),
@@ -429,8 +510,11 @@ pub(crate) const FUNCTION_REST: Syntax<'static> = Syntax::Then(
     ),
 );
 
+/// The nonterminal of [`FUNCTION_REST_DATA`].
+pub(crate) const FUNCTION_REST: Syntax<'static> = Syntax::Nonterminal(Nonterminal::FunctionRest);
+
 /// A function.
-pub(crate) const FUNCTION: Syntax<'static> = Syntax::Then(
+pub(crate) static FUNCTION_DATA: Syntax<'static> = Syntax::Then(
     &ATTRIBUTES,
     &Syntax::Then(
         &VISIBILITY,
@@ -450,6 +534,9 @@ pub(crate) const FUNCTION: Syntax<'static> = Syntax::Then(
     ),
 );
 
+/// The nonterminal of [`FUNCTION_DATA`].
+pub(crate) const FUNCTION: Syntax<'static> = Syntax::Nonterminal(Nonterminal::Function);
+
 /// Angle brackets of a path in a pattern, and perhaps fields in braces.
 const PATTERN_ANGLE: Syntax<'static> = Syntax::Then(
     &Syntax::Guarded(Guard::Angle),
@@ -457,10 +544,13 @@ const PATTERN_ANGLE: Syntax<'static> = Syntax::Then(
 );
 
 /// The rest of a pattern after its first sign.
-const PATTERN_REST: Syntax<'static> = Syntax::Then(
+pub(crate) static PATTERN_REST_DATA: Syntax<'static> = Syntax::Then(
     &Syntax::Many(&Syntax::Sign(Test::InPattern)),
     &Syntax::Either(&PATTERN_ANGLE, &Syntax::Nothing),
 );
+
+/// The nonterminal of [`PATTERN_REST_DATA`].
+const PATTERN_REST: Syntax<'static> = Syntax::Nonterminal(Nonterminal::PatternRest);
 
 /// `..`
 const TWO_DOTS: Syntax<'static> = Syntax::Then(
@@ -472,7 +562,7 @@ const TWO_DOTS: Syntax<'static> = Syntax::Then(
 const DOTTED_PATTERN: Syntax<'static> = Syntax::Then(&TWO_DOTS, &PATTERN_REST);
 
 /// A pattern.
-pub(crate) const PATTERN: Syntax<'static> = Syntax::Either(
+pub(crate) static PATTERN_DATA: Syntax<'static> = Syntax::Either(
     &DOTTED_PATTERN,
     &Syntax::Either(
         &Syntax::Then(&Syntax::Sign(Test::Pattern), &PATTERN_REST),
@@ -480,11 +570,14 @@ pub(crate) const PATTERN: Syntax<'static> = Syntax::Either(
     ),
 );
 
+/// The nonterminal of [`PATTERN_DATA`].
+pub(crate) const PATTERN: Syntax<'static> = Syntax::Nonterminal(Nonterminal::Pattern);
+
 /// `...`
 const DOTS: Syntax<'static> = Syntax::Then(&TWO_DOTS, &Syntax::Sign(Test::Is(SignClass::Dot)));
 
 /// `:` and a type or `...`
-const TYPED: Syntax<'static> = Syntax::Then(
+pub(crate) static TYPED_DATA: Syntax<'static> = Syntax::Then(
     &Syntax::Mark(Label::Rest),
     &Syntax::Then(
         &Syntax::Sign(Test::Is(SignClass::Colon)),
@@ -494,6 +587,9 @@ const TYPED: Syntax<'static> = Syntax::Then(
         ),
     ),
 );
+
+/// The nonterminal of [`TYPED_DATA`].
+const TYPED: Syntax<'static> = Syntax::Nonterminal(Nonterminal::Typed);
 
 /// What follows `self` or `mut self`.
 const SELF_TYPE: Syntax<'static> = Syntax::Either(
@@ -519,8 +615,38 @@ const MAY_MUTATE: Syntax<'static> = Syntax::Either(
 /// A pattern and its type.
 const TYPED_PATTERN: Syntax<'static> = Syntax::Then(&PATTERN, &TYPED);
 
+/// The rest of a parameter after `&`.
+pub(crate) static AFTER_AND_DATA: Syntax<'static> = Syntax::Either(
+    &Syntax::Then(&Syntax::Sign(Test::Is(SignClass::Lifetime)), &MAY_MUTATE),
+    &Syntax::Either(
+        &Syntax::Then(
+            &Syntax::Sign(Test::Is(SignClass::Keyword(Keyword::Mut))),
+            &Syntax::Either(
+                &Syntax::Sign(Test::Is(SignClass::SelfValue)),
+                &TYPED_PATTERN,
+            ),
+        ),
+        &Syntax::Either(
+            &Syntax::Sign(Test::Is(SignClass::SelfValue)),
+            &Syntax::Then(
+                &Syntax::Either(
+                    &DOTTED_PATTERN,
+                    &Syntax::Either(
+                        &Syntax::Then(&Syntax::Sign(Test::PatternAfterAnd), &PATTERN_REST),
+                        &PATTERN_ANGLE,
+                    ),
+                ),
+                &TYPED,
+            ),
+        ),
+    ),
+);
+
+/// The nonterminal of [`AFTER_AND_DATA`].
+const AFTER_AND: Syntax<'static> = Syntax::Nonterminal(Nonterminal::AfterAnd);
+
 /// A receiver, or a pattern and its type, which does not begin with `..`.
-const NAMED_PARAMETER: Syntax<'static> = Syntax::Either(
+pub(crate) static NAMED_PARAMETER_DATA: Syntax<'static> = Syntax::Either(
     &Syntax::Then(&Syntax::Sign(Test::Is(SignClass::SelfValue)), &SELF_TYPE),
     &Syntax::Either(
         &Syntax::Then(
@@ -531,37 +657,7 @@ const NAMED_PARAMETER: Syntax<'static> = Syntax::Either(
             ),
         ),
         &Syntax::Either(
-            &Syntax::Then(
-                &Syntax::Sign(Test::Is(SignClass::And)),
-                &Syntax::Either(
-                    &Syntax::Then(&Syntax::Sign(Test::Is(SignClass::Lifetime)), &MAY_MUTATE),
-                    &Syntax::Either(
-                        &Syntax::Then(
-                            &Syntax::Sign(Test::Is(SignClass::Keyword(Keyword::Mut))),
-                            &Syntax::Either(
-                                &Syntax::Sign(Test::Is(SignClass::SelfValue)),
-                                &TYPED_PATTERN,
-                            ),
-                        ),
-                        &Syntax::Either(
-                            &Syntax::Sign(Test::Is(SignClass::SelfValue)),
-                            &Syntax::Then(
-                                &Syntax::Either(
-                                    &DOTTED_PATTERN,
-                                    &Syntax::Either(
-                                        &Syntax::Then(
-                                            &Syntax::Sign(Test::PatternAfterAnd),
-                                            &PATTERN_REST,
-                                        ),
-                                        &PATTERN_ANGLE,
-                                    ),
-                                ),
-                                &TYPED,
-                            ),
-                        ),
-                    ),
-                ),
-            ),
+            &Syntax::Then(&Syntax::Sign(Test::Is(SignClass::And)), &AFTER_AND),
             &Syntax::Then(
                 &Syntax::Either(
                     &Syntax::Then(&Syntax::Sign(Test::PatternFirst), &PATTERN_REST),
@@ -572,6 +668,9 @@ const NAMED_PARAMETER: Syntax<'static> = Syntax::Either(
         ),
     ),
 );
+
+/// The nonterminal of [`NAMED_PARAMETER_DATA`].
+const NAMED_PARAMETER: Syntax<'static> = Syntax::Nonterminal(Nonterminal::NamedParameter);
 
 /// The rest of a parameter after `..`.
 const AFTER_DOTS: Syntax<'static> = Syntax::Either(
@@ -586,7 +685,7 @@ const AFTER_DOTS: Syntax<'static> = Syntax::Either(
 );
 
 /// A parameter of a function.
-pub(crate) const PARAMETER: Syntax<'static> = Syntax::Then(
+pub(crate) static PARAMETER_DATA: Syntax<'static> = Syntax::Then(
     &Syntax::Mark(Label::Parameter),
     &Syntax::Then(
         &ATTRIBUTES,
@@ -596,6 +695,9 @@ pub(crate) const PARAMETER: Syntax<'static> = Syntax::Then(
         ),
     ),
 );
+
+/// The nonterminal of [`PARAMETER_DATA`].
+pub(crate) const PARAMETER: Syntax<'static> = Syntax::Nonterminal(Nonterminal::Parameter);
 
 /// A constant: a literal, `-` and a literal, braces, `true` or `false`.
 const CONSTANT: Syntax<'static> = Syntax::Either(
@@ -607,7 +709,7 @@ const CONSTANT: Syntax<'static> = Syntax::Either(
 );
 
 /// A generic argument.
-pub(crate) const ARGUMENT: Syntax<'static> = Syntax::Either(
+pub(crate) static ARGUMENT_DATA: Syntax<'static> = Syntax::Either(
     &Syntax::Then(
         &Syntax::Mark(Label::Named),
         &Syntax::Sign(Test::Is(SignClass::Lifetime)),
@@ -623,6 +725,9 @@ pub(crate) const ARGUMENT: Syntax<'static> = Syntax::Either(
         ),
     ),
 );
+
+/// The nonterminal of [`ARGUMENT_DATA`].
+pub(crate) const ARGUMENT: Syntax<'static> = Syntax::Nonterminal(Nonterminal::Argument);
 
 /// What may follow a type that begins with a word, in a generic argument.
 const CONSTRAINT: Syntax<'static> = Syntax::Either(
@@ -670,7 +775,7 @@ const IMPL_QUALIFIERS: Syntax<'static> = Syntax::Then(
 );
 
 /// An impl.
-pub(crate) const IMPL: Syntax<'static> = Syntax::Then(
+pub(crate) static IMPL_DATA: Syntax<'static> = Syntax::Then(
     &ATTRIBUTES,
     &Syntax::Then(
         &VISIBILITY,
@@ -683,3 +788,6 @@ pub(crate) const IMPL: Syntax<'static> = Syntax::Then(
         ),
     ),
 );
+
+/// The nonterminal of [`IMPL_DATA`].
+pub(crate) const IMPL: Syntax<'static> = Syntax::Nonterminal(Nonterminal::Impl);

@@ -18,5 +18,5 @@ returns-in-Ok-clause-kind_and_name c =
 
 pub returns-in-Err-clause-expected : goal.returns-in-Err-clause-expected
 returns-in-Err-clause-expected c =
-    item_expects c.args.trees.now c.in-Err.left.now c.fault_of_item.result.at c.fault_of_item.result.expected
-    c.in-Err.ensures c.fault_of_item.ensures.at c.fault_of_item.ensures.expected
+    item_expects c.args.trees.now c.in-Err.left.now c.fault_by.result.at c.fault_by.result.expected
+    c.in-Err.ensures c.fault_by.ensures.at c.fault_by.ensures.expected

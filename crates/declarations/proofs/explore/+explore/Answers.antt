@@ -9,7 +9,7 @@ use Rattle.declarations.proofs.ReaderLemmas.{remains_sign, remains_within}
 use Rattle.declarations.proofs.GoalLemmas.{import_goes, onward_on, onward_self, segment_goes, segmented}
 use Rattle.declarations.proofs.GoalLemmas.{segmented_begins, separated, to_seen}
 use Rattle.declarations.specs.Explore.{Sees}
-use Rattle.declarations.specs.GoalSyntax.{LeadsTo}
+use Rattle.declarations.specs.GoalSyntax.{IsReadBy}
 use Rattle.declarations.specs.ItemRest.{is_use_list}
 use Rattle.declarations.specs.declared.syntax.Goal.TheVariants as goals
 use Rattle.item_tables.specs.Classes.{is}
@@ -210,15 +210,15 @@ explore_use_path-returns-in-Err t c =
 
 pub explore_goal-returns-in-Data : goal.explore_goal-returns-in-Data
 explore_goal-returns-in-Data t c =
-    let led = subst (LeadsTo c.args.goal) c.in-Data.is c.named_rule.ensures in
+    let led = subst (IsReadBy c.args.goal) c.in-Data.is c.reader_of.ensures in
     subst (λ g. Sees g c.args.trees.now c.explore.result) led.0 c.explore.ensures
 
 pub explore_goal-returns-in-Call : goal.explore_goal-returns-in-Call
 explore_goal-returns-in-Call t c =
-    let called : c.args.goal ≡ goals.Call = subst (LeadsTo c.args.goal) c.in-Call.is c.named_rule.ensures in
+    let called : c.args.goal ≡ goals.Call = subst (IsReadBy c.args.goal) c.in-Call.is c.reader_of.ensures in
     rw called c.explore_call.ensures
 
 pub explore_goal-returns-in-UsePath : goal.explore_goal-returns-in-UsePath
 explore_goal-returns-in-UsePath t c =
-    let called : c.args.goal ≡ goals.UsePath = subst (LeadsTo c.args.goal) c.in-UsePath.is c.named_rule.ensures in
+    let called : c.args.goal ≡ goals.UsePath = subst (IsReadBy c.args.goal) c.in-UsePath.is c.reader_of.ensures in
     rw called c.explore_use_path.ensures

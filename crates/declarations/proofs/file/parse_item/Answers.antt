@@ -21,18 +21,18 @@ returns-then-is_empty-clause-kind_and_name c =
 
 pub returns-else-is_empty-clause-fault : goal.returns-else-is_empty-clause-fault
 returns-else-is_empty-clause-fault c =
-    item_left c.args.trees.now c.in-Ok.found.rest.now c.fault_of_item.result.at c.in-Ok.ensures.0
+    item_left c.args.trees.now c.in-Ok.found.rest.now c.fault_by.result.at c.in-Ok.ensures.0
     (λ none. let no : false ≡ (0 == 0) = c.if-is_empty.ensures ∙ ap (λ n. n == 0) none in cc)
-    c.fault_of_item.ensures.at
+    c.fault_by.ensures.at
 
 pub returns-else-is_empty-clause-expected : goal.returns-else-is_empty-clause-expected
 returns-else-is_empty-clause-expected c =
-    left_over c.args.trees.now c.in-Ok.found.rest.now c.fault_of_item.result.at c.fault_of_item.result.expected
+    left_over c.args.trees.now c.in-Ok.found.rest.now c.fault_by.result.at c.fault_by.result.expected
     c.in-Ok.ensures.0 (λ none. let no : false ≡ (0 == 0) = c.if-is_empty.ensures ∙ ap (λ n. n == 0) none in cc)
-    c.fault_of_item.ensures.at c.fault_of_item.ensures.expected
+    c.fault_by.ensures.at c.fault_by.ensures.expected
 
 pub returns-in-Err-clause-expected : goal.returns-in-Err-clause-expected
 returns-in-Err-clause-expected c =
-    item_expects c.args.trees.now c.in-Err.left.now c.fault_of_item-in-Err.result.at
-    c.fault_of_item-in-Err.result.expected c.in-Err.ensures c.fault_of_item-in-Err.ensures.at
-    c.fault_of_item-in-Err.ensures.expected
+    item_expects c.args.trees.now c.in-Err.left.now c.fault_by-in-Err.result.at
+    c.fault_by-in-Err.result.expected c.in-Err.ensures c.fault_by-in-Err.ensures.at
+    c.fault_by-in-Err.ensures.expected
