@@ -1,12 +1,13 @@
 -- Lemmas on runs of characters.
-use Rattle.std.proofs.Common.{◌≡◌, ℕ, ◌+◌, Bool, false, length, ap, arith}
+use Rattle.std.proofs.Common.{◌≡◌, ℕ, ◌+◌, ◌<◌, ◌≤◌, suc, Bool, true, false, List, length, get_or, drop, ap, arith}
+use Rattle.std.proofs.Common.{add-one, drop-cons, length-append, length-drop}
 use Rattle.std.specs.Str.{chars}
 use Rattle.lexical.specs.Text.{first_passes}
 use Rattle.lexical.specs.Finder.{while_front, while_rest}
 use Rattle.lexical.specs.Rule.{Run, find}
 use Rattle.lexical.specs.RuleMatch.{Passes}
 use Rattle.lexical.specs.declared.cursor.TextCursor.{TextCursor}
-use Rattle.lexical.proofs.FinderLemmas.{while_rest_none}
+use Rattle.lexical.proofs.FinderLemmas.{while_rest_none, while_whole}
 
 -- whether the run from one cursor continues at the other
 abbrev pub GoesOn : (ℕ → Bool) → TextCursor → TextCursor → Type 0
@@ -25,3 +26,35 @@ run_stop test at end goes stops =
       found = rw (← goes.0, none.1);
       count = omega (arith, goes.1, ap length none.0);
     }
+
+-- an item that passes continues the run of which `n` items are counted
+pub count_on : (test : ℕ → Bool) (items : List ℕ) (n : ℕ) → n < length items → test (get_or items n 0) ≡ true
+    → n + length (while_front test (drop n items)) ≡ length (while_front test items)
+    → (n + 1 ≤ length items)
+    × (n + 1 + length (while_front test (drop (n + 1) items)) ≡ length (while_front test items))
+count_on test items n within passes count =
+    let more : length (while_front test (drop n items)) ≡ suc (length (while_front test (drop (n + 1) items))) =
+    rw (add-one, drop-cons items n 0 within, passes) in
+    (omega arith, omega (arith, more, count))
+
+-- an item that does not pass ends it
+pub count_stop : (test : ℕ → Bool) (items : List ℕ) (n : ℕ) → n < length items → test (get_or items n 0) ≡ false
+    → n + length (while_front test (drop n items)) ≡ length (while_front test items)
+    → n ≡ length (while_front test items)
+count_stop test items n within stops count =
+    let none : length (while_front test (drop n items)) ≡ 0 = rw (drop-cons items n 0 within, stops) in
+    omega (arith, none, count)
+
+-- the end of the items ends it too
+pub count_end : (test : ℕ → Bool) (items : List ℕ) (n : ℕ) → length items ≤ n
+    → n + length (while_front test (drop n items)) ≡ length (while_front test items)
+    → n ≡ length (while_front test items)
+count_end test items n ended count =
+    let rest = drop n items in
+    omega (
+      arith,
+      count,
+      length-drop n items,
+      ap length (while_whole test rest),
+      length-append (while_front test rest) (while_rest test rest),
+    )

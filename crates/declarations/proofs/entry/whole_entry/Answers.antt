@@ -1,8 +1,9 @@
-use Rattle.std.proofs.Common.{inr}
-use Rattle.declarations.specs.Entry.{IsNearEntryAt, IsNearFault}
+use Rattle.std.proofs.Common.{eqb-true, inl, inr, subst, sym}
+use Rattle.std.proofs.lemmas.List.{nil_from_length}
+use Rattle.declarations.specs.Entry.{IsEntryAt, IsNearEntryAt, IsNearFault}
 use Rattle.declarations.specs.EntryExpects.{ExpectsNear}
 use Rattle.declarations.proofs.EntryExpectsLemmas.{left_expected}
-use Rattle.declarations.proofs.HeldLemmas.{leaves_some, no_rest}
+use Rattle.declarations.proofs.HeldLemmas.{leaves_some, no_rest, rest_less}
 use Rattle.declarations.proofs.entry.whole_entry.Goals as goal
 
 pub returns-else-is_empty-clause-err : goal.returns-else-is_empty-clause-err
@@ -18,3 +19,18 @@ returns-else-is_empty-clause-expected c =
     c.fault_after_entry.result.expected c.in-Ok.ensures.ok
     (no_rest c.in-Ok.rest.now c.is_empty.result c.is_empty.ensures c.if-is_empty.false) c.fault_after_entry.ensures.at
     c.fault_after_entry.ensures.expected IsNearFault ExpectsNear
+
+pub fault_after_entry-requires : goal.fault_after_entry-requires
+fault_after_entry-requires c =
+    rest_less IsNearEntryAt c.args.trees.now c.in-Ok.rest.now c.in-Ok.entry c.in-Ok.ensures.ok
+
+pub returns-then-is_empty-clause-ok : goal.returns-then-is_empty-clause-ok
+returns-then-is_empty-clause-ok c =
+    subst (IsEntryAt c.args.trees.now c.in-Ok.entry)
+    (nil_from_length c.in-Ok.rest.now (eqb-true _ _ (sym c.if-is_empty.ensures))) c.in-Ok.ensures.ok
+
+pub returns-in-Err-clause-err : goal.returns-in-Err-clause-err
+returns-in-Err-clause-err c = inl c.in-Err.ensures.fault
+
+pub returns-in-Err-clause-expected : goal.returns-in-Err-clause-expected
+returns-in-Err-clause-expected c = c.in-Err.ensures.expected

@@ -1,6 +1,7 @@
 use Rattle.std.proofs.Common.{◌≡◌, ◌∙◌, ◌==◌, ap, eqb-true, false, refl, sym}
 use Rattle.declarations.specs.Kind.{name_at}
-use Rattle.declarations.proofs.AnyItemLemmas.{all_kind, item_all, item_expects, item_left, left_over}
+use Rattle.declarations.proofs.AnyItemLemmas.{all_kind, item_all, item_expects, item_left, item_stuck, item_within}
+use Rattle.declarations.proofs.AnyItemLemmas.{left_over, left_span, rest_within, stuck_span}
 use Rattle.declarations.proofs.file.parse_item.Goals as goal
 
 pub returns-then-is_empty-clause-ok : goal.returns-then-is_empty-clause-ok
@@ -36,3 +37,24 @@ returns-in-Err-clause-expected c =
     item_expects c.args.trees.now c.in-Err.left.now c.fault_by-in-Err.result.at
     c.fault_by-in-Err.result.expected c.in-Err.ensures c.fault_by-in-Err.ensures.at
     c.fault_by-in-Err.ensures.expected
+
+pub fault_by-requires : goal.fault_by-requires
+fault_by-requires c = rest_within c.args.trees.now c.in-Ok.found.rest.now c.in-Ok.ensures.0
+
+pub fault_by-requires-in-Err : goal.fault_by-requires-in-Err
+fault_by-requires-in-Err c = item_within c.args.trees.now c.in-Err.left.now c.in-Err.ensures
+
+pub returns-else-is_empty-clause-span : goal.returns-else-is_empty-clause-span
+returns-else-is_empty-clause-span c =
+    left_span c.args.trees.now c.in-Ok.found.rest.now c.fault_by.result.at c.fault_by.result.span c.in-Ok.ensures.0
+    c.fault_by.ensures.at c.fault_by.ensures.span
+
+pub returns-in-Err-clause-fault : goal.returns-in-Err-clause-fault
+returns-in-Err-clause-fault c =
+    item_stuck c.args.trees.now c.in-Err.left.now c.fault_by-in-Err.result.at c.in-Err.ensures
+    c.fault_by-in-Err.ensures.at
+
+pub returns-in-Err-clause-span : goal.returns-in-Err-clause-span
+returns-in-Err-clause-span c =
+    stuck_span c.args.trees.now c.in-Err.left.now c.fault_by-in-Err.result.at c.fault_by-in-Err.result.span
+    c.in-Err.ensures c.fault_by-in-Err.ensures.at c.fault_by-in-Err.ensures.span

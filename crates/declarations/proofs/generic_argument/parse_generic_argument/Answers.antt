@@ -1,6 +1,7 @@
 use Rattle.declarations.specs.rules.Paths.{generic_argument}
 use Rattle.declarations.proofs.GenericArgumentLemmas.{argument_at, argument_fault, argument_fewer, argument_only}
-use Rattle.declarations.proofs.GenericArgumentLemmas.{starts_argument}
+use Rattle.declarations.proofs.GenericArgumentLemmas.{argument_span, starts_argument}
+use Rattle.declarations.proofs.ReaderLemmas.{remains_within}
 use Rattle.declarations.proofs.RuleExpectsLemmas.{stuck_expects}
 use Rattle.declarations.proofs.generic_argument.parse_generic_argument.Goals as goal
 
@@ -22,3 +23,11 @@ pub returns-in-Err-clause-expected : goal.returns-in-Err-clause-expected
 returns-in-Err-clause-expected c =
     stuck_expects generic_argument starts_argument c.args.trees.now c.in-Err.left.now c.fault_by.result.at
     c.fault_by.result.expected c.in-Err.ensures c.fault_by.ensures.at c.fault_by.ensures.expected
+
+pub returns-in-Err-clause-span : goal.returns-in-Err-clause-span
+returns-in-Err-clause-span c =
+    argument_span c.args.trees.now c.in-Err.left.now c.fault_by.result.at c.fault_by.result.span c.in-Err.ensures
+    c.fault_by.ensures.at c.fault_by.ensures.span
+
+pub fault_by-requires : goal.fault_by-requires
+fault_by-requires c = remains_within c.args.trees.now c.in-Err.left.now c.in-Err.ensures.remains

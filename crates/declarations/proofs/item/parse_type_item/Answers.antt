@@ -1,5 +1,7 @@
 use Rattle.std.proofs.Common.{◌≡◌, ◌∙◌, ◌==◌, ap, eqb-true, false, sym}
-use Rattle.declarations.proofs.ItemLemmas.{item_all, item_left, left_expects, stuck_expects}
+use Rattle.declarations.proofs.ItemLemmas.{item_all, item_left, item_stuck, left_expects, left_span, stuck_expects}
+use Rattle.declarations.proofs.ItemLemmas.{stuck_span}
+use Rattle.declarations.proofs.ReaderLemmas.{remains_within}
 use Rattle.declarations.proofs.item.parse_type_item.Goals as goal
 
 pub returns-then-is_empty-clause-ok : goal.returns-then-is_empty-clause-ok
@@ -22,3 +24,24 @@ pub returns-in-Err-clause-expected : goal.returns-in-Err-clause-expected
 returns-in-Err-clause-expected c =
     stuck_expects c.args.trees.now c.in-Err.left.now c.fault_by-in-Err.result.at c.fault_by-in-Err.result.expected
     c.in-Err.ensures c.fault_by-in-Err.ensures.at c.fault_by-in-Err.ensures.expected
+
+pub fault_by-requires : goal.fault_by-requires
+fault_by-requires c = remains_within c.args.trees.now c.in-Ok.rest.now c.in-Ok.ensures.0.remains
+
+pub fault_by-requires-in-Err : goal.fault_by-requires-in-Err
+fault_by-requires-in-Err c = remains_within c.args.trees.now c.in-Err.left.now c.in-Err.ensures.remains
+
+pub returns-else-is_empty-clause-span : goal.returns-else-is_empty-clause-span
+returns-else-is_empty-clause-span c =
+    left_span c.args.trees.now c.in-Ok.rest.now c.fault_by.result.at c.fault_by.result.span c.in-Ok.ensures.0
+    c.fault_by.ensures.at c.fault_by.ensures.span
+
+pub returns-in-Err-clause-fault : goal.returns-in-Err-clause-fault
+returns-in-Err-clause-fault c =
+    item_stuck c.args.trees.now c.in-Err.left.now c.fault_by-in-Err.result.at c.in-Err.ensures
+    c.fault_by-in-Err.ensures.at
+
+pub returns-in-Err-clause-span : goal.returns-in-Err-clause-span
+returns-in-Err-clause-span c =
+    stuck_span c.args.trees.now c.in-Err.left.now c.fault_by-in-Err.result.at c.fault_by-in-Err.result.span
+    c.in-Err.ensures c.fault_by-in-Err.ensures.at c.fault_by-in-Err.ensures.span

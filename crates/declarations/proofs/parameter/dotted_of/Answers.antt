@@ -1,5 +1,6 @@
-use Rattle.std.proofs.Common.{refl, []}
-use Rattle.declarations.proofs.ParameterLemmas.{dots_finds, dots_kind, dots_sticks, dotted_fails, dotted_sticks}
+use Rattle.std.proofs.Common.{[], refl}
+use Rattle.declarations.proofs.ParameterLemmas.{dots_finds, dots_kind, dots_sticks, dotted_begins, dotted_fails}
+use Rattle.declarations.proofs.ParameterLemmas.{dotted_finds, dotted_kind, dotted_remains, dotted_sticks}
 use Rattle.declarations.proofs.parameter.dotted_of.Goals as goal
 
 pub returns-in-Ok-past : goal.returns-in-Ok-past
@@ -23,3 +24,21 @@ pub returns-in-Err-pattern_rest : goal.returns-in-Err-pattern_rest
 returns-in-Err-pattern_rest c =
     dotted_sticks c.args.trees.now c.in-Ok.after.now c.in-Ok.ensures c.begins.result c.begins.ensures
     c.if-begins.false c.in-Err-pattern_rest.left.now c.in-Err-pattern_rest.ensures
+
+pub returns-in-Ok-pattern_parameter : goal.returns-in-Ok-pattern_parameter
+returns-in-Ok-pattern_parameter c = (
+  dotted_finds c.args.trees.now c.in-Ok.after.now c.in-Ok.ensures c.begins.result c.begins.ensures
+      c.if-begins.false c.in-Ok-pattern_rest.from_end.now c.in-Ok-pattern_parameter.rest.now
+      c.in-Ok-pattern_rest.ensures c.in-Ok-pattern_parameter.ensures.0,
+  dotted_kind c.args.trees.now c.in-Ok.after.now
+      c.in-Ok.ensures c.part-pattern.result.now c.in-Ok-pattern_rest.from_end.now c.in-Ok-pattern_parameter.rest.now _
+      c.in-Ok-pattern_rest.ensures c.part-pattern.ensures c.in-Ok-pattern_parameter.ensures.1,
+)
+
+pub returns-in-Err : goal.returns-in-Err
+returns-in-Err c = dotted_begins c.args.trees.now c.in-Err.left.now c.in-Err.ensures
+
+pub part-pattern-requires : goal.part-pattern-requires
+part-pattern-requires c =
+    dotted_remains c.args.trees.now c.in-Ok.after.now c.in-Ok.ensures c.in-Ok-pattern_rest.from_end.now
+    c.in-Ok-pattern_rest.ensures

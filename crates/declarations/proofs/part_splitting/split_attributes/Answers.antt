@@ -1,9 +1,35 @@
-use Rattle.declarations.proofs.PartReaderLemmas.{attributes_expects, attributes_only}
+use Rattle.declarations.proofs.PartReaderLemmas.{
+  attributes_expects,
+  attributes_fault,
+  attributes_only,
+  attributes_reads,
+  attributes_span,
+}
+use Rattle.declarations.proofs.ReaderLemmas.{remains_within}
 use Rattle.declarations.proofs.part_splitting.split_attributes.Goals as goal
+
+pub part-requires : goal.part-requires
+part-requires c = c.in-Ok.ensures.remains
+
+pub fault_by-requires : goal.fault_by-requires
+fault_by-requires c = remains_within c.args.trees.now c.in-Err.left.now c.in-Err.ensures.remains
+
+pub returns-in-Ok-clause-ok : goal.returns-in-Ok-clause-ok
+returns-in-Ok-clause-ok c =
+    attributes_reads c.args.trees.now c.part.result.now c.in-Ok.rest.now c.in-Ok.ensures c.part.ensures
 
 pub returns-in-Ok-clause-only : goal.returns-in-Ok-clause-only
 returns-in-Ok-clause-only c =
     attributes_only c.args.trees.now c.part.result.now c.in-Ok.rest.now c.in-Ok.ensures c.part.ensures
+
+pub returns-in-Err-clause-fault : goal.returns-in-Err-clause-fault
+returns-in-Err-clause-fault c =
+    attributes_fault c.args.trees.now c.in-Err.left.now c.fault_by.result.at c.in-Err.ensures c.fault_by.ensures.at
+
+pub returns-in-Err-clause-span : goal.returns-in-Err-clause-span
+returns-in-Err-clause-span c =
+    attributes_span c.args.trees.now c.in-Err.left.now c.fault_by.result.at c.fault_by.result.span c.in-Err.ensures
+    c.fault_by.ensures.at c.fault_by.ensures.span
 
 pub returns-in-Err-clause-expected : goal.returns-in-Err-clause-expected
 returns-in-Err-clause-expected c =

@@ -1,4 +1,5 @@
-use Rattle.declarations.proofs.PartReaderLemmas.{bounds_expects, bounds_only}
+use Rattle.declarations.proofs.PartReaderLemmas.{bounds_expects, bounds_fault, bounds_only, bounds_reads, bounds_span}
+use Rattle.declarations.proofs.PartReaderLemmas.{bounds_within}
 use Rattle.declarations.proofs.part_splitting.split_bounds.Goals as goal
 
 pub returns-in-Ok-clause-only : goal.returns-in-Ok-clause-only
@@ -9,3 +10,22 @@ pub returns-in-Err-clause-expected : goal.returns-in-Err-clause-expected
 returns-in-Err-clause-expected c =
     bounds_expects c.args.trees.now c.in-Err.left.now c.fault_by.result.at c.fault_by.result.expected
     c.in-Err.ensures c.fault_by.ensures.at c.fault_by.ensures.expected
+
+pub part-requires : goal.part-requires
+part-requires c = c.in-Ok.ensures.remains
+
+pub fault_by-requires : goal.fault_by-requires
+fault_by-requires c = bounds_within c.args.trees.now c.in-Err.left.now c.in-Err.ensures
+
+pub returns-in-Ok-clause-ok : goal.returns-in-Ok-clause-ok
+returns-in-Ok-clause-ok c =
+    bounds_reads c.args.trees.now c.part.result.now c.in-Ok.rest.now c.in-Ok.ensures c.part.ensures
+
+pub returns-in-Err-clause-fault : goal.returns-in-Err-clause-fault
+returns-in-Err-clause-fault c =
+    bounds_fault c.args.trees.now c.in-Err.left.now c.fault_by.result.at c.in-Err.ensures c.fault_by.ensures.at
+
+pub returns-in-Err-clause-span : goal.returns-in-Err-clause-span
+returns-in-Err-clause-span c =
+    bounds_span c.args.trees.now c.in-Err.left.now c.fault_by.result.at c.fault_by.result.span c.in-Err.ensures
+    c.fault_by.ensures.at c.fault_by.ensures.span

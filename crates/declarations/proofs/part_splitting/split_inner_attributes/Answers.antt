@@ -1,4 +1,5 @@
-use Rattle.declarations.proofs.InnerLemmas.{inner_expects, inner_only}
+use Rattle.declarations.proofs.InnerLemmas.{inner_expects, inner_fault, inner_only, inner_reads, inner_span}
+use Rattle.declarations.proofs.InnerLemmas.{inner_within}
 use Rattle.declarations.proofs.part_splitting.split_inner_attributes.Goals as goal
 
 pub returns-in-Ok-clause-only : goal.returns-in-Ok-clause-only
@@ -9,3 +10,22 @@ pub returns-in-Err-clause-expected : goal.returns-in-Err-clause-expected
 returns-in-Err-clause-expected c =
     inner_expects c.args.trees.now c.in-Err.left.now c.fault_by.result.at c.fault_by.result.expected c.in-Err.ensures
     c.fault_by.ensures.at c.fault_by.ensures.expected
+
+pub part-requires : goal.part-requires
+part-requires c = c.in-Ok.ensures.remains
+
+pub fault_by-requires : goal.fault_by-requires
+fault_by-requires c = inner_within c.args.trees.now c.in-Err.left.now c.in-Err.ensures
+
+pub returns-in-Ok-clause-ok : goal.returns-in-Ok-clause-ok
+returns-in-Ok-clause-ok c =
+    inner_reads c.args.trees.now c.part.result.now c.in-Ok.rest.now c.in-Ok.ensures c.part.ensures
+
+pub returns-in-Err-clause-fault : goal.returns-in-Err-clause-fault
+returns-in-Err-clause-fault c =
+    inner_fault c.args.trees.now c.in-Err.left.now c.fault_by.result.at c.in-Err.ensures c.fault_by.ensures.at
+
+pub returns-in-Err-clause-span : goal.returns-in-Err-clause-span
+returns-in-Err-clause-span c =
+    inner_span c.args.trees.now c.in-Err.left.now c.fault_by.result.at c.fault_by.result.span c.in-Err.ensures
+    c.fault_by.ensures.at c.fault_by.ensures.span

@@ -1,9 +1,29 @@
-use Rattle.declarations.proofs.PartReaderLemmas.{item_expects, item_only}
+use Rattle.declarations.proofs.PartReaderLemmas.{item_expects, item_fault, item_only, item_reads, item_span}
+use Rattle.declarations.proofs.ReaderLemmas.{remains_within}
 use Rattle.declarations.proofs.part_splitting.split_item.Goals as goal
+
+pub part-requires : goal.part-requires
+part-requires c = c.in-Ok.ensures.0.remains
+
+pub fault_by-requires : goal.fault_by-requires
+fault_by-requires c = remains_within c.args.trees.now c.in-Err.left.now c.in-Err.ensures.remains
+
+pub returns-in-Ok-clause-ok : goal.returns-in-Ok-clause-ok
+returns-in-Ok-clause-ok c =
+    item_reads c.args.trees.now c.part.result.now c.in-Ok.rest.now c.in-Ok.ensures.0 c.part.ensures
 
 pub returns-in-Ok-clause-only : goal.returns-in-Ok-clause-only
 returns-in-Ok-clause-only c =
     item_only c.args.trees.now c.part.result.now c.in-Ok.rest.now c.in-Ok.ensures.0 c.part.ensures
+
+pub returns-in-Err-clause-fault : goal.returns-in-Err-clause-fault
+returns-in-Err-clause-fault c =
+    item_fault c.args.trees.now c.in-Err.left.now c.fault_by.result.at c.in-Err.ensures c.fault_by.ensures.at
+
+pub returns-in-Err-clause-span : goal.returns-in-Err-clause-span
+returns-in-Err-clause-span c =
+    item_span c.args.trees.now c.in-Err.left.now c.fault_by.result.at c.fault_by.result.span c.in-Err.ensures
+    c.fault_by.ensures.at c.fault_by.ensures.span
 
 pub returns-in-Err-clause-expected : goal.returns-in-Err-clause-expected
 returns-in-Err-clause-expected c =

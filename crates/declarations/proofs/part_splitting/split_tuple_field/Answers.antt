@@ -1,6 +1,22 @@
-use Rattle.declarations.proofs.PartReaderLemmas.{tuple_field_only}
+use Rattle.declarations.proofs.PartReaderLemmas.{tuple_field_only, tuple_field_reads, tuple_field_remains}
 use Rattle.declarations.proofs.part_splitting.split_tuple_field.Goals as goal
+
+pub part-requires : goal.part-requires
+part-requires c = tuple_field_remains c.args.trees.now c.in-Ok.rest.now _ c.in-Ok.ensures.ok
+
+pub returns-in-Ok-clause-ok : goal.returns-in-Ok-clause-ok
+returns-in-Ok-clause-ok c =
+    tuple_field_reads c.args.trees.now c.part.result.now c.in-Ok.rest.now _ c.in-Ok.ensures.ok c.part.ensures
 
 pub returns-in-Ok-clause-only : goal.returns-in-Ok-clause-only
 returns-in-Ok-clause-only c =
     tuple_field_only c.args.trees.now c.part.result.now c.in-Ok.rest.now _ c.in-Ok.ensures.ok c.part.ensures
+
+pub returns-in-Err-clause-fault : goal.returns-in-Err-clause-fault
+returns-in-Err-clause-fault c = c.in-Err.ensures.fault
+
+pub returns-in-Err-clause-span : goal.returns-in-Err-clause-span
+returns-in-Err-clause-span c = c.in-Err.ensures.span
+
+pub returns-in-Err-clause-expected : goal.returns-in-Err-clause-expected
+returns-in-Err-clause-expected c = c.in-Err.ensures.expected

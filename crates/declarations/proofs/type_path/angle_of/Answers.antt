@@ -1,5 +1,5 @@
 use Rattle.std.proofs.Common.{◌∙◌, refl, sym}
-use Rattle.declarations.proofs.TypePathLemmas.{closed_step, closed_sticks, unclosed_end}
+use Rattle.declarations.proofs.TypePathLemmas.{angle_sticks, closed_step, closed_sticks, unclosed, unclosed_end}
 use Rattle.declarations.proofs.type_path.angle_of.Goals as goal
 
 pub returns-in-Ok-next_segment : goal.returns-in-Ok-next_segment
@@ -16,3 +16,14 @@ returns-in-Err-next_segment c =
 pub returns-in-None : goal.returns-in-None
 returns-in-None c =
     unclosed_end c.args.trees.now c.in-Ok.from_close.now c.in-Ok.ensures c.in-None.ensures
+
+pub part-requires : goal.part-requires
+part-requires c = c.in-Ok.ensures.remains
+
+pub returns-else-is : goal.returns-else-is
+returns-else-is c =
+    unclosed c.args.trees.now c.in-Ok.from_close.now c.in-Ok.ensures c.in-Some.rest.now c.in-Some.class
+    c.in-Some.ensures (sym c.is.ensures ∙ c.if-is.false)
+
+pub returns-in-Err : goal.returns-in-Err
+returns-in-Err c = angle_sticks c.args.trees.now c.in-Err.left.now c.in-Err.ensures

@@ -81,3 +81,9 @@ returns c =
     (then_passes (Exactly text) suffix _ _ _
     (passes_same _ (Exactly text) _ _ (found_cons 34 c.in_ok-hashes.hashes.now _)
     (then_passes _ _ _ _ _ c.in_ok-past-2.ensures c.in_ok-past-3.ensures)) c.suffix.ensures)
+
+pub returns-in_err-past : goal.returns-in_err-past
+returns-in_err-past c =
+    rw c.from_residual.ensures
+    (then_lacks (Exactly c.args.front.now) (Next hashes (raw_quotes (may_stand_raw c.args.kind))) _
+    c.in_err-past.ensures)

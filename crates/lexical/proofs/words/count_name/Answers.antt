@@ -1,5 +1,6 @@
-use Rattle.std.proofs.Common.{◌-◌, length, take, drop, ap, arith, length-drop}
+use Rattle.std.proofs.Common.{◌+◌, ◌-◌, length, take, drop, ap, ◌∙◌, arith, length-drop}
 use Rattle.std.proofs.lemmas.List.{take_rest}
+use Rattle.lexical.specs.Finder.{while_front}
 use Rattle.lexical.specs.declared.bytes.Class.TheVariants.{IdentifierContinue}
 use Rattle.lexical.proofs.LaneLemmas.{continues, goes_on}
 use Rattle.lexical.proofs.FastNumberLemmas.{run_within}
@@ -23,3 +24,16 @@ overflow_add-result-2 c =
       ap length (take_rest bytes n),
       length-drop n bytes,
     )
+
+pub slice_bounds-first_chunk-count : goal.slice_bounds-first_chunk-count
+slice_bounds-first_chunk-count c = c.loop-word.invariant.0
+
+pub slice_bounds-count_ascii-count : goal.slice_bounds-count_ascii-count
+slice_bounds-count_ascii-count c = c.loop-word.invariant.0
+
+pub returns : goal.returns
+returns c =
+    let n = c.loop-word.count in
+    ap (λ m. n + m)
+    (c.count_ascii.ensures ∙ ap (λ x. length (while_front continues x)) (take_rest c.args.bytes.now n))
+    ∙ c.loop-word.invariant.1

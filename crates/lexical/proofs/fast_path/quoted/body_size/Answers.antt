@@ -42,3 +42,15 @@ returns-then-ends_literal-clause-found c =
     subst (λ t. IsAt (Stands (body (unit c.args.kind) (codes "\""))) (chars t) (n + 1)) c.as_bytes-bytes.ensures.value
     (string_body c.args.kind c.as_bytes-bytes.result.now n before.within before.front c.if-bytes-size-eq34.true
     (ap ends (sym c.byte_at.ensures) ∙ sym c.if-ends_literal.ensures))
+
+pub returns-in_err-size-clause-found : goal.returns-in_err-size-clause-found
+returns-in_err-size-clause-found c = rw c.from_residual.ensures tt
+
+pub returns-in_err-size-clause-within : goal.returns-in_err-size-clause-within
+returns-in_err-size-clause-within c = rw c.from_residual.ensures tt
+
+pub returns-in_err-size-2-clause-found : goal.returns-in_err-size-2-clause-found
+returns-in_err-size-2-clause-found c = rw c.from_residual-in_err-size-2.ensures tt
+
+pub returns-in_err-size-2-clause-within : goal.returns-in_err-size-2-clause-within
+returns-in_err-size-2-clause-within c = rw c.from_residual-in_err-size-2.ensures tt
