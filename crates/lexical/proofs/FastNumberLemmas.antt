@@ -259,6 +259,12 @@ byte_within text n d c is same other = elim (cases_lt n (length text)) [
   | inr high ↦ absurd (other (sym same ∙ (is ∙ get_or_past text n 32 high)))
 ]
 
+-- after a byte other than a space comes a place that is at most the end
+pub byte_followed : (text : List ℕ) (n d c : ℕ) → d ≡ get_or text n 32 → d ≡ c → (c ≡ 32 → ⊥) → n + 1 ≤ length text
+byte_followed text n d c is same other =
+    let within = byte_within text n d c is same other in
+    omega arith
+
 -- ---- a suffix
 
 -- an integer and its end are a number, if no float is there

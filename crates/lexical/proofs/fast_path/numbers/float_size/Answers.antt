@@ -1,7 +1,7 @@
-use Rattle.std.proofs.Common.{◌+◌, ◌-◌, ◌<◌, ◌≤◌, ℕ, length, take, drop, ap, arith, length-drop}
+use Rattle.std.proofs.Common.{◌+◌, ◌-◌, length, take, drop, ap, arith, length-drop}
 use Rattle.std.proofs.lemmas.List.{take_rest}
 use Rattle.lexical.specs.declared.bytes.Class.TheVariants as classes
-use Rattle.lexical.proofs.FastNumberLemmas.{float_read, byte_within, run_within}
+use Rattle.lexical.proofs.FastNumberLemmas.{float_read, byte_followed, byte_within, run_within}
 use Rattle.lexical.proofs.fast_path.numbers.float_size.Goals as goal
 
 pub slice_bounds-fraction_end_size-count : goal.slice_bounds-fraction_end_size-count
@@ -51,24 +51,18 @@ returns c =
     c.count_ascii-fraction.ensures (take_rest inside c.count_ascii-fraction.result) c.in_ok-end.ensures.end
     c.in_ok-end.ensures.ascii
 
--- a place within is followed by one that is at most the end
-followed : (n m : ℕ) → n < m → n + 1 ≤ m
-followed n m h = omega arith
-
 pub slice_bounds-after-count : goal.slice_bounds-after-count
 slice_bounds-after-count c =
-    followed _ _
-    (byte_within c.args.bytes.now c.args.digits _ 46 c.byte_at.ensures c.if-byte_at-ne46.false
-    (λ e. omega (arith, e)))
+    byte_followed c.args.bytes.now c.args.digits _ 46 c.byte_at.ensures c.if-byte_at-ne46.false
+    (λ e. omega (arith, e))
 
 pub returns-in_err-end : goal.returns-in_err-end
 returns-in_err-end c = rw c.from_residual.ensures tt
 
 pub slice_bounds-after-start : goal.slice_bounds-after-start
 slice_bounds-after-start c =
-    followed _ _
-    (byte_within c.args.bytes.now c.args.digits _ 46 c.byte_at.ensures c.if-byte_at-ne46.false
-    (λ e. omega (arith, e)))
+    byte_followed c.args.bytes.now c.args.digits _ 46 c.byte_at.ensures c.if-byte_at-ne46.false
+    (λ e. omega (arith, e))
 
 pub overflow_add-after : goal.overflow_add-after
 overflow_add-after c =

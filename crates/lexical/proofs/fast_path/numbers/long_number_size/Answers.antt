@@ -1,11 +1,11 @@
-use Rattle.std.proofs.Common.{◌+◌, ◌<◌, ◌≤◌, ℕ, IfSome, ap, arith, subst, sym, ◌∙◌}
+use Rattle.std.proofs.Common.{◌+◌, IfSome, ap, arith, subst, sym, ◌∙◌}
 use Rattle.std.proofs.lemmas.List.{take_rest}
 use Rattle.lexical.specs.Bytes.{ascii_in}
 use Rattle.lexical.specs.Number.{Number}
 use Rattle.lexical.specs.Quick.{IsAsciiAt}
 use Rattle.lexical.specs.declared.bytes.Class.TheVariants.{Digit}
 use Rattle.lexical.proofs.FastBasedLemmas.{announced_binary, announced_hexadecimal, announced_octal}
-use Rattle.lexical.proofs.FastNumberLemmas.{byte_within}
+use Rattle.lexical.proofs.FastNumberLemmas.{byte_followed, byte_within}
 use Rattle.lexical.proofs.FastUndottedLemmas.{undotted_read}
 use Rattle.lexical.proofs.fast_path.numbers.long_number_size.Goals as goal
 
@@ -32,15 +32,10 @@ returns-then-next-eq98 c =
     announced_binary c.args.text.now c.as_bytes-bytes.result.now c.as_bytes-bytes.ensures.value
     c.based_size-then-next-eq98.result c.based_size-then-next-eq98.ensures
 
--- a place within is followed by one that is at most the end
-followed : (n m : ℕ) → n < m → n + 1 ≤ m
-followed n m h = omega arith
-
 pub slice_bounds-after-count : goal.slice_bounds-after-count
 slice_bounds-after-count c =
-    followed _ _
-    (byte_within c.as_bytes-bytes.result.now c.count_digits-digits.result _ 46 c.byte_at-next.ensures
-    c.if-next-eq46.true (λ e. omega (arith, e)))
+    byte_followed c.as_bytes-bytes.result.now c.count_digits-digits.result _ 46 c.byte_at-next.ensures
+    c.if-next-eq46.true (λ e. omega (arith, e))
 
 pub float_size-requires-clause-first : goal.float_size-requires-clause-first
 float_size-requires-clause-first c = ap (ascii_in Digit) (sym c.byte_at.ensures) ∙ sym c.if-not-holds_ascii.ensures

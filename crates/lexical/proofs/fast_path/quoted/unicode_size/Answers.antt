@@ -1,10 +1,10 @@
-use Rattle.std.proofs.Common.{◌+◌, ◌-◌, ◌<◌, ◌≤◌, ℕ, List, length, take, drop, sym, ap, arith, ◌∙◌}
+use Rattle.std.proofs.Common.{◌-◌, ◌≤◌, ℕ, List, length, take, drop, sym, ap, arith, ◌∙◌}
 use Rattle.std.proofs.Common.{◌≡◌, length-take}
 use Rattle.std.proofs.lemmas.List.{take_rest}
 use Rattle.lexical.specs.Bytes.{ascii_in}
 use Rattle.lexical.specs.declared.bytes.Class.TheVariants as classes
 use Rattle.lexical.proofs.FastEscapeLemmas.{unicode_read, code_digits}
-use Rattle.lexical.proofs.FastNumberLemmas.{byte_within, run_within}
+use Rattle.lexical.proofs.FastNumberLemmas.{byte_followed, run_within}
 use Rattle.lexical.proofs.fast_path.quoted.unicode_size.Goals as goal
 
 pub writes_character-requires : goal.writes_character-requires
@@ -24,18 +24,13 @@ returns c =
     (sym c.byte_at-3.ensures ∙ c.if-byte_at-ne125.false)
     (sym c.writes_character.ensures ∙ c.if-not-writes_character.false)
 
--- a place within is followed by one that is at most the end
-followed : (n m : ℕ) → n < m → n + 1 ≤ m
-followed n m h = omega arith
-
 front_length : (n : ℕ) (items : List ℕ) → n ≤ length items → n ≡ length (take n items)
 front_length n items h = omega (arith, length-take n items)
 
 pub slice_bounds-code-count : goal.slice_bounds-code-count
 slice_bounds-code-count c =
-    followed 1 _
-    (byte_within c.args.bytes.now 1 _ 123 c.byte_at-else-byte_at-ne117.ensures c.if-byte_at-ne123.false
-    (λ e. omega (arith, e)))
+    byte_followed c.args.bytes.now 1 _ 123 c.byte_at-else-byte_at-ne117.ensures c.if-byte_at-ne123.false
+    (λ e. omega (arith, e))
 
 pub slice_bounds-writes_character-end : goal.slice_bounds-writes_character-end
 slice_bounds-writes_character-end c =
