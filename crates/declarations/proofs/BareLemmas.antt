@@ -66,17 +66,3 @@ no_bare (Group g ∷ rest) none = absurd (none g rest refl)
 no_bare (Ident i ∷ rest) none = refl
 no_bare (Punct p ∷ rest) none = refl
 no_bare (Literal l ∷ rest) none = refl
-
-pub some_bare : (trees rest : List TokenTree) (g : Grouped) (b : Bool) → trees ≡ Group g ∷ rest
-    → b ≡ has_no_delimiters g.delimiter → b ≡ true → bare_first trees ≡ Some (g, rest)
-some_bare trees rest g b whole is h =
-    let bare : has_no_delimiters g.delimiter ≡ true = sym is ∙ h in
-    ap bare_first whole ∙ rw bare refl
-
-pub not_bare : (trees rest : List TokenTree) (g : Grouped) (b : Bool) → trees ≡ Group g ∷ rest
-    → b ≡ has_no_delimiters g.delimiter → b ≡ false → bare_first trees ≡ None
-not_bare trees rest g b whole is h =
-    let bare : has_no_delimiters g.delimiter ≡ false = sym is ∙ h in
-    ap bare_first whole ∙ rw bare refl
-
-pub ruleset bares = (no_bare, some_bare, not_bare)

@@ -1,22 +1,25 @@
 -- Lists whose entries must have known names, and no name twice.
 use Rattle.std.proofs.Common.{◌≡◌, refl, sym, ◌∙◌, ap, subst, ℕ, ◌≤◌, ◌<◌, ◌-◌, ◌+◌, ◌==◌, ◌||◌, Bool, true, false}
 use Rattle.std.proofs.Common.{List, [], ◌∷◌, ◌++◌, None, append_assoc, drop, suc, zero}
-use Rattle.std.proofs.Common.{length, get_or, not, set, replicate, arith}
+use Rattle.std.proofs.Common.{length, codes, get_or, if◌then◌else◌, not, option_copied, set, replicate, arith}
 use Rattle.std.specs.Borrow.{Bor}
 use Rattle.std.specs.Fmt.{HasWritten}
 use Rattle.std.specs.declared.fmt.Formatter.{Formatter}
-use Rattle.std.specs.List.{list_any}
+use Rattle.std.specs.List.{list_any, prefix_len}
 use Rattle.std.proofs.Output.{has_written_append}
 use Rattle.std.proofs.lemmas.Bool.{eqb-false, eqb-true}
+use Rattle.std.proofs.lemmas.List.{at_drop_all, at_drop_more}
 use Rattle.std.proofs.lemmas.List.{get_or-replicate, get_or-set_same, get_or-set_other, length-set}
 use Rattle.std.proofs.lemmas.List.Sums.{prefix_len-le-length}
 use Rattle.declarations.specs.EntryCheck.{HasNames, IsEntryError, IsRepeated, IsUnknown, IsWrong, Names, NamesEntry}
 use Rattle.declarations.specs.EntryCheck.{StandsBefore}
-use Rattle.declarations.specs.EntryCheck.{has_name, more, more_known, next_known, none, place_of}
+use Rattle.declarations.specs.EntryCheck.{error_text, has_name, known_part, more, more_known, name_part}
+use Rattle.declarations.specs.EntryCheck.{next_known, none, place_of}
 use Rattle.pm_stream.specs.declared.stream.TokenTree.{TokenTree}
 use Rattle.declarations.specs.Entry.{IsEntryAt, entry_spot}
 use Rattle.declarations.specs.EntryList.{IsEntryListFault}
 use Rattle.declarations.specs.Expected.{HasSigns}
+use Rattle.declarations.specs.Fault.{message_at}
 use Rattle.declarations.specs.List.{IsFirst}
 use Rattle.declarations.specs.declared.entry.Entry.{Entry}
 use Rattle.declarations.specs.declared.entry_check.EntryError.{EntryError}
@@ -164,7 +167,63 @@ no_entry_error known list left seen fault error c stands problem at span signs u
   kind_and_name = known_names;
 }
 
+-- ---- the position of a name
+
+-- no name before this position is the entry's
+abbrev PlaceFrom : Names → Entry → ℕ → Type 0
+PlaceFrom known entry at =
+    place_of known entry ≡ at + prefix_len (λ word. not (has_name entry word)) (drop at known)
+
+module _ (known : Names) (entry : Entry) (at n : ℕ) (d : Bor (List ℕ)) (b : Bool) (same : at ≡ n)
+    (from : PlaceFrom known entry at) (within : n < length known) (is : b ≡ has_name entry (get_or known n d)) where
+  abbrev other : Bor (List ℕ) → Bool
+  other word = not (has_name entry word)
+
+  left : prefix_len other (drop n known) ≡ (if not b then 1 + prefix_len other (drop (n + 1) known) else 0)
+  left =
+      at_drop_more (prefix_len other) known n d within
+      ∙ ap (λ x. if not x then 1 + prefix_len other (drop (n + 1) known) else 0) (sym is)
+
+  start : place_of known entry ≡ n + prefix_len other (drop n known)
+  start = subst (PlaceFrom known entry) same from
+
+  -- the name here is the entry's
+  pub place_here : b ≡ true → at ≡ place_of known entry
+  place_here h =
+      let none : prefix_len other (drop n known) ≡ 0 =
+      left ∙ ap (λ x. if not x then 1 + prefix_len other (drop (n + 1) known) else 0) h in
+      omega (arith, same, start, none)
+
+  -- the name here is another
+  pub place_on : b ≡ false → (at + 1 ≡ n + 1) × PlaceFrom known entry (at + 1)
+  place_on h =
+      let more : prefix_len other (drop n known) ≡ 1 + prefix_len other (drop (n + 1) known) =
+      left ∙ ap (λ x. if not x then 1 + prefix_len other (drop (n + 1) known) else 0) h in
+      let next : place_of known entry ≡ n + 1 + prefix_len other (drop (n + 1) known) = omega (arith, start, more) in
+      (ap (λ x. x + 1) same, subst (PlaceFrom known entry) (ap (λ x. x + 1) (sym same)) next)
+
+-- no name is the entry's
+pub place_none : (known : Names) (entry : Entry) (at n : ℕ) → at ≡ n → PlaceFrom known entry at → length known ≤ n
+    → at ≡ place_of known entry
+place_none known entry at n same from all =
+    let none : prefix_len (λ word. not (has_name entry word)) (drop at known) ≡ 0 =
+    rw same (at_drop_all (prefix_len (λ word. not (has_name entry word))) known n all) in
+    omega (arith, from, none)
+
 -- ---- what is printed
+
+-- the text of each kind of error
+pub missing_text : (error : EntryError) → error.problem ≡ problems.NoEntry
+    → message_at error.span error.expected ≡ error_text error
+missing_text error e = rw e refl
+
+pub unknown_text : (error : EntryError) → error.problem ≡ problems.Unknown
+    → codes "unknown entry" ++ (name_part (option_copied error.name) ++ known_part error.known.now) ≡ error_text error
+unknown_text error e = rw e refl
+
+pub repeated_text : (error : EntryError) → error.problem ≡ problems.Repeated
+    → codes "a second entry" ++ name_part (option_copied error.name) ≡ error_text error
+repeated_text error e = rw e refl
 
 more_at : (words : Names) (n : ℕ) (d : Bor (List ℕ)) → n < length words
     → more_known (drop n words) ≡ next_known (get_or words n d).now ++ more_known (drop (suc n) words)

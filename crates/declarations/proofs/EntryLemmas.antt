@@ -59,6 +59,16 @@ segment_heads : (cs : List SignClass) → heads rule.next_segment cs ≡ heads (
 segment_heads [] = refl
 segment_heads (c ∷ cs) = or_nothing (is signs.PathSeparator c) (rule.is_entry_segment c)
 
+-- signs can begin with `-` and a literal where they can begin with `-`
+minus_heads : (cs : List SignClass)
+    → heads (Then (one signs.Minus) (one signs.Literal)) cs ≡ heads (one signs.Minus) cs
+minus_heads [] = refl
+minus_heads (c ∷ cs) = or_nothing (is signs.Minus c) (is signs.Literal c)
+
+pub begins_minus : (b : Bool) (trees : List TokenTree) → b ≡ heads (one signs.Minus) (classes_in trees)
+    → heads (Then (one signs.Minus) (one signs.Literal)) (classes_in trees) ≡ b
+begins_minus b trees e = minus_heads (classes_in trees) ∙ sym e
+
 pub begins_segment : (b : Bool) (trees : List TokenTree) → b ≡ heads (one signs.PathSeparator) (classes_in trees)
     → heads rule.next_segment (classes_in trees) ≡ b
 begins_segment b trees e = segment_heads (classes_in trees) ∙ sym e

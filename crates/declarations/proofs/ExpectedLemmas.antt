@@ -1,9 +1,10 @@
 -- Sets of signs.
-use Rattle.std.proofs.Common.{◌≡◌, refl, sym, ◌∙◌, ap, subst, eqb-true, nat_lt, ℕ, zero, suc, ◌<◌, ◌^◌, ◌*◌, ◌%◌}
+use Rattle.std.proofs.Common.{◌≡◌, refl, sym, ◌∙◌, ap, subst, eqb-true, nat_lt, ℕ, zero, suc, ◌<◌, ◌≤◌, ◌^◌, ◌*◌, ◌%◌}
 use Rattle.std.proofs.Common.{◌==◌, ◌&&◌, ◌||◌, Bool, true, false, List, [], ◌∷◌, ◌++◌, arith}
-use Rattle.std.proofs.Common.{bit_and, bit_or, max}
+use Rattle.std.proofs.Common.{◌+◌, bit_and, bit_or, get_or, length, max, take}
 use Rattle.std.proofs.lemmas.Bool.{eqb-false}
 use Rattle.std.proofs.lemmas.Bool.Decides.{nat_tests}
+use Rattle.std.proofs.lemmas.List.{take_all, take_more}
 use Rattle.std.proofs.lemmas.Nat.Bits.{bit_at-lt, bit_at_or, bit_at_clear_other, bit_at_clear_same, bit_at_set_other}
 use Rattle.std.proofs.lemmas.Nat.Bits.{bit_at_set_same}
 use Rattle.std.specs.Int.{w128, bit_at}
@@ -130,3 +131,60 @@ pub all_steps : (p : SignClass → Bool) (set : Expected)
     → HasSigns set (λ class. any_of (λ x. is x class && p x) classes) false
     → HasSigns set p false
 all_steps p set s = record { classes = λ c. s.classes c ∙ any_class p c; end = s.end }
+
+-- ---- the classes so far that pass a test
+
+-- the set has those of the first `n` classes that pass
+abbrev SoFar : (SignClass → Bool) → List SignClass → ℕ → Expected → Type 0
+SoFar p xs n set = HasSigns set (λ c. any_of (λ y. is y c && p y) (take n xs)) false
+
+one_more : (p : SignClass → Bool) (xs : List SignClass) (n : ℕ) (d c : SignClass) (b : Bool) → n < length xs
+    → p (get_or xs n d) ≡ b
+    → any_of (λ y. is y c && p y) (take (n + 1) xs)
+    ≡ ((is (get_or xs n d) c && b) || any_of (λ y. is y c && p y) (take n xs))
+one_more p xs n d c b h e =
+    ap (any_of (λ y. is y c && p y)) (take_more xs n d h)
+    ∙ (any-snoc (λ y. is y c && p y) (take n xs) (get_or xs n d)
+    ∙ ap (λ x. (is (get_or xs n d) c && x) || any_of (λ y. is y c && p y) (take n xs)) e)
+
+-- one more class passes the test
+pub so_far_with : (p : SignClass → Bool) (xs : List SignClass) (n : ℕ) (d : SignClass) (found made set : Expected)
+    → n < length xs → p (get_or xs n d) ≡ true → SoFar p xs n found
+    → HasSigns made (λ c. is (get_or xs n d) c || holds found c) (holds_end found) → set ≡ made
+    → SoFar p xs (n + 1) set
+so_far_with p xs n d found made set h e f s same = rw same (record {
+  classes = λ c.
+      s.classes c ∙ (ap (λ b. is (get_or xs n d) c || b) (f.classes c)
+      ∙ sym (one_more p xs n d c true h e
+      ∙ ap (λ b. b || any_of (λ y. is y c && p y) (take n xs)) (and_true (is (get_or xs n d) c))));
+  end = s.end ∙ f.end;
+})
+  where
+    and_true : (b : Bool) → (b && true) ≡ b
+    and_true true = refl
+    and_true false = refl
+
+-- one more class does not pass the test
+pub so_far_without : (p : SignClass → Bool) (xs : List SignClass) (n : ℕ) (d : SignClass) (found set : Expected)
+    → n < length xs → p (get_or xs n d) ≡ false → SoFar p xs n found → set ≡ found
+    → SoFar p xs (n + 1) set
+so_far_without p xs n d found set h e f same = rw same (record {
+  classes = λ c.
+      f.classes c
+      ∙ sym (one_more p xs n d c false h e
+      ∙ ap (λ b. b || any_of (λ y. is y c && p y) (take n xs)) (and_false (is (get_or xs n d) c)));
+  end = f.end;
+})
+  where
+    and_false : (b : Bool) → (b && false) ≡ false
+    and_false true = refl
+    and_false false = refl
+
+-- all classes of the list were tested
+pub so_far_all : (p : SignClass → Bool) (xs : List SignClass) (n : ℕ) (set : Expected) → length xs ≤ n
+    → SoFar p xs n set
+    → HasSigns set (λ c. any_of (λ y. is y c && p y) xs) false
+so_far_all p xs n set h f = record {
+  classes = λ c. f.classes c ∙ ap (any_of (λ y. is y c && p y)) (take_all n xs h);
+  end = f.end;
+}

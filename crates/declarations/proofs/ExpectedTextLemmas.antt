@@ -1,12 +1,15 @@
 -- The names in messages.
 use Rattle.std.proofs.Common.{◌≡◌, ◌==◌, ◌+◌, ◌-◌, ◌<◌, ◌%◌, refl, sym, ◌∙◌, ap, subst, ℕ, zero, suc, Bool, true, false}
-use Rattle.std.proofs.Common.{List, [], ◌∷◌, ◌++◌, arith, bit_and, if◌then◌else◌, min}
-use Rattle.std.proofs.lemmas.Bool.{both_ways, eqb-true}
+use Rattle.std.proofs.Common.{List, [], ◌∷◌, ◌++◌, Err, IsErr, IsOk, Ok, Result, arith, bit_and, codes}
+use Rattle.std.proofs.Common.{if◌then◌else◌, min}
+use Rattle.std.proofs.lemmas.Bool.{both_ways, eq-eqb, eqb-true, ne_eqb}
 use Rattle.std.proofs.lemmas.Nat.Bits.{bit_at-lt, bit_at_and, bit_at_xor}
+use Rattle.std.specs.Borrow.{Bor}
 use Rattle.std.specs.Int.{bit_at}
 use Rattle.std.specs.Int.RustNames.{bit_xor}
+use Rattle.std.specs.declared.fmt.Error.{Error}
 use Rattle.declarations.specs.Expected.{holds}
-use Rattle.declarations.specs.ExpectedText.{Names, NamesOnly, more_listed, separator}
+use Rattle.declarations.specs.ExpectedText.{Names, NamesOnly, more_listed, names_of, rows_of, separator}
 use Rattle.item_tables.specs.declared.class.SignClass.{SignClass}
 use Rattle.declarations.specs.declared.expected.Expected.{Expected}
 use Rattle.item_tables.specs.Classes.{code}
@@ -18,6 +21,33 @@ pub more_split : (count : ℕ) (names rest : List (List ℕ)) (name before : Lis
 more_split zero names rest name before h e f = absurd (h refl)
 more_split (suc n) names rest name before h e f =
     let less : suc n - 1 ≡ n = omega arith in rw (e, f, less) refl
+
+-- no more names are written
+pub more_stopped : (count : ℕ) (names rest : List (List ℕ)) (name : List ℕ) → count ≡ 0 → names ≡ name ∷ rest
+    → codes ", among others" ≡ more_listed count names
+more_stopped count names rest name h e = rw (e, h) refl
+
+-- there are no more names
+pub more_none : (count : ℕ) → more_listed count [] ≡ []
+more_none zero = refl
+more_none (suc n) = refl
+
+-- the first row whose bits are all left is named
+pub names_first : (left : ℕ) (rows more : List (ℕ × Bor (List ℕ))) (row : ℕ × Bor (List ℕ)) → rows ≡ row ∷ more
+    → bit_and left row.0 ≡ row.0
+    → names_of left (rows_of rows) ≡ row.1.now ∷ names_of (bit_xor left row.0) (rows_of more)
+names_first left rows more row e h = rw (e, eq-eqb (bit_and left row.0) row.0 h) refl
+
+-- a row of which a bit is not left is passed over
+pub names_other : (left : ℕ) (rows more : List (ℕ × Bor (List ℕ))) (row : ℕ × Bor (List ℕ)) → rows ≡ row ∷ more
+    → (bit_and left row.0 ≡ row.0 → ⊥)
+    → names_of left (rows_of rows) ≡ names_of left (rows_of more)
+names_other left rows more row e h = rw (e, ne_eqb (bit_and left row.0) row.0 h) refl
+
+-- what was written has no error
+pub err_not_ok : (result : Result (Unit {0}) Error) → IsErr result → IsOk result → ⊥
+err_not_ok (Ok x) is_err is_ok = cc
+err_not_ok (Err x) is_err is_ok = cc
 
 -- ---- each name is true
 

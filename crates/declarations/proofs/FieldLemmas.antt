@@ -271,8 +271,6 @@ no_colon trees rest class b h =
 pub colon_none : (trees : List TokenTree) → trees ≡ [] → Sticks with_type trees trees
 colon_none trees e = lacks with_type trees (heads_none with_type trees e) refl
 
-pub ruleset colon_types = (colon_finds, colon_fails, colon_has, no_colon, colon_none)
-
 -- ---- a name, `:` and a type
 
 pub named_finds : (trees mid rest : List TokenTree) (n : Name) → IsNameAt trees n mid → Finds with_type mid rest

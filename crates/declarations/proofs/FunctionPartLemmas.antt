@@ -317,8 +317,6 @@ name_finds trees rest n at =
     sign_finds is_word trees rest (name_class n) (begins_name trees rest n at.whole)
     (is_name_word (name_class n) at.is_name)
 
-pub ruleset names_of = (name_at, no_name, no_ident)
-
 -- ---- parentheses
 
 round_sort : (c : SignClass) → is_round c ≡ true → sort_of c ≡ groups
@@ -515,5 +513,3 @@ pub semicolon_has : (trees rest : List TokenTree) (class : SignClass) → Begins
     → is signs.Semicolon class ≡ true
     → BeginsWith trees signs.Semicolon rest
 semicolon_has trees rest class b h = begins_as trees rest signs.Semicolon class b h
-
-pub ruleset bodies = (body_finds, semicolon_finds, body_sticks, body_ends, semicolon_has)

@@ -231,28 +231,20 @@ word_has trees part mid rest (kinds.Constraint given) f whole h =
 word_has trees part mid rest kinds.Lifetime f whole h = absurd h
 word_has trees part mid rest kinds.Const f whole h = absurd h
 
-pub ruleset words = (word_finds, word_fails, word_sticks, word_has)
-
 -- ---- other arguments
 
 pub type_part : (trees part rest : List TokenTree) → Finds type trees rest → trees ≡ part ++ rest
     → Reads (ByRule type) trees part rest
 type_part trees part rest f whole = found_reads type starts_type trees part rest f whole
 
-pub ruleset plain = (type_part)
-
 pub lifetime_part : (trees part rest : List TokenTree) → Finds (one signs.Lifetime) trees rest
     → trees ≡ part ++ rest
     → Reads (ByRule (one signs.Lifetime)) trees part rest
 lifetime_part trees part rest f whole = found_reads (one signs.Lifetime) starts_lifetime trees part rest f whole
 
-pub ruleset lifetimes = (lifetime_part)
-
 pub constant_part : (trees part rest : List TokenTree) → Finds rule.constant trees rest → trees ≡ part ++ rest
     → Reads (ByRule rule.constant) trees part rest
 constant_part trees part rest f whole = found_reads rule.constant starts_constant trees part rest f whole
-
-pub ruleset constants = (constant_part)
 
 -- ---- any argument
 

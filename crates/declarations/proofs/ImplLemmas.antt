@@ -363,8 +363,6 @@ for_not trees rest class b at e h =
 pub for_none : (trees : List TokenTree) → trees ≡ [] → heads for_type (classes_in trees) ≡ false
 for_none trees e = heads_none for_type trees e
 
-pub ruleset fors = (for_is, for_not, for_none)
-
 abbrev for_class : SignClass
 for_class = signs.Keyword keywords.For
 
@@ -557,8 +555,6 @@ braces_stick trees mid f none =
 
 pub where_sticks : (trees left : List TokenTree) → Sticks where_clause trees left → Sticks where_and_body trees left
 where_sticks trees left s = then_sticks where_clause braces trees left s
-
-pub ruleset ends = (braces_find, braces_have, braces_stick, where_sticks)
 
 pub header_reads : (trees mid : List TokenTree) (result : Result (Bor (List TokenTree)) (Bor (List TokenTree)))
     → TurnsTo impl_front trees where_and_body mid → ReadsRule where_and_body mid result

@@ -59,7 +59,7 @@ use Rattle.declarations.proofs.FunctionPartLemmas.{no_round, no_sign, parenthese
 use Rattle.declarations.proofs.ParameterLemmas.{finds_heads, leads_finds, leads_sign, leads_sticks}
 use Rattle.declarations.proofs.PartReaderLemmas as parts_read
 use Rattle.declarations.proofs.ReaderLemmas.{first_finds, first_sticks, heads_sign, lacks, mark_finds, mark_sticks}
-use Rattle.declarations.proofs.ReaderLemmas.{other_finds, other_sticks, remains_sign, remains_span, sign_ends}
+use Rattle.declarations.proofs.ReaderLemmas.{other_finds, other_sticks, remains_span, sign_ends}
 use Rattle.declarations.proofs.ReaderLemmas.{sign_finds, sign_sticks, then_fails, then_finds, then_sticks}
 use Rattle.declarations.proofs.RuleFormLemmas.{found_reads}
 use Rattle.declarations.proofs.SortLemmas.{is_identifier_sign, names, sort_of}
@@ -98,8 +98,6 @@ semicolon_sticks trees rest class b h =
 pub semicolon_none : (trees : List TokenTree) → trees ≡ [] → Sticks semicolon trees trees
 semicolon_none trees e =
     mark_sticks Rest (one classes.Semicolon) trees trees (sign_ends (is classes.Semicolon) trees e)
-
-pub ruleset semicolons = (semicolon_finds, semicolon_has, semicolon_sticks, semicolon_none, remains_sign)
 
 -- the `;` by itself is one sign
 semicolon_alone : (trees part rest : List TokenTree) → IsSemicolonAt trees part rest

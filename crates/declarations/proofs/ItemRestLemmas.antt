@@ -201,5 +201,3 @@ pub import_reads : (trees mid : List TokenTree) (result : Result (Bor (List Toke
     → LeadsTo use_path trees use_path mid → ReadsRule use_path mid result
     → ReadsRule use_path trees result
 import_reads trees mid result l f = leads_reads use_path use_path trees mid result l f
-
-pub ruleset import_loop = (import_start, import_on, import_reads)

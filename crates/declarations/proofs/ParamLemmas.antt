@@ -414,14 +414,6 @@ pub back_reads : (form : List SignClass → List SignClass → Type 0) (trees pa
     → IsBack rest trees
 back_reads form trees part rest reads = (part, reads.whole)
 
-pub back_name : (kind : ParamKind) (trees name rest : List TokenTree) → HasName kind trees name rest
-    → IsBack rest trees
-back_name kinds.Lifetime trees name rest has = (name, has.whole)
-back_name kinds.Type trees name rest has = (name, has.sign.whole)
-back_name kinds.Const trees name rest has =
-    back_more trees has.left rest (back_sign trees (classes.Keyword keywords.Const) has.left has.begins)
-    (name, has.reads.sign.whole)
-
 back_may : (led : SignClass) (form : List TokenTree → List TokenTree → List TokenTree → Type 0)
     → ((trees part rest : List TokenTree) → form trees part rest → IsBack rest trees)
     → (trees part rest : List TokenTree) → MayHave led form trees part rest → IsBack rest trees
@@ -453,15 +445,6 @@ back_default kinds.Type trees part rest has =
     back_may classes.Equals (Reads IsType) (back_reads _) trees part rest has
 back_default kinds.Const trees part rest has =
     back_may classes.Equals ReadsConstant back_constant trees part rest has
-
-pub back_bounded : (trees attributes : List TokenTree) (kind : ParamKind) (name bounds from_default : List TokenTree)
-    → Bounded trees attributes kind name bounds from_default → IsBack from_default trees
-back_bounded trees attributes kind name bounds from_default so_far =
-    back_more trees so_far.from_bounds from_default
-    (back_more trees so_far.named.from_name so_far.from_bounds
-    (back_reads _ trees attributes so_far.named.from_name so_far.named.attributes_read)
-    (back_name kind so_far.named.from_name name so_far.from_bounds so_far.named.name_read))
-    (back_bounds kind so_far.from_bounds bounds from_default so_far.bounds_read)
 
 pub back_fewer : (trees left : List TokenTree) → IsBack left trees → length left ≤ length trees
 back_fewer trees left back =

@@ -135,8 +135,6 @@ pub next_none : (e : Element) (trees left : List TokenTree) → Sticks (element_
     → Finds (list_rule e) trees trees
 next_none e trees left f same = list_ends (element_rule e) comma trees (not_begun e trees left f same)
 
-pub ruleset nexts = (next_comma, next_fewer, next_last, next_end, next_stuck, next_none)
-
 -- ---- the loop
 
 pub last_next : (e : Element) (trees left rest : List TokenTree) (again : Bool)

@@ -281,5 +281,3 @@ pub variant_expects : (trees left : List TokenTree) (at : ℕ) (set : Expected) 
     → at ≡ length trees - length left → ExpectsWhole variant trees set
     → Expects IsVariant trees at set
 variant_expects = stuck_expects variant starts_variant
-
-pub ruleset variant_faults = (variant_fault, variant_span, variant_expects)

@@ -438,7 +438,6 @@ fn separator(trees: &[TokenTree]) -> Result<&[TokenTree], &[TokenTree]>
 }
 
 /// Skips `::` and a segment.
-#[tactic(auto, using(crate::proofs::ReaderLemmas::steps))]
 fn next_segment(trees: &[TokenTree]) -> Result<&[TokenTree], &[TokenTree]>
     ensures { ReadsRule next_segment trees.now result }
 {
@@ -468,7 +467,6 @@ fn segments(trees: &[TokenTree]) -> Result<&[TokenTree], &[TokenTree]>
 }
 
 /// Skips the path of an entry.
-#[tactic(auto, using(crate::proofs::ReaderLemmas::steps))]
 fn entry_path(trees: &[TokenTree]) -> Result<&[TokenTree], &[TokenTree]>
     ensures { ReadsRule entry_path trees.now result }
 {
@@ -502,7 +500,6 @@ fn plain_literal(trees: &[TokenTree]) -> Result<&[TokenTree], &[TokenTree]>
 }
 
 /// Skips a literal, with a minus sign or without.
-#[tactic(auto, using(crate::proofs::ReaderLemmas::steps))]
 fn literal(trees: &[TokenTree]) -> Result<&[TokenTree], &[TokenTree]>
     ensures { ReadsRule entry_literal trees.now result }
 {

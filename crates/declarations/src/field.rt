@@ -109,7 +109,6 @@ fn named_type_of(trees: &[TokenTree]) -> Result<(&Ident, &[TokenTree], &[TokenTr
 }
 
 /// Reads `:` and a type. Returns the type and the trees after it.
-#[tactic(auto, using(crate::proofs::FieldLemmas::colon_types))]
 fn colon_type_of(trees: &[TokenTree]) -> Result<(&[TokenTree], &[TokenTree]), &[TokenTree]>
     ensures { MatchResult result (λ found. Finds with_type trees.now found.1.now
         × HasColonType trees.now found.0.now found.1.now) (λ left. Sticks with_type trees.now left.now) }

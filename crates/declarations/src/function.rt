@@ -188,7 +188,6 @@ fn past_clause(trees: &[TokenTree]) -> Result<&[TokenTree], &[TokenTree]>
 // ---- qualifiers
 
 /// Skips a sign of this class, if one is next.
-#[tactic(auto, using(crate::proofs::FunctionPartLemmas::options))]
 pub(crate) fn may(trees: &[TokenTree], class: SignClass) -> &[TokenTree]
     ensures { Finds (perhaps (one class)) trees.now result.now }
 {
@@ -261,7 +260,6 @@ pub(crate) fn is_name(class: SignClass) -> bool
 }
 
 /// The name at the start of the trees, and the trees after it.
-#[tactic(auto, using(crate::proofs::FunctionPartLemmas::names_of))]
 pub(crate) fn name_of(trees: &[TokenTree]) -> Result<(&Ident, &[TokenTree]), &[TokenTree]>
     ensures { MatchResult result (λ found. IsNameAt trees.now found.0.now found.1.now)
         (λ left. Sticks word trees.now left.now) }
@@ -351,7 +349,6 @@ pub(crate) fn return_of(trees: &[TokenTree]) -> Result<(&[TokenTree], &[TokenTre
 }
 
 /// Reads a block or `;`. Returns the block, or `None` for `;`, and the trees after it.
-#[tactic(auto, using(crate::proofs::FunctionPartLemmas::bodies))]
 fn body_of(trees: &[TokenTree]) -> Result<(Option<&Group>, &[TokenTree]), &[TokenTree]>
     ensures { MatchResult result (λ found. Finds function_end trees.now found.1.now
         × HasBody found.0 trees.now found.1.now) (λ left. Sticks function_end trees.now left.now) }

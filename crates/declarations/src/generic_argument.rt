@@ -194,7 +194,6 @@ fn begins_constant(class: SignClass) -> bool
 }
 
 /// Skips a constant without a minus sign.
-#[tactic(auto, using(crate::proofs::ReaderLemmas::steps))]
 fn plain_constant(trees: &[TokenTree]) -> Result<&[TokenTree], &[TokenTree]>
     ensures { ReadsRule (Sign is_constant) trees.now result }
 {
@@ -211,7 +210,6 @@ fn plain_constant(trees: &[TokenTree]) -> Result<&[TokenTree], &[TokenTree]>
 }
 
 /// Skips a constant, with a minus sign or without.
-#[tactic(auto, using(crate::proofs::ReaderLemmas::steps))]
 fn past_constant(trees: &[TokenTree]) -> Result<&[TokenTree], &[TokenTree]>
     ensures { ReadsRule constant trees.now result }
 {
@@ -272,7 +270,6 @@ fn constraint_of(trees: &[TokenTree]) -> Result<(ArgumentKind<'_>, &[TokenTree])
 }
 
 /// The argument that begins with a word, and the trees after it; or the trees from the error on.
-#[tactic(auto, using(crate::proofs::GenericArgumentLemmas::words))]
 fn word_argument_of(
     trees: &[TokenTree],
 ) -> Result<(GenericArgument<'_>, &[TokenTree]), &[TokenTree]>
@@ -292,7 +289,6 @@ fn word_argument_of(
 }
 
 /// The type at the start of the trees as an argument, and the trees after it; or the trees from the error on.
-#[tactic(auto, using(crate::proofs::GenericArgumentLemmas::plain))]
 fn plain_argument_of(
     trees: &[TokenTree],
 ) -> Result<(GenericArgument<'_>, &[TokenTree]), &[TokenTree]>
@@ -309,7 +305,6 @@ fn plain_argument_of(
 }
 
 /// The lifetime at the start of the trees as an argument, and the trees after it; or the trees from the error on.
-#[tactic(auto, using(crate::proofs::GenericArgumentLemmas::lifetimes))]
 fn lifetime_of(trees: &[TokenTree]) -> Result<(GenericArgument<'_>, &[TokenTree]), &[TokenTree]>
     ensures { ReadsArgument (one signs.Lifetime) trees.now result }
 {
@@ -324,7 +319,6 @@ fn lifetime_of(trees: &[TokenTree]) -> Result<(GenericArgument<'_>, &[TokenTree]
 }
 
 /// The constant at the start of the trees as an argument, and the trees after it; or the trees from the error on.
-#[tactic(auto, using(crate::proofs::GenericArgumentLemmas::constants))]
 fn constant_of(trees: &[TokenTree]) -> Result<(GenericArgument<'_>, &[TokenTree]), &[TokenTree]>
     ensures { ReadsArgument constant trees.now result }
 {

@@ -438,7 +438,6 @@ fn types_of<'a>(
 }
 
 /// The trees after `for`, if `for` is next.
-#[tactic(auto, using(crate::proofs::ImplLemmas::fors))]
 fn may_for(trees: &[TokenTree]) -> Option<&[TokenTree]>
     ensures { MatchOption result (heads for_type (classes_in trees.now) ≡ false)
         (λ rest. BeginsWith trees.now (signs.Keyword keywords.For) rest.now) }
@@ -467,7 +466,6 @@ pub(crate) struct End<'a> {
 }
 
 /// Reads a where clause and a body in braces. Returns them and the trees after them.
-#[tactic(auto, using(crate::proofs::ImplLemmas::ends))]
 pub(crate) fn end_of(trees: &[TokenTree]) -> Result<(End<'_>, &[TokenTree]), &[TokenTree]>
     ensures { MatchResult result (λ found. Finds where_and_body trees.now found.1.now
         × HasBraces trees.now found.0.where_clause.now found.0.body.now found.1.now)

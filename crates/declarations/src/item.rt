@@ -370,7 +370,6 @@ fn body_of(trees: &[TokenTree]) -> Result<(Fields<'_>, &[TokenTree], &[TokenTree
 }
 
 /// Reads `;`. Returns it and the trees after it.
-#[tactic(auto, using(crate::proofs::ItemLemmas::semicolons))]
 fn semicolon_of(trees: &[TokenTree]) -> Result<(&[TokenTree], &[TokenTree]), &[TokenTree]>
     ensures { MatchResult result (λ found. Finds semicolon trees.now found.1.now
         × IsSemicolonAt trees.now found.0.now found.1.now) (λ left. Sticks semicolon trees.now left.now) }

@@ -28,7 +28,6 @@ use pm_stream::TokenTree;
 // ---- macros and modules
 
 /// Skips a macro from its name on.
-#[tactic(auto, using(crate::proofs::ReaderLemmas::steps))]
 pub(crate) fn past_macro(trees: &[TokenTree]) -> Result<&[TokenTree], &[TokenTree]>
     ensures { ReadsRule (named_rule kinds.Macro) trees.now result }
 {
@@ -59,7 +58,6 @@ pub(crate) fn is_call_group(class: SignClass) -> bool
 }
 
 /// Skips a group of a macro call that `;` must follow.
-#[tactic(auto, using(crate::proofs::ReaderLemmas::steps))]
 fn past_call_group(trees: &[TokenTree]) -> Result<&[TokenTree], &[TokenTree]>
     ensures { ReadsRule (Sign is_call_group) trees.now result }
 {
@@ -97,7 +95,6 @@ fn past_call_end(trees: &[TokenTree]) -> Result<&[TokenTree], &[TokenTree]>
 }
 
 /// Skips a name and the group of a macro call.
-#[tactic(auto, using(crate::proofs::ReaderLemmas::steps))]
 fn past_named_call(trees: &[TokenTree]) -> Result<&[TokenTree], &[TokenTree]>
     ensures { ReadsRule (Then name call_end) trees.now result }
 {

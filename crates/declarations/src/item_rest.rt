@@ -62,7 +62,6 @@ pub(crate) fn past_braces(trees: &[TokenTree]) -> Result<&[TokenTree], &[TokenTr
 }
 
 /// Skips a body in braces, or `;`.
-#[tactic(auto, using(crate::proofs::ReaderLemmas::steps))]
 pub(crate) fn past_body_end(trees: &[TokenTree]) -> Result<&[TokenTree], &[TokenTree]>
     ensures { ReadsRule body_end trees.now result }
 {
@@ -116,7 +115,6 @@ pub(crate) fn may_round(trees: &[TokenTree]) -> Result<&[TokenTree], &[TokenTree
 // ---- structs, enums and unions
 
 /// Skips the fields of a tuple struct, a where clause and `;`.
-#[tactic(auto, using(crate::proofs::ReaderLemmas::steps))]
 fn past_tuple(trees: &[TokenTree]) -> Result<&[TokenTree], &[TokenTree]>
     ensures { ReadsRule tuple_rest trees.now result }
 {
@@ -147,7 +145,6 @@ fn past_struct_rest(trees: &[TokenTree]) -> Result<&[TokenTree], &[TokenTree]>
 }
 
 /// Skips a struct from its name on.
-#[tactic(auto, using(crate::proofs::ReaderLemmas::steps))]
 pub(crate) fn past_struct(trees: &[TokenTree]) -> Result<&[TokenTree], &[TokenTree]>
     ensures { ReadsRule (named_rule kinds.Struct) trees.now result }
 {
@@ -166,7 +163,6 @@ pub(crate) fn past_where_and_body(trees: &[TokenTree]) -> Result<&[TokenTree], &
 }
 
 /// Skips an enum or a union from its name on.
-#[tactic(auto, using(crate::proofs::ReaderLemmas::steps))]
 pub(crate) fn past_enum(trees: &[TokenTree]) -> Result<&[TokenTree], &[TokenTree]>
     ensures { ReadsRule (named_rule kinds.Enum) trees.now result }
 {
@@ -262,7 +258,6 @@ fn may_value(trees: &[TokenTree]) -> Result<&[TokenTree], &[TokenTree]>
 }
 
 /// Skips the value of a constant or a static, if it has one, and `;`.
-#[tactic(auto, using(crate::proofs::ReaderLemmas::steps))]
 fn past_constant_end(trees: &[TokenTree]) -> Result<&[TokenTree], &[TokenTree]>
     ensures { ReadsRule (Then constant_value semicolon) trees.now result }
 {

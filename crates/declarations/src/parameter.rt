@@ -119,7 +119,6 @@ fn may_begin(class: SignClass) -> bool
 }
 
 /// Skips a type.
-#[tactic(auto, using(crate::proofs::ParameterLemmas::type_reads))]
 pub(crate) fn past_type(trees: &[TokenTree]) -> Result<&[TokenTree], &[TokenTree]>
     ensures { ReadsRule type trees.now result }
 {
@@ -161,7 +160,6 @@ fn past_attribute(trees: &[TokenTree]) -> Result<&[TokenTree], &[TokenTree]>
 }
 
 /// Skips one more sign of a pattern, if one is next.
-#[tactic(auto, using(crate::proofs::ReaderLemmas::steps))]
 fn pattern_sign(trees: &[TokenTree]) -> Option<&[TokenTree]>
     ensures found { IfSome result (λ rest. Finds pattern_sign trees.now rest.now) }
     ensures begins { IfSome result (λ rest. heads pattern_sign (classes_in trees.now) ≡ true) }
@@ -208,7 +206,6 @@ fn begins_angle(trees: &[TokenTree]) -> bool
 }
 
 /// Skips the end of a path from its angle brackets on, and fields in braces.
-#[tactic(auto, using(crate::proofs::ParameterLemmas::angles))]
 fn pattern_angle(trees: &[TokenTree]) -> Result<&[TokenTree], &[TokenTree]>
     requires { heads pattern_angle (classes_in trees.now) ≡ true }
     ensures { ReadsRule pattern_angle trees.now result }
@@ -240,7 +237,6 @@ fn pattern_rest(trees: &[TokenTree]) -> Result<&[TokenTree], &[TokenTree]>
 }
 
 /// Skips `..`.
-#[tactic(auto, using(crate::proofs::ReaderLemmas::steps))]
 fn two_dots(trees: &[TokenTree]) -> Result<&[TokenTree], &[TokenTree]>
     ensures { ReadsRule (two_dots) trees.now result }
 {
@@ -248,7 +244,6 @@ fn two_dots(trees: &[TokenTree]) -> Result<&[TokenTree], &[TokenTree]>
 }
 
 /// Skips a pattern that begins with `..`.
-#[tactic(auto, using(crate::proofs::ReaderLemmas::steps))]
 fn dotted_pattern(trees: &[TokenTree]) -> Result<&[TokenTree], &[TokenTree]>
     ensures { ReadsRule dotted_pattern trees.now result }
 {
@@ -267,7 +262,6 @@ fn begins_plain(trees: &[TokenTree]) -> bool
 }
 
 /// Skips a pattern that does not begin with `..`.
-#[tactic(auto, using(crate::proofs::ParameterLemmas::plain_patterns))]
 fn plain_pattern(trees: &[TokenTree]) -> Result<&[TokenTree], &[TokenTree]>
     ensures { ReadsRule plain_pattern trees.now result }
 {
@@ -291,7 +285,6 @@ fn past_pattern(trees: &[TokenTree]) -> Result<&[TokenTree], &[TokenTree]>
 }
 
 /// Skips `self` or `mut self`.
-#[tactic(auto, using(crate::proofs::ReaderLemmas::steps))]
 fn may_mutate(trees: &[TokenTree]) -> Result<&[TokenTree], &[TokenTree]>
     ensures { ReadsRule may_mutate trees.now result }
 {

@@ -46,7 +46,6 @@ fn past_element(element: Element, trees: &[TokenTree]) -> Result<&[TokenTree], &
 }
 
 /// Skips the next element and its `,`, if there are any. Returns whether there was a `,`, and the trees after it.
-#[tactic(auto, using(crate::proofs::PartListLemmas::nexts))]
 fn past_next(element: Element, trees: &[TokenTree]) -> Result<(bool, &[TokenTree]), &[TokenTree]>
     ensures reads { MatchResult result (λ found. IsNext element found.0 trees.now found.1.now)
         (λ left. Sticks (list_rule element) trees.now left.now) }

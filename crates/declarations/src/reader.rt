@@ -68,7 +68,6 @@ fn is_identifier(tree: &TokenTree) -> bool
 }
 
 /// Skips a sign of this class.
-#[tactic(auto, using(crate::proofs::ReaderLemmas::steps))]
 pub(crate) fn past(trees: &[TokenTree], class: SignClass) -> Result<&[TokenTree], &[TokenTree]>
     ensures { ReadsRule (one class) trees.now result }
 {

@@ -24,7 +24,6 @@ use pm_token::{Delimiter, Ident, Spacing};
 ///
 /// The call takes O(1) time, and for groups without delimiters in one another time in proportion to their number. It
 /// allocates nothing.
-#[tactic(auto, using(crate::proofs::SignLemmas::begins_one, crate::proofs::SignLemmas::begins_last))]
 pub fn first_sign<'a>(trees: &'a [TokenTree]) -> Option<(SignClass, &'a [TokenTree])>
     ensures { MatchOption result (trees.now ≡ []) (λ sign. BeginsWith trees.now sign.0 sign.1.now) }
 {

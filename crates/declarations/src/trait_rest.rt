@@ -92,7 +92,6 @@ fn past_alias_end(trees: &[TokenTree]) -> Result<&[TokenTree], &[TokenTree]>
 }
 
 /// Skips what a type alias has after its generic parameters.
-#[tactic(auto, using(crate::proofs::ReaderLemmas::steps))]
 fn past_alias_rest(trees: &[TokenTree]) -> Result<&[TokenTree], &[TokenTree]>
     ensures { ReadsRule alias_rest trees.now result }
 {
@@ -123,7 +122,6 @@ fn past_clause_end(trees: &[TokenTree]) -> Result<&[TokenTree], &[TokenTree]>
 }
 
 /// Skips `=`, the bounds of a trait alias, a where clause and `;`.
-#[tactic(auto, using(crate::proofs::ReaderLemmas::steps))]
 fn past_trait_alias(trees: &[TokenTree]) -> Result<&[TokenTree], &[TokenTree]>
     ensures { ReadsRule trait_alias_rest trees.now result }
 {

@@ -42,7 +42,6 @@ pub struct Variant<'a> {
 /// It reads the same trees as [`split_variant`](crate::split_variant), and returns the same errors. For
 /// `#[a] B { c: D } = 1, C` the name is `B`, the fields are those in the braces, the discriminant is `1`, and the rest
 /// is `, C`.
-#[tactic(auto, using(crate::proofs::VariantLemmas::variant_faults))]
 pub fn parse_variant(trees: &[TokenTree]) -> Result<(Variant<'_>, &[TokenTree]), Fault>
     ensures ok { IfOk result (λ found. IsVariantAt trees.now found.0 found.1.now) }
     ensures fault { IfErr result (λ fault. FaultAt IsVariant trees.now fault.at) }

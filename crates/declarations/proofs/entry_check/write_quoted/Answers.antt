@@ -1,11 +1,7 @@
-use Rattle.std.proofs.Common.{Err, IsErr, IsOk, Ok, Result, refl, true}
+use Rattle.std.proofs.Common.{refl, true}
 use Rattle.std.proofs.Output.{has_written_append}
-use Rattle.std.specs.declared.fmt.Error.{Error}
+use Rattle.declarations.proofs.ExpectedTextLemmas.{err_not_ok}
 use Rattle.declarations.proofs.entry_check.write_quoted.Goals as goal
-
-err_not_ok : (result : Result (Unit {0}) Error) → IsErr result → IsOk result → ⊥
-err_not_ok (Ok x) e o = cc
-err_not_ok (Err x) e o = cc
 
 pub returns-in_err-write_str : goal.returns-in_err-write_str
 returns-in_err-write_str g c =

@@ -113,6 +113,32 @@ explore_many-loop-seen-smaller t c =
 
 -- ---- one rule
 
+pub explore-returns-in-Nothing : goal.explore-returns-in-Nothing
+explore-returns-in-Nothing t c = rw c.in-Nothing.is c.see_nothing.ensures
+
+pub explore-returns-in-Mark : goal.explore-returns-in-Mark
+explore-returns-in-Mark t c = rw c.in-Mark.is c.see_mark.ensures
+
+pub explore-returns-in-Sign : goal.explore-returns-in-Sign
+explore-returns-in-Sign t c = rw c.in-Sign.is c.see_sign.ensures
+
+pub explore-returns-in-Table : goal.explore-returns-in-Table
+explore-returns-in-Table t c = rw c.in-Table.is c.see_table.ensures
+
+pub explore-returns-in-Guarded : goal.explore-returns-in-Guarded
+explore-returns-in-Guarded t c = rw c.in-Guarded.is c.see_guarded.ensures
+
+pub explore-returns-in-Many : goal.explore-returns-in-Many
+explore-returns-in-Many t c = rw c.in-Many.is c.explore_many.ensures
+
+pub explore-returns-in-List : goal.explore-returns-in-List
+explore-returns-in-List t c = rw c.in-List.is c.explore_list.ensures
+
+pub explore-returns-in-Nonterminal : goal.explore-returns-in-Nonterminal
+explore-returns-in-Nonterminal t c =
+    rw c.in-Nonterminal.is (subst (λ g. Sees g c.args.trees.now c.explore-in-Nonterminal.result) c.rule_of.ensures.rule
+    c.explore-in-Nonterminal.ensures)
+
 pub explore-returns-then-has_end : goal.explore-returns-then-has_end
 explore-returns-then-has_end t c =
     rw c.in-Then.is

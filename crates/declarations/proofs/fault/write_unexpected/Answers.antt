@@ -1,15 +1,11 @@
-use Rattle.std.proofs.Common.{◌++◌, ◌==◌, ◌∙◌, ◌≡◌, Bool, Err, IsErr, IsOk, Ok, Result, codes, eqb-true}
+use Rattle.std.proofs.Common.{◌++◌, ◌==◌, ◌∙◌, ◌≡◌, Bool, codes, eqb-true}
 use Rattle.std.proofs.Common.{false, if◌then◌else◌, refl, sym, true, ℕ}
 use Rattle.std.proofs.Output.{has_written_append, has_written_of_eq}
-use Rattle.std.specs.declared.fmt.Error.{Error}
 use Rattle.declarations.specs.ExpectedText.{expected_text}
 use Rattle.declarations.specs.Fault.{unexpected_text}
 use Rattle.declarations.specs.declared.expected.Expected.{Expected}
+use Rattle.declarations.proofs.ExpectedTextLemmas.{err_not_ok}
 use Rattle.declarations.proofs.fault.write_unexpected.Goals as goal
-
-err_not_ok : (result : Result (Unit {0}) Error) → IsErr result → IsOk result → ⊥
-err_not_ok (Ok x) e o = cc
-err_not_ok (Err x) e o = cc
 
 text_none : (set : Expected) (bits : ℕ) → bits ≡ set.bits → bits ≡ 0 → codes "not expected here" ≡ unexpected_text set
 text_none set bits is none = let zero : set.bits ≡ 0 = sym is ∙ none in rw zero refl

@@ -19,6 +19,21 @@ returns-in_err-name-in-Keyword-Const-clause-nothing c =
     rw (p.1, p.2) (λ kind. const_fails kind c.args.trees.now c.in-Some.rest.now
     c.in_err-name-in-Keyword-Const.field-0.0.now begins c.in_err-name-in-Keyword-Const.ensures.parts)
 
+pub returns-in-Lifetime-clause-ok : goal.returns-in-Lifetime-clause-ok
+returns-in-Lifetime-clause-ok c = record {
+  begins = subst (λ d. BeginsWith c.args.trees.now d c.in-Some.rest.now) c.in-Lifetime.is c.in-Some.ensures;
+  whole = c.before-in-Lifetime.ensures;
+}
+
+pub returns-in-Word-clause-ok : goal.returns-in-Word-clause-ok
+returns-in-Word-clause-ok c = record {
+  word = c.in-Word.field-0;
+  sign = record {
+    begins = subst (λ d. BeginsWith c.args.trees.now d c.in-Some.rest.now) c.in-Word.is c.in-Some.ensures;
+    whole = c.before-in-Word.ensures;
+  };
+}
+
 pub returns-in-Lifetime-clause-rule : goal.returns-in-Lifetime-clause-rule
 returns-in-Lifetime-clause-rule c =
     lifetime_leads c.args.trees.now c.in-Some.rest.now

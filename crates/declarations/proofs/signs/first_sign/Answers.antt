@@ -1,6 +1,7 @@
 use Rattle.std.proofs.Common.{◌≡◌, None, Some, sym, subst}
+use Rattle.std.proofs.lemmas.List.{nil_from_length}
 use Rattle.declarations.specs.Signs.{BeginsWith, pair_class}
-use Rattle.declarations.proofs.SignLemmas.{begins_one, begins_two}
+use Rattle.declarations.proofs.SignLemmas.{begins_last, begins_one, begins_two}
 use Rattle.declarations.proofs.signs.first_sign.Goals as goal
 
 pub returns-in-Some-pair_class : goal.returns-in-Some-pair_class
@@ -17,3 +18,12 @@ returns-in-None c =
     subst (λ class. BeginsWith trees class rest) (sym c.tree_class-in-None.ensures)
     (begins_one trees rest c.in_ok-first.first.now c.in-Some.second.now c.in-Some.after.now
     c.in_ok-first.ensures.cases.0 c.in-Some.ensures.cases.0 pair)
+
+pub returns-in_err-first : goal.returns-in_err-first
+returns-in_err-first c = rw c.from_residual.ensures (nil_from_length c.args.trees.now c.in_err-first.ensures.cases)
+
+pub returns-in_default : goal.returns-in_default
+returns-in_default c =
+    subst (λ class. BeginsWith c.args.trees.now class c.in_ok-first.rest.now) (sym c.tree_class.ensures)
+    (begins_last c.args.trees.now c.in_ok-first.rest.now c.in_ok-first.first.now c.in_ok-first.ensures.cases.0
+    c.in_default.ensures.cases)
