@@ -308,6 +308,21 @@ counted_front test zero bytes = (omega arith, omega arith)
 counted_front test (suc n) [] = (omega arith, omega arith)
 counted_front test (suc n) (b ∷ bytes) = counted_or_not test n b bytes (test b) refl (counted_front test n bytes)
 
+-- fewer than n items are counted in the prefix, so the run ends there
+ends_or_not : (test : ℕ → Bool) (n b : ℕ) (bytes : List ℕ) (on : Bool)
+    → (length (while_front test (take n bytes)) < n
+    → length (while_front test (take n bytes)) ≡ length (while_front test bytes))
+    → length (cond on (b ∷ while_front test (take n bytes)) []) < suc n
+    → length (cond on (b ∷ while_front test (take n bytes)) []) ≡ length (cond on (b ∷ while_front test bytes) [])
+ends_or_not test n b bytes true rest few = omega (arith, rest (omega (arith, few)))
+ends_or_not test n b bytes false rest few = refl
+
+ends_within : (test : ℕ → Bool) (n : ℕ) (bytes : List ℕ) → length (while_front test (take n bytes)) < n
+    → length (while_front test (take n bytes)) ≡ length (while_front test bytes)
+ends_within test zero bytes few = absurd (omega (arith, few))
+ends_within test (suc n) [] few = refl
+ends_within test (suc n) (b ∷ bytes) few = ends_or_not test n b bytes (test b) (ends_within test n bytes) few
+
 -- the run after n bytes that pass, with what was counted in the next word
 module _ (test : ℕ → Bool) (bytes inside word : List ℕ) (n more : ℕ) (rest : inside ≡ drop n bytes)
     (front : word ≡ take 8 inside)
@@ -327,3 +342,7 @@ module _ (test : ℕ → Bool) (bytes inside word : List ℕ) (n more : ℕ) (re
         omega (arith, all.0, is_front, length-drop n bytes, within),
         omega (arith, all.1, is_front, after, before),
       )
+
+  -- the run ends in the word if fewer than 8 bytes pass there
+  pub ends_here : more < 8 → n + more ≡ length (while_front test bytes)
+  ends_here few = omega (arith, before, is_front, ends_within test 8 (drop n bytes) (omega (arith, is_front, few)))

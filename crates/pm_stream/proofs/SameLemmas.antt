@@ -3,6 +3,8 @@ use Rattle.std.proofs.Common.{rules, ◌≡◌, ◌↔◌, ℕ, ◌+◌, ◌*◌
 use Rattle.std.proofs.Common.{nat_eq, refl, sym, ap, ◌∙◌, arith, Result, Ok, Err, is_ok, if◌then◌else◌}
 use Rattle.std.specs.Cmp.Lexicographic.{pointwise}
 use Rattle.std.specs.Str.{chars, IsUtf8, encode_utf8_all}
+use Rattle.std.proofs.lemmas.Bool.{eqb-true}
+use Rattle.std.proofs.lemmas.List.{nil_from_length}
 use Rattle.std.proofs.lemmas.Slice.Eq.{bytes_eq-Decides}
 use Rattle.std.proofs.lemmas.Str.{encodes-chars}
 use Rattle.lexical.specs.Token as tokens
@@ -150,3 +152,59 @@ after_same (t ∷ trees) others after r outer new none is end pop = absurd (omeg
 pub after_less : (trees : List TokenTree) (after : Lists) (outer new : List Lists)
     → outer ≡ new ++ after ∷ [] → left_count after.trees.now new < left_count trees outer
 after_less trees after outer new pop = rw pop (omega (arith, rests_count-push new after))
+
+-- the other list ends first, so what is left is not the same
+pub uneven_other : (trees others : List TokenTree) (t : TokenTree) (after : List TokenTree) (outer : List Lists)
+    → trees ≡ t ∷ after → length others ≡ 0 → LeftSame trees others outer → ⊥
+uneven_other trees [] t after outer whole none h =
+    let first = rw whole at h.0 in not_nil t (forest after) (sym first)
+uneven_other trees (u ∷ others) t after outer whole none h = absurd (omega (arith, none))
+
+-- a push that failed
+pub pushed_not : {E X : Type 0} (r : Result (Unit {0}) E) (b : Bool) (new xs ys : List X) → b ≡ is_ok r → b ≡ false
+    → new ≡ (if is_ok r then xs else ys) → new ≡ ys
+pushed_not (Ok u) b new xs ys e t p = cc
+pushed_not (Err x) b new xs ys e t p = p
+
+-- there are no trees inside the first ones
+pub both_empty : (within within-other : List TokenTree) (r s : Bool) → r ≡ nat_eq (length within) 0 → r ≡ true
+    → s ≡ nat_eq (length within-other) 0 → s ≡ true → Same (forest within) (forest within-other)
+both_empty within within-other r s is empty is-other empty-other =
+    let first = nil_from_length within (eqb-true _ _ (sym is ∙ empty)) in
+    let other = nil_from_length within-other (eqb-true _ _ (sym is-other ∙ empty-other)) in
+    rw (first, other) refl
+
+module _ (trees others after after-other : List TokenTree) (t u : TokenTree) (whole : trees ≡ t ∷ after)
+    (whole-other : others ≡ u ∷ after-other) where
+  alike_of : (outer : List Lists) → LeftSame trees others outer → Alike t u (forest after) (forest after-other)
+  alike_of outer h = (same-before t u (forest after) (forest after-other)).0 (rw (whole, whole-other) at h.0)
+
+  -- the first trees do not begin alike
+  pub apart : (r : Bool) (outer : List Lists) → IsTrue r ↔ (first_event t ≡ first_event u) → r ≡ false
+      → LeftSame trees others outer → ⊥
+  apart r outer alike other h = let yes : r ≡ true = alike.1 (alike_of outer h).0 in cc
+
+  module _ (within within-other : List TokenTree) (into : forest within ≡ inside t)
+      (into-other : forest within-other ≡ inside u) where
+    -- the trees inside the first ones are not the same
+    pub apart_inside : (r : Bool) (outer : List Lists) → IsTrue r ↔ Same (forest within) (forest within-other)
+        → r ≡ false → LeftSame trees others outer → ⊥
+    apart_inside r outer is other h =
+        let inner : Same (forest within) (forest within-other) = rw (into, into-other) (alike_of outer h).1 in
+        let yes : r ≡ true = is.1 inner in cc
+
+    -- the trees inside the first ones are the same, and those after them are compared next
+    pub passed_same : (r : Bool) (outer new : List Lists) → IsTrue r ↔ (first_event t ≡ first_event u) → IsTrue r
+        → Same (forest within) (forest within-other) → new ≡ outer
+        → LeftSame trees others outer ↔ LeftSame after after-other new
+    passed_same r outer new alike same inner kept =
+        let first = same-before t u (forest after) (forest after-other) in
+        let both : Same (inside t) (inside u) = rw (into, into-other) at inner in
+        rw (whole, whole-other, kept) (
+          λ h. ((first.0 h.0).2, h.1),
+          λ h. (first.1 (alike.0 same, both, h.0), h.1),
+        )
+
+pub passed_less : (trees after : List TokenTree) (t : TokenTree) (outer new : List Lists) → trees ≡ t ∷ after
+    → new ≡ outer → left_count after new < left_count trees outer
+passed_less trees after t outer new whole kept = rw (whole, kept) (omega (arith, count-before t (forest after)))

@@ -1,15 +1,19 @@
 -- What is left to check, in the test whether trees are well spaced.
 use Rattle.std.proofs.Common.{◌≡◌, ℕ, ◌&&◌, Bool, true, false, List, [], ◌∷◌, refl, sym, ap, ◌∙◌}
+use Rattle.std.proofs.Common.{Bor, None, Option, Some, option_copied}
+use Rattle.std.specs.List.{slice_get}
 use Rattle.lexical.specs.Token.{Token, Name, Mark, Literal}
 use Rattle.pm_stream.specs.Forest.{Forest, nil, leaf, group}
 use Rattle.pm_stream.specs.InOrder.{token_tree}
 use Rattle.pm_stream.specs.Shown.{is_shown}
 use Rattle.pm_stream.specs.SpacedTree.{step_fits, tree_fits}
 use Rattle.pm_stream.specs.Steps.{Step, Leave, steps, steps_onto}
-use Rattle.pm_stream.specs.Trees.{forest}
+use Rattle.pm_stream.specs.Trees.{before, forest}
 use Rattle.pm_stream.specs.WellSpaced.{fits, next_token, well_spaced}
 use Rattle.pm_stream.specs.declared.stream.Group.{Group as Grouped}
 use Rattle.pm_stream.specs.declared.stream.TokenTree.{TokenTree}
+use Rattle.pm_stream.specs.declared.stream.TokenTree.TheVariants as trees
+use Rattle.pm_stream.specs.declared.stream.TokenTree.TheVariants.{Group, Ident, Punct}
 use Rattle.pm_stream.proofs.StepLemmas.{PassesOver}
 
 -- whether the steps that are left fit
@@ -58,3 +62,21 @@ pub spaced_over : (was old new : List Step) (g : Grouped) (after : Forest) (insi
     → inner ≡ well_spaced (forest inside) → left_spaced was ≡ (inner && left_spaced new)
 spaced_over was old new g after inside shown inner same over is_group holds into is =
     rw (← same, over, ← is_group, holds, is, into) (left_spaced-onto g.stream (Leave g after ∷ new))
+
+-- ---- the next token
+
+next_before : (t : TokenTree) (rest : Forest) → next_token (before t rest) ≡ next_token (before t nil)
+next_before (Group g) rest = refl
+next_before (Ident i) rest = refl
+next_before (Punct p) rest = refl
+next_before (trees.Literal l) rest = refl
+
+-- the first tree is the next token, if it is a token
+pub first_is : (ts : List TokenTree) (first : Option (Bor TokenTree)) (x : Bor TokenTree) (t : TokenTree)
+    → option_copied first ≡ slice_get ts 0 → first ≡ Some x → x.now ≡ t
+    → next_token (forest ts) ≡ next_token (before t nil)
+first_is [] first x t value is now =
+    let e : ◌≡◌ {A = Option TokenTree} (Some x.now) None = ap option_copied (sym is) ∙ value in absurd cc
+first_is (u ∷ ts) first x t value is now =
+    let e : ◌≡◌ {A = Option TokenTree} (Some x.now) (Some u) = ap option_copied (sym is) ∙ value in
+    let same : u ≡ t = cc in rw same (next_before t (forest ts))

@@ -1,4 +1,5 @@
 pub mod CodeReadLemmas
+pub mod UnescapedLemmas
 pub mod ContentLemmas
 pub mod CookedValueLemmas
 pub mod DigitLemmas

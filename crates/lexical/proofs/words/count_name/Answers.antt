@@ -2,7 +2,7 @@ use Rattle.std.proofs.Common.{◌+◌, ◌-◌, length, take, drop, ap, ◌∙�
 use Rattle.std.proofs.lemmas.List.{take_rest}
 use Rattle.lexical.specs.Finder.{while_front}
 use Rattle.lexical.specs.declared.bytes.Class.TheVariants.{IdentifierContinue}
-use Rattle.lexical.proofs.LaneLemmas.{continues, goes_on}
+use Rattle.lexical.proofs.LaneLemmas.{continues, ends_here, goes_on}
 use Rattle.lexical.proofs.FastNumberLemmas.{run_within}
 use Rattle.lexical.proofs.words.count_name.Goals as goal
 
@@ -37,3 +37,10 @@ returns c =
     ap (λ m. n + m)
     (c.count_ascii.ensures ∙ ap (λ x. length (while_front continues x)) (take_rest c.args.bytes.now n))
     ∙ c.loop-word.invariant.1
+
+pub returns-in-Some-count_in_word : goal.returns-in-Some-count_in_word
+returns-in-Some-count_in_word c =
+    ends_here continues c.args.bytes.now _ c.in-Some.word.now c.loop-word.count _
+    (take_rest c.args.bytes.now c.loop-word.count) c.in-Some.ensures.cases.same
+    c.in-Some-count_in_word.ensures.some c.loop-word.invariant.0 c.loop-word.invariant.1
+    c.in-Some-count_in_word.ensures.few

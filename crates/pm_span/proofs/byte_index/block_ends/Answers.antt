@@ -1,6 +1,7 @@
-use Rattle.std.proofs.Common.{◌≡◌, ◌+◌, ◌*◌, ◌-◌, ◌<◌, ℕ, List, length, drop, get_or, sym, ap, subst, ◌∙◌, arith}
+use Rattle.std.proofs.Common.{◌≡◌, ◌+◌, ◌*◌, ◌-◌, ◌<◌, ℕ, List, length, drop, get_or, refl, sym, ap, subst, ◌∙◌, arith}
 use Rattle.std.specs.Str.{chars}
 use Rattle.std.proofs.lemmas.List.{drop-drop, length_push}
+use Rattle.std.proofs.lemmas.Result.{err_from_is_err_and}
 use Rattle.pm_span.specs.ByteIndex.{IsByteOffset}
 use Rattle.pm_span.proofs.ByteOffsetLemmas.{block_more}
 use Rattle.pm_span.proofs.SeamLemmas.{rest_bytes}
@@ -46,3 +47,26 @@ loop-preserved c =
           → IsByteOffset (chars text) (64 * (block + 1)) (get_or ends block 0))
           (sym c.in_ok-push.ensures.items) (block_more ends (length text - length rest) c.loop.invariant.each last);
     }
+
+pub loop-init : goal.loop-init
+loop-init c = record {
+  utf8 = c.utf8.text;
+  left = refl;
+  count = ap length c.in_ok-ends.ensures.items;
+  each = λ block less. absurd (omega (arith, ap length c.in_ok-ends.ensures.items, less));
+}
+
+pub returns-in_err-ends : goal.returns-in_err-ends
+returns-in_err-ends c =
+    let p = err_from_is_err_and c.from_residual.result c.from_residual.ensures.1 in rw p.1 tt
+
+pub returns-in_err-push : goal.returns-in_err-push
+returns-in_err-push c =
+    let failed = c.from_residual-in_err-push in
+    let p = err_from_is_err_and failed.result failed.ensures.1 in rw p.1 tt
+
+pub returns : goal.returns
+returns c = record {
+  each = c.loop.invariant.each;
+  all = omega (arith, c.requires, c.loop-test.false, c.loop.invariant.count);
+}

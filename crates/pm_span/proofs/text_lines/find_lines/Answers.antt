@@ -3,6 +3,7 @@ use Rattle.std.proofs.Common.{append_assoc, append-nil, Option, Some, None, IfSo
 use Rattle.std.specs.Borrow.{Bor}
 use Rattle.std.specs.Option.{MatchOption}
 use Rattle.std.proofs.lemmas.Option.{none-some, same_Some}
+use Rattle.std.proofs.lemmas.Result.{err_from_is_err_and}
 use Rattle.std.specs.Str.{chars, IsUtf8}
 use Rattle.pm_span.specs.LineIndex.{after_line_feeds_from}
 use Rattle.pm_span.specs.Line.{is_one_line}
@@ -64,3 +65,24 @@ returns-in-None-clause-starts c =
     (after_line_feeds_from-line c.loop-after.start (chars c.loop-after.rest.now) last.0)
     ∙ append-nil c.loop-after.starts.items)
     ∙ c.loop-after.invariant.starts
+
+pub loop-after-init : goal.loop-after-init
+loop-after-init c = record {
+  utf8 = c.utf8.text;
+  count = omega arith;
+  starts = ap (λ xs. xs ++ after_line_feeds_from 0 (chars c.args.text.now)) c.new-starts.ensures.items;
+}
+
+pub returns-in_err-push-in-Some-clause-starts : goal.returns-in_err-push-in-Some-clause-starts
+returns-in_err-push-in-Some-clause-starts c =
+    let p = err_from_is_err_and c.from_residual.result c.from_residual.ensures.1 in rw p.1 tt
+
+pub returns-in_err-push-in-Some-clause-count : goal.returns-in_err-push-in-Some-clause-count
+returns-in_err-push-in-Some-clause-count c =
+    let p = err_from_is_err_and c.from_residual.result c.from_residual.ensures.1 in rw p.1 tt
+
+pub returns-in-None-clause-count : goal.returns-in-None-clause-count
+returns-in-None-clause-count c =
+    let last = is_last c.loop-after.rest.now c.first_line-count.result.split c.first_line-count.result.count
+    c.in-None.is c.first_line-count.ensures.split c.first_line-count.ensures.count in
+    omega (arith, c.loop-after.invariant.count, last.1)

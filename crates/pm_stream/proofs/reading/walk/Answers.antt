@@ -1,4 +1,5 @@
 use Rattle.std.proofs.Common.{refl, arith, rules}
+use Rattle.std.proofs.lemmas.Result.{IfOk-from_err}
 use Rattle.std.specs.Str.{chars}
 use Rattle.lexical.proofs.PieceFacts.{piece_boundary}
 use Rattle.pm_stream.specs.declared.reading.Lexed.{Lexed}
@@ -68,3 +69,37 @@ loop-piece-preserved g c =
           (not_whole lexed h found utf8 (omega (arith, c.loop-piece.invariant.left)) cut white c.args.text.now _
           c.utf8.text c.past_white-white.ensures.utf8 refl refl) c.white.ensures;
     }
+
+pub returns-in_err-take-clause-reads : goal.returns-in_err-take-clause-reads
+returns-in_err-take-clause-reads g c =
+    IfOk-from_err c.from_residual.result _ c.from_residual.ensures.0
+
+pub returns-in_err-take-clause-stops : goal.returns-in_err-take-clause-stops
+returns-in_err-take-clause-stops g c =
+    IfOk-from_err c.from_residual.result _ c.from_residual.ensures.0
+
+pub returns-in_err-take-clause-left : goal.returns-in_err-take-clause-left
+returns-in_err-take-clause-left g c =
+    IfOk-from_err c.from_residual.result _ c.from_residual.ensures.0
+
+pub returns-then-not-branch-clause-reads : goal.returns-then-not-branch-clause-reads
+returns-then-not-branch-clause-reads g c =
+    let kept = c.in_ok-take.ensures.stray c.if-not-branch.true in
+    rw (kept.0, kept.1) c.loop-piece.invariant.reads
+
+pub returns-then-not-branch-clause-stops : goal.returns-then-not-branch-clause-stops
+returns-then-not-branch-clause-stops g c =
+    let kept = c.in_ok-take.ensures.stray c.if-not-branch.true in
+    (c.in-Some.ensures.found, rw kept.1 kept.2)
+
+pub returns-then-not-branch-clause-left : goal.returns-then-not-branch-clause-left
+returns-then-not-branch-clause-left g c = c.loop-piece.invariant.left
+
+pub returns-clause-reads : goal.returns-clause-reads
+returns-clause-reads g c = c.loop-piece.invariant.reads
+
+pub returns-clause-stops : goal.returns-clause-stops
+returns-clause-stops g c = c.in_default.ensures.none
+
+pub returns-clause-left : goal.returns-clause-left
+returns-clause-left g c = c.loop-piece.invariant.left

@@ -22,3 +22,11 @@ pub loop-last-preserved : goal.loop-last-preserved
 loop-last-preserved c =
     takes_tree _ _ _ c.pop-in-Some.result c.in-Some-Literal-pop.field-0 c.loop-last.invariant
     c.pop-in-Some.ensures.items c.in-Some-Literal-pop.is
+
+pub returns : goal.returns
+returns c = c.loop-last.invariant
+
+pub loop-last-preserved-in-Some-Ident-pop : goal.loop-last-preserved-in-Some-Ident-pop
+loop-last-preserved-in-Some-Ident-pop c =
+    takes_tree _ _ _ c.pop-in-Some.result c.in-Some-Ident-pop.field-0 c.loop-last.invariant c.pop-in-Some.ensures.items
+    c.in-Some-Ident-pop.is
