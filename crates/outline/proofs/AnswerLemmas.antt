@@ -1,5 +1,8 @@
 -- Texts that are read into a buffer, with a map of their own.
-use Rattle.std.proofs.Common.{◌≡◌, ◌∙◌, refl, sym, subst, ℕ, List, None, length}
+use Rattle.std.proofs.Common.{◌≡◌, ◌∙◌, ◌+◌, ◌<◌, ◌≤◌, refl, sym, ap, subst, ℕ, List, ◌++◌, None, append_assoc}
+use Rattle.std.proofs.Common.{append-nil, drop, get_or, length, map}
+use Rattle.std.proofs.lemmas.List.{at_drop_all, at_drop_more}
+use Rattle.std.specs.Option.{option_to_list}
 use Rattle.std.specs.declared.alloc.AllocError.{AllocError}
 use Rattle.pm_span.specs.Extent.{Extent}
 use Rattle.pm_span.specs.Files.{Files, Fits, Holds, new_map, next_lo, with_file}
@@ -22,9 +25,11 @@ use Rattle.messages.specs.Parsed.{MayFail, first}
 use Rattle.messages.specs.declared.errors.Failure.{Failure}
 use Rattle.messages.specs.declared.errors.Failure.TheVariants.{Fault, MapFull as TooLong, Memory as NoMemory}
 use Rattle.messages.proofs.ParsedLemmas.{Keeps-same}
-use Rattle.outline.specs.Answer.{IsUnlisted, Lists, lines_of}
+use Rattle.outline.specs.Answer.{IsUnlisted, Lists, lines_of, shown_line}
 use Rattle.outline.specs.Levels.{trees_left}
-use Rattle.outline.specs.Outline.{IsTreesOutline, Outline, entries_of}
+use Rattle.outline.specs.Line.{line_of}
+use Rattle.outline.specs.Outline.{IsTreesOutline, Outline, entries_of, entry_of_value}
+use Rattle.outline.specs.declared.entries.Entry.{Entry}
 use Rattle.outline.specs.declared.options.Form.{Form}
 use Rattle.outline.proofs.LevelLemmas.{forest-trees_in}
 
@@ -80,3 +85,26 @@ buffer_unlisted text trees begin parses is never = record {
   parses = begin_parses text trees begin parses is;
   never = never;
 }
+
+-- the lines so far and those of the entries that are left are the same lines after one more entry
+pub lines_entry : (form : Form) (path text : List ℕ) (entries : List Entry) (k : ℕ) (entry : Entry)
+    (put lines more all : List (List ℕ)) → k < length entries → entry ≡ get_or entries k entry
+    → put ≡ option_to_list (line_of form path (shown_line text (entry_of_value entry))) → more ≡ lines ++ put
+    → lines ++ lines_of form path text (map entry_of_value (drop k entries)) ≡ all
+    → more ++ lines_of form path text (map entry_of_value (drop (k + 1) entries)) ≡ all
+lines_entry form path text entries k entry put lines more all within is so added before =
+    let rest = lines_of form path text (map entry_of_value (drop (k + 1) entries)) in
+    let split : lines_of form path text (map entry_of_value (drop k entries)) ≡ put ++ rest =
+    at_drop_more (λ es. lines_of form path text (map entry_of_value es)) entries k entry within
+    ∙ ap (λ e. option_to_list (line_of form path (shown_line text (entry_of_value e))) ++ rest) (sym is)
+    ∙ ap (λ ls. ls ++ rest) (sym so) in
+    ap (λ ls. ls ++ rest) added ∙ append_assoc lines put rest ∙ ap (λ ls. lines ++ ls) (sym split) ∙ before
+
+-- the lines are all lines once no entry is left
+pub lines_end : (form : Form) (path text : List ℕ) (entries : List Entry) (k : ℕ) (lines all : List (List ℕ))
+    → length entries ≤ k → lines ++ lines_of form path text (map entry_of_value (drop k entries)) ≡ all
+    → lines ≡ all
+lines_end form path text entries k lines all past before =
+    sym (append-nil lines)
+    ∙ ap (λ ls. lines ++ ls) (sym (at_drop_all (λ es. lines_of form path text (map entry_of_value es)) entries k past))
+    ∙ before

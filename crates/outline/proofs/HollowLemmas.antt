@@ -304,6 +304,13 @@ real_qualifiers trees from rest is q =
       ends = (r.front, r.read.whole);
     }
 
+-- trees end in one way with others that are as many. The others are compared without most of what is in their groups
+same_after : (trees after rest : List TokenTree) → GoesTo trees after → GoesTo trees rest
+    → map hollow rest ≡ map hollow after → after ≡ rest
+same_after trees after rest ends ends2 is =
+    same_end trees after rest ends ends2
+    (sym (length-map after hollow) ∙ (ap length (sym is) ∙ length-map rest hollow))
+
 -- an item of hollow trees has the kind and the name of the item that they are made from
 pub real_kind : (form : List SignClass → List SignClass → Type 0) (trees part rest : List TokenTree) (kind : ItemKind)
     (name : Option Name) → Reads form trees part rest → HasKind (map hollow trees) (map hollow rest) kind name
@@ -316,10 +323,7 @@ real_kind form trees part rest kind name reads h =
     let i = real_up_to (named_rule kind) k.after h.from_name (map hollow rest) k.after_is h.item in
     let ends = ends_on trees a.after i.after a.ends (ends_on a.after v.after i.after v.ends
     (ends_on v.after q.after i.after q.ends (ends_on q.after k.after i.after k.ends i.ends))) in
-    let hollow_size : length (map hollow i.after) ≡ length (map hollow rest) = ap length (sym i.after_is) in
-    let size : length i.after ≡ length rest =
-    sym (length-map i.after hollow) ∙ (hollow_size ∙ length-map rest hollow) in
-    let same : i.after ≡ rest = same_end trees i.after rest ends (part, reads.whole) size in
+    let same : i.after ≡ rest = same_after trees i.after rest ends (part, reads.whole) i.after_is in
     record {
       from_visibility = a.after;
       from_qualifiers = v.after;
@@ -329,7 +333,7 @@ real_kind form trees part rest kind name reads h =
       visibility = v.read;
       qualifiers = q.read;
       keyword = k.read;
-      item = subst (ReadsUpTo (named_rule kind) k.after) same i.read;
+      item = subst (ReadsUpTo (named_rule kind) k.after) {x = i.after} same i.read;
       is_name = h.is_name ∙ (ap (name_at kind) k.after_is ∙ hollow_name_at kind k.after);
     }
 
