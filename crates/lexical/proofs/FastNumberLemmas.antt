@@ -157,9 +157,9 @@ name_end text b n next is after plain starts size low =
     (ap (ascii_in classes.IdentifierStart) (sym is) ∙ sym starts) size
     (ltb-true _ 128 (ap (λ c. nat_lt c 128) (sym after) ∙ sym low))
 
-pub first_low : (text : List ℕ) (b : ℕ) → b ≡ get_or text 0 32 → true ≡ ascii_in classes.IdentifierStart b
-    → get_or text 0 32 < 128
-first_low text b is starts = ltb-true _ 128 (ap (λ c. nat_lt c 128) (sym is) ∙ (and_parts _ _ (sym starts)).0)
+-- a byte of a class is below 128
+pub first_low : (class : Class) (byte b : ℕ) → byte ≡ b → true ≡ ascii_in class byte → b < 128
+first_low class byte b is h = ltb-true b 128 (and_parts _ _ (ap (ascii_in class) (sym is) ∙ sym h)).0
 
 -- ---- floats
 

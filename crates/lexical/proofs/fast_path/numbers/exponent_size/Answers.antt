@@ -1,11 +1,12 @@
-use Rattle.std.proofs.Common.{◌≡◌, ◌-◌, ◌<◌, ◌≤◌, ℕ, List, [], ◌∷◌, true, false, length, get_or, take, drop, refl}
+use Rattle.std.proofs.Common.{◌≡◌, ◌-◌, ◌≤◌, ℕ, List, [], ◌∷◌, true, false, length, get_or, take, drop, refl}
 use Rattle.std.proofs.Common.{sym, ap, ◌∙◌, arith}
-use Rattle.std.proofs.lemmas.Bool.{and_parts, both_ways, ltb-true}
+use Rattle.std.proofs.lemmas.Bool.{both_ways}
 use Rattle.std.proofs.lemmas.List.{take_rest}
 use Rattle.lexical.specs.Bytes.{ascii_in}
 use Rattle.lexical.specs.declared.bytes.Class.{Class}
 use Rattle.lexical.specs.declared.bytes.Class.TheVariants as classes
 use Rattle.lexical.proofs.FastExponentLemmas.{signed_read, unsigned_read}
+use Rattle.lexical.proofs.FastNumberLemmas.{first_low}
 use Rattle.lexical.proofs.fast_path.numbers.exponent_size.Goals as goal
 
 pub returns-then-holds_ascii-clause-exponent : goal.returns-then-holds_ascii-clause-exponent
@@ -41,12 +42,9 @@ slice_bounds-exponent_digits_size-count c =
 pub returns-in_err-exponent_digits_size-clause-exponent : goal.returns-in_err-exponent_digits_size-clause-exponent
 returns-in_err-exponent_digits_size-clause-exponent c = rw c.from_residual.ensures tt
 
-low_first : (class : Class) (byte b : ℕ) → byte ≡ b → true ≡ ascii_in class byte → b < 128
-low_first class byte b is h = ltb-true b 128 (and_parts _ _ (ap (ascii_in class) (sym is) ∙ sym h)).0
-
 pub returns-clause-ascii : goal.returns-clause-ascii
-returns-clause-ascii c = low_first classes.ExponentLetter _ _ c.byte_at.ensures c.if-not-holds_ascii.ensures
+returns-clause-ascii c = first_low classes.ExponentLetter _ _ c.byte_at.ensures c.if-not-holds_ascii.ensures
 
 pub returns-then-holds_ascii-clause-ascii : goal.returns-then-holds_ascii-clause-ascii
 returns-then-holds_ascii-clause-ascii c =
-    low_first classes.ExponentLetter _ _ c.byte_at.ensures c.if-not-holds_ascii.ensures
+    first_low classes.ExponentLetter _ _ c.byte_at.ensures c.if-not-holds_ascii.ensures

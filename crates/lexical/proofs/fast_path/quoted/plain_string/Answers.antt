@@ -1,5 +1,6 @@
-use Rattle.std.proofs.Common.{◌≡◌, ◌<◌, ℕ, zero, suc, List, [], ◌∷◌, length, get_or, ◌∙◌, sym, ap, arith}
+use Rattle.std.proofs.Common.{◌<◌, length, ◌∙◌, sym, ap, arith}
 use Rattle.lexical.proofs.FastLiteralLemmas.{ends}
+use Rattle.lexical.proofs.FastNumberLemmas.{byte_within}
 use Rattle.lexical.proofs.FastStringLemmas.{short_string}
 use Rattle.lexical.proofs.fast_path.quoted.plain_string.Goals as goal
 
@@ -10,24 +11,14 @@ returns-then-ends_literal c =
     (ap ends (sym c.byte_at-then-byte_at-eq34.ensures) ∙ sym c.if-ends_literal.ensures)
     c.ascii_extent.ensures.bytes c.ascii_extent.ensures.chars
 
--- there is a byte where a quote stands
-within_of : (bytes : List ℕ) (i : ℕ) → get_or bytes i 32 ≡ 34 → i < length bytes
-within_of [] zero h = absurd (omega (arith, h))
-within_of [] (suc i) h = absurd (omega (arith, h))
-within_of (b ∷ bytes) zero h = omega arith
-within_of (b ∷ bytes) (suc i) h = omega (arith, within_of bytes i h)
-
-within : (bytes : List ℕ) (i stop : ℕ) → stop ≡ get_or bytes i 32 → stop ≡ 34 → i < length bytes
-within bytes i stop is quote = within_of bytes i (sym is ∙ quote)
-
 pub overflow_add-stretch : goal.overflow_add-stretch
 overflow_add-stretch c =
     let low : c.args.stretch < length c.as_bytes-bytes.result.now =
-    within _ c.args.stretch _ c.byte_at.ensures c.if-byte_at-eq34.true in
+    byte_within _ c.args.stretch _ 34 c.byte_at.ensures c.if-byte_at-eq34.true (λ e. omega (arith, e)) in
     omega (arith, low, c.as_bytes-bytes.ensures.len)
 
 pub overflow_add-stretch-then-ends_literal : goal.overflow_add-stretch-then-ends_literal
 overflow_add-stretch-then-ends_literal c =
     let low : c.args.stretch < length c.as_bytes-bytes.result.now =
-    within _ c.args.stretch _ c.byte_at.ensures c.if-byte_at-eq34.true in
+    byte_within _ c.args.stretch _ 34 c.byte_at.ensures c.if-byte_at-eq34.true (λ e. omega (arith, e)) in
     omega (arith, low, c.as_bytes-bytes.ensures.len)
