@@ -1,12 +1,14 @@
 -- Items one after the other, files, and the errors of files.
-use Rattle.std.proofs.Common.{◌≡◌, refl, sym, ◌∙◌, ap, subst, ℕ, ◌+◌, ◌<◌, ◌≤◌, ◌==◌, false, List, []}
-use Rattle.std.proofs.Common.{Result, Ok, Err, IfErr}
+use Rattle.std.proofs.Common.{◌≡◌, refl, sym, ◌∙◌, ap, subst, ℕ, ◌+◌, ◌-◌, ◌<◌, ◌≤◌, ◌==◌, false, true, List, []}
+use Rattle.std.proofs.Common.{Result, Ok, Err, IfErr, eqb-true, inr}
 use Rattle.std.proofs.Common.{◌∷◌, ◌++◌, length, drop, arith, append_assoc}
 use Rattle.std.proofs.Math.Seq.{drop-append-add}
 use Rattle.std.proofs.lemmas.List.{length-append}
 use Rattle.pm_stream.specs.declared.stream.TokenTree.{TokenTree}
+use Rattle.declarations.specs.Expected.{Expects}
 use Rattle.declarations.specs.Fault.{first_extent, extent_at}
-use Rattle.declarations.specs.File.{AreItems, AreItemsBefore, IsFile, braces, last_braces}
+use Rattle.declarations.specs.declared.expected.Expected.{Expected}
+use Rattle.declarations.specs.File.{AreItems, AreItemsBefore, FileFaultAt, IsFile, braces, last_braces}
 use Rattle.declarations.specs.Forms.{AreInnerAttributes, IsAnyItem}
 use Rattle.declarations.specs.Reading.{FaultAt, Reads}
 use Rattle.declarations.specs.Whole.{ReadsAll}
@@ -105,6 +107,37 @@ fault_extent trees items left within at up counted =
     let count : length up.front + within ≡ at = omega arith in
     ap first_extent (sym (drop-append-add up.front left within) ∙ ap (λ n. drop n (up.front ++ left)) count
     ∙ ap (drop at) (sym up.whole))
+
+-- after the last item the trees are items
+pub all_read : (trees items left : List TokenTree) → ReadUpTo trees items left → true ≡ (length left == 0)
+    → AreItems items
+all_read trees items [] up none = (up.parts, up.before)
+all_read trees items (tree ∷ left) up none =
+    let count = eqb-true (length (tree ∷ left)) 0 (sym none) in absurd (omega (arith, count))
+
+-- the error of the first item that cannot be read
+pub item_fault : (trees inner items left : List TokenTree) (within at : ℕ) (set : Expected)
+    → Reads AreInnerAttributes trees inner items → ReadUpTo trees items left → 0 < length left
+    → FaultAt IsAnyItem left within → Expects IsAnyItem left within set
+    → at ≡ length trees - length left + within
+    → FileFaultAt trees at set
+item_fault trees inner items left within at set reads up more fault expected counted =
+    let sum : length trees ≡ length up.front + length left = ap length up.whole ∙ length-append up.front left in
+    inr (record {
+      inner = inner;
+      items = items;
+      inner_read = reads;
+      parts = up.parts;
+      front = up.front;
+      left = left;
+      before = up.before;
+      whole = up.whole;
+      more = some_left left more;
+      within = within;
+      fault = fault;
+      expected = expected;
+      counted = omega arith;
+    })
 
 -- if an item has an error, then the trees are no file
 pub not_file : (trees inner items left inner2 items2 : List TokenTree) (within : ℕ)

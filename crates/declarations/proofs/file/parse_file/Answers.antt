@@ -1,7 +1,9 @@
-use Rattle.std.proofs.Common.{◌∙◌, ◌≤◌, List, length, arith}
+use Rattle.std.proofs.Common.{◌∙◌, ◌≤◌, List, length, arith, subst, sym}
 use Rattle.pm_stream.specs.declared.stream.TokenTree.{TokenTree}
+use Rattle.declarations.specs.Expected.{Expects}
 use Rattle.declarations.specs.File.{IsFile}
-use Rattle.declarations.proofs.FileLemmas.{any_err, fault_extent, left_fits, none_read, not_empty}
+use Rattle.declarations.specs.Forms.{IsAnyItem}
+use Rattle.declarations.proofs.FileLemmas.{all_read, any_err, fault_extent, item_fault, left_fits, none_read, not_empty}
 use Rattle.declarations.proofs.FileLemmas.{not_file, one_read}
 use Rattle.declarations.proofs.file.parse_file.Goals as goal
 
@@ -32,3 +34,25 @@ returns-in-Err-clause-none c = λ inner items.
     not_file c.args.trees.now c.in_ok-inner.inner.now c.in_ok-inner.items.now c.loop-left.left.now inner items
     c.in-Err.fault.at c.in_ok-inner.ensures.ok c.loop-left.invariant
     (not_empty c.loop-left.left.now c.loop-left-test.ensures) c.in-Err.ensures.fault
+
+pub loop-left-smaller : goal.loop-left-smaller
+loop-left-smaller c = c.in-Ok.ensures.fewer
+
+pub overflow_sub-at : goal.overflow_sub-at
+overflow_sub-at c =
+    left_fits c.args.trees.now c.in_ok-inner.items.now c.loop-left.left.now c.loop-left.invariant
+
+pub returns-in-Err-clause-fault : goal.returns-in-Err-clause-fault
+returns-in-Err-clause-fault c =
+    item_fault c.args.trees.now c.in_ok-inner.inner.now c.in_ok-inner.items.now c.loop-left.left.now
+    c.in-Err.fault.at c.after.result.at c.after.result.expected c.in_ok-inner.ensures.ok c.loop-left.invariant
+    (not_empty c.loop-left.left.now c.loop-left-test.ensures) c.in-Err.ensures.fault
+    (subst (Expects IsAnyItem c.loop-left.left.now c.in-Err.fault.at) (sym c.after.ensures.expected)
+    c.in-Err.ensures.expected) c.after.ensures.at
+
+pub returns-clause-ok : goal.returns-clause-ok
+returns-clause-ok c = record {
+  inner_read = c.in_ok-inner.ensures.ok;
+  are_items = all_read c.args.trees.now c.in_ok-inner.items.now c.loop-left.left.now c.loop-left.invariant
+      c.loop-left-test.ensures;
+}
