@@ -65,8 +65,8 @@ TEST_ITEMS = set('''
     test::Fail
 '''.split())
 TEST_METHODS = set('''
-    as_deref char_indices collected enumerate err expect or repeated sort split_at_checked trim_start_matches
-    zip
+    as_deref char_indices collected enumerate err expect or repeated rsplit rsplit_once sort split_at_checked
+    trim_start trim_start_matches zip
 '''.split())
 TEST_MACROS = {'assert', 'assert_eq', 'vec'}
 

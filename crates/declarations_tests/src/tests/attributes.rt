@@ -1,10 +1,8 @@
 // Attributes, and the trees in their brackets.
-use crate::tests::checks::{
-    Reads, check, check_stream, in_group, in_groups, parsed, put_parts, separate,
-};
+use crate::tests::checks::{Answer, Reads, check, check_text, check_trees, in_group, parsed};
 use declarations::{Attribute, AttributeArgs, Attributes};
 use proc_macro2::{Delimiter, TokenTree};
-use std::alloc::AllocError;
+use test_helpers::release;
 
 /// The attributes that the trees begin with, and the number of trees that are left after them.
 ///
@@ -17,62 +15,62 @@ struct Front<'a> {
 
 impl Front<'_> {
     /// Writes one attribute.
-    fn put_attribute(&self, out: &mut String, attribute: Attribute<'_>) -> Result<(), AllocError> {
-        write!(out, "path {}", attribute.path().len())?;
+    fn put_attribute(&self, out: &mut Answer, attribute: Attribute<'_>) {
+        out.count("path", attribute.path().len());
         match attribute.args() {
             AttributeArgs::Nothing => {}
             AttributeArgs::Group(group) => {
-                write!(out, ", group {}", group.stream_ref().trees().len())?;
+                out.count(", group", group.stream_ref().trees().len());
             }
-            AttributeArgs::Value(value) => write!(out, ", value {}", value.len())?,
-            AttributeArgs::Other(_, trees) => write!(out, ", other {}", trees.len())?,
+            AttributeArgs::Value(value) => out.count(", value", value.len()),
+            AttributeArgs::Other(_, trees) => out.count(", other", trees.len()),
         }
-        if attribute.is_inner() {
-            write!(out, ", inner")?;
-        }
+        out.flag("inner", attribute.is_inner());
         if attribute.is(self.word) {
-            write!(out, ", is {}", self.word)?;
+            out.text(", is ");
+            out.text(self.word);
         }
-        if attribute.doc().is_some() {
-            write!(out, ", text")?;
-        }
-        Ok(())
+        out.flag("text", attribute.doc().is_some());
     }
 }
 
 impl Reads for Front<'_> {
-    fn put(&self, trees: &[TokenTree], out: &mut String) -> Result<(), AllocError> {
+    fn put(&self, trees: &[TokenTree], out: &mut Answer) {
         let mut attributes = Attributes::new(trees);
         // There are fewer attributes than trees, so the iterator is also asked after the last attribute.
         for _ in trees {
             if let Some(attribute) = attributes.next() {
-                separate(out)?;
-                self.put_attribute(out, attribute)?;
+                out.separate();
+                self.put_attribute(out, attribute);
             }
         }
-        separate(out)?;
-        write!(out, "left {}", attributes.left.len())
+        out.separate();
+        out.count("left", attributes.left.len());
     }
 }
 
 #[test]
 fn an_attribute_has_a_path_and_arguments(rt: HostRuntime) {
+    check_text(
+        &rt,
+        &Front { word: "doc" },
+        "#[test] #[a::b(c, d)] #[e = f + 1] /// g\n #[h {}] pub x",
+        "path 1; path 4, group 3; path 1, value 3; path 1, value 1, is doc, text; path 1, group 0; left 2",
+    );
+    check_text(
+        &rt,
+        &Front { word: "doc" },
+        "#![a] //! b\n #[] #[= c] #[(d) e] # (f)",
+        "path 1, inner; path 1, value 1, inner, is doc, text; path 0; path 0, value 1; path 0, other 1; left 2",
+    );
     check(
         &rt,
         &Front { word: "doc" },
-        &[
-            (
-                "#[test] #[a::b(c, d)] #[e = f + 1] /// g\n #[h {}] pub x",
-                "path 1; path 4, group 3; path 1, value 3; path 1, value 1, is doc, text; path 1, group 0; left 2",
-            ),
-            (
-                "#![a] //! b\n #[] #[= c] #[(d) e] # (f)",
-                "path 1, inner; path 1, value 1, inner, is doc, text; path 0; path 0, value 1; path 0, other 1; left 2",
-            ),
-            ("", "left 0"),
-            ("#", "left 1"),
-            ("#!", "left 2"),
-        ],
+        "
+        => left 0
+        # => left 1
+        #! => left 2
+        ",
     );
 }
 
@@ -81,30 +79,33 @@ fn a_word_is_a_whole_path(rt: HostRuntime) {
     check(
         &rt,
         &Front { word: "getter" },
-        &[(
-            "#[getter(skip)] #[getter::a] #[r#getter] #[getter]",
-            "path 1, group 1, is getter; path 4; path 1; path 1, is getter; left 0",
-        )],
+        "
+        #[getter(skip)] #[getter::a] #[r#getter] #[getter] => \
+            path 1, group 1, is getter; path 4; path 1; path 1, is getter; left 0
+        ",
     );
 }
 
-// Each row is the text in the brackets, the number of groups without delimiters around it, and the answer.
+// Each row is the text in the brackets, and the answer.
 #[test]
 fn what_a_macro_passes_is_looked_through(rt: HostRuntime) {
     let rows = &[
-        ("doc", 1, "path 1, is doc; left 0"),
-        ("doc = \"a\"", 1, "path 1, value 1, is doc, text; left 0"),
-        ("doc = \"a\"", 5, "path 1, value 1, is doc, text; left 0"),
-        ("doc = 1 + 2", 2, "path 1, value 3, is doc; left 0"),
-        ("a::doc(b, c)", 1, "path 4, group 3; left 0"),
-        ("doc(b) c", 2, "path 1, other 1, is doc; left 0"),
-        ("", 1, "path 0; left 0"),
+        ("«doc»", "path 1, is doc; left 0"),
+        ("«doc = \"a\"»", "path 1, value 1, is doc, text; left 0"),
+        (
+            "«««««doc = \"a\"»»»»»",
+            "path 1, value 1, is doc, text; left 0",
+        ),
+        ("««doc = 1 + 2»»", "path 1, value 3, is doc; left 0"),
+        ("«a::doc(b, c)»", "path 4, group 3; left 0"),
+        ("««doc(b) c»»", "path 1, other 1, is doc; left 0"),
+        ("«»", "path 0; left 0"),
     ];
-    for &(text, groups, wanted) in rows {
-        let inside = in_groups(&rt, parsed(&rt, text), groups);
-        let brackets = in_group(&rt, Delimiter::Bracket, inside);
+    for &(text, wanted) in rows {
+        let brackets = in_group(&rt, Delimiter::Bracket, parsed(&rt, text));
         let mut stream = parsed(&rt, "#");
         stream.extend_streams([brackets]).expect(&rt, text);
-        check_stream(&rt, &Front { word: "doc" }, stream, wanted);
+        check_trees(&rt, &Front { word: "doc" }, stream.trees(), text, wanted);
+        release(stream);
     }
 }

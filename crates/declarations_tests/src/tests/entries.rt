@@ -1,29 +1,21 @@
 // The entries of attributes' lists. The crate syn 2 reads each text in the same way, unless a row says otherwise.
-use crate::tests::checks::{
-    HeldText, Reads, check, check_groups, check_stream, held_stream, in_groups, parsed, put_error,
-    put_parts, separate,
-};
+use crate::tests::checks::{Answer, Reads, check};
 use crate::tests::expected::Call;
 use declarations::{
     AttributeArgs, Attributes, Entries, Entry, EntryKind, SignClass, check_entries, parse_entry,
 };
 use proc_macro2::{Group, TokenTree};
-use std::alloc::AllocError;
 
 /// Writes an entry: the trees of its path, and those after it. A literal has no path.
-fn put_entry(out: &mut String, entry: &Entry<'_>) -> Result<(), AllocError> {
-    let path = entry.path.len();
+fn put_entry(out: &mut Answer, entry: &Entry<'_>) {
+    if let EntryKind::Literal(literal) = entry.kind {
+        return out.count("literal", literal.len());
+    }
+    out.count("path", entry.path.len());
     match entry.kind {
-        EntryKind::Path => write!(out, "path {path}"),
-        EntryKind::List(group) => {
-            write!(
-                out,
-                "path {path}, list {}",
-                group.stream_ref().trees().len()
-            )
-        }
-        EntryKind::Value(value) => write!(out, "path {path}, value {}", value.len()),
-        EntryKind::Literal(literal) => write!(out, "literal {}", literal.len()),
+        EntryKind::List(group) => out.count(", list", group.stream_ref().trees().len()),
+        EntryKind::Value(value) => out.count(", value", value.len()),
+        EntryKind::Path | EntryKind::Literal(_) => {}
     }
 }
 
@@ -31,15 +23,14 @@ fn put_entry(out: &mut String, entry: &Entry<'_>) -> Result<(), AllocError> {
 struct EntryList;
 
 impl Reads for EntryList {
-    fn put(&self, trees: &[TokenTree], out: &mut String) -> Result<(), AllocError> {
+    fn put(&self, trees: &[TokenTree], out: &mut Answer) {
         for entry in (Entries { left: trees }) {
-            separate(out)?;
+            out.separate();
             match entry {
-                Ok(entry) => put_entry(out, &entry)?,
-                Err(fault) => put_error(out, &fault)?,
+                Ok(entry) => put_entry(out, &entry),
+                Err(fault) => out.error(&fault),
             }
         }
-        Ok(())
     }
 }
 
@@ -48,41 +39,29 @@ fn each_entry_is_given(rt: HostRuntime) {
     check(
         &rt,
         &EntryList,
-        &[
-            ("", ""),
-            ("skip", "path 1"),
-            ("skip,", "path 1"),
-            ("skip, rename = \"a\"", "path 1; path 1, value 1"),
-            ("a::b::c(d, e), ::f", "path 7, list 3; path 3"),
-            ("a = f::<X, Y>(1, 2) + 3, b", "path 1, value 11; path 1"),
-            ("a = |x, y| x + y, b", "path 1, value 8; path 1"),
-            ("a = if x { 1 } else { 2 }, b", "path 1, value 5; path 1"),
-            (
-                "a = -1, b = !c, d = &e",
-                "path 1, value 2; path 1, value 2; path 1, value 2",
-            ),
-            ("a = x.y[0], b", "path 1, value 4; path 1"),
-            ("a = Vec::<u8>::new(), b", "path 1, value 10; path 1"),
-            (
-                "\"a\", 1, true, b'c'",
-                "literal 1; literal 1; literal 1; literal 1",
-            ),
-            ("-1", "literal 2"),
-            ("unsafe(no_mangle)", "path 1, list 1"),
-            (
-                "self, super::a, crate::b = 1",
-                "path 1; path 4; path 4, value 1",
-            ),
-            ("a(b(c(d = 1)))", "path 1, list 2"),
-            ("a[b], c{d}", "path 1, list 1; path 1, list 1"),
-            ("a = b = c", "path 1, value 3"),
-            ("a = .., b = return", "path 1, value 2; path 1, value 1"),
-            // Paths that are keywords. The crate syn reads them only with its `parse_nested_meta`.
-            (
-                "type, default = 1, where(T: A)",
-                "path 1; path 1, value 1; path 1, list 3",
-            ),
-        ],
+        r#"
+        =>
+        skip => path 1
+        skip, => path 1
+        skip, rename = "a" => path 1; path 1, value 1
+        a::b::c(d, e), ::f => path 7, list 3; path 3
+        a = f::<X, Y>(1, 2) + 3, b => path 1, value 11; path 1
+        a = |x, y| x + y, b => path 1, value 8; path 1
+        a = if x { 1 } else { 2 }, b => path 1, value 5; path 1
+        a = -1, b = !c, d = &e => path 1, value 2; path 1, value 2; path 1, value 2
+        a = x.y[0], b => path 1, value 4; path 1
+        a = Vec::<u8>::new(), b => path 1, value 10; path 1
+        "a", 1, true, b'c' => literal 1; literal 1; literal 1; literal 1
+        -1 => literal 2
+        unsafe(no_mangle) => path 1, list 1
+        self, super::a, crate::b = 1 => path 1; path 4; path 4, value 1
+        a(b(c(d = 1))) => path 1, list 2
+        a[b], c{d} => path 1, list 1; path 1, list 1
+        a = b = c => path 1, value 3
+        a = .., b = return => path 1, value 2; path 1, value 1
+        // Paths that are keywords. The crate syn reads them only with its `parse_nested_meta`.
+        type, default = 1, where(T: A) => path 1; path 1, value 1; path 1, list 3
+        "#,
     );
 }
 
@@ -91,27 +70,27 @@ fn a_fault_ends_the_entries(rt: HostRuntime) {
     check(
         &rt,
         &EntryList,
-        &[
-            ("a = 1 b", "error at 3"),
-            ("a, b == c", "path 1; error at 2"),
-            ("a => b", "error at 2"),
-            ("a = -> b", "error at 2"),
-            ("a =", "missing after 2"),
-            ("a = , b", "error at 2"),
-            ("a:: , b", "error at 3"),
-            ("a b", "error at 1"),
-            ("a(b) c", "error at 2"),
-            (", a", "error at 0"),
-            ("a,, b", "path 1; error at 0"),
-            ("::", "missing after 2"),
-            ("(a)", "error at 0"),
-            ("a = \"x\" \"y\"", "error at 3"),
-            ("_ = 1", "error at 0"),
-            ("'a", "error at 0"),
-            ("- a", "error at 1"),
-            ("a = 1 +", "missing after 4"),
-            ("a < b", "error at 1"),
-        ],
+        r#"
+        a = 1 b => error at 3
+        a, b == c => path 1; error at 2
+        a => b => error at 2
+        a = -> b => error at 2
+        a = => missing after 2
+        a = , b => error at 2
+        a:: , b => error at 3
+        a b => error at 1
+        a(b) c => error at 2
+        , a => error at 0
+        a,, b => path 1; error at 0
+        :: => missing after 2
+        (a) => error at 0
+        a = "x" "y" => error at 3
+        _ = 1 => error at 0
+        'a => error at 0
+        - a => error at 1
+        a = 1 + => missing after 4
+        a < b => error at 1
+        "#,
     );
 }
 
@@ -120,31 +99,27 @@ fn a_fault_ends_the_entries(rt: HostRuntime) {
 struct Nested;
 
 impl Reads for Nested {
-    fn put(&self, trees: &[TokenTree], out: &mut String) -> Result<(), AllocError> {
+    fn put(&self, trees: &[TokenTree], out: &mut Answer) {
         for attribute in Attributes::new(trees) {
             if let AttributeArgs::Group(list) = attribute.args() {
-                put_nested(out, list)?;
+                put_nested(out, list);
             }
         }
-        Ok(())
     }
 }
 
 /// Writes the entries in the list, with what their own lists have.
-fn put_nested(out: &mut String, list: &Group) -> Result<(), AllocError> {
+fn put_nested(out: &mut Answer, list: &Group) {
     for entry in Entries::new(list) {
         if let Ok(entry) = entry {
-            separate(out)?;
-            put_entry(out, &entry)?;
-            if entry.is("default") {
-                write!(out, ", default")?;
-            }
+            out.separate();
+            put_entry(out, &entry);
+            out.flag("default", entry.is("default"));
             if let EntryKind::List(inside) = entry.kind {
-                put_parts(out, &[("names", count_names(inside))])?;
+                out.part("names", count_names(inside));
             }
         }
     }
-    Ok(())
 }
 
 /// The number of entries in the list that are `serialize` or `deserialize`.
@@ -165,10 +140,7 @@ fn lists_are_read_within_lists(rt: HostRuntime) {
     check(
         &rt,
         &Nested,
-        &[(
-            "#[serde(default, bound(serialize = \"A\", deserialize = \"B\"))]",
-            "path 1, default; path 1, list 7, names 2",
-        )],
+        r#"#[serde(default, bound(serialize = "A", deserialize = "B"))] => path 1, default; path 1, list 7, names 2"#,
     );
 }
 
@@ -176,18 +148,17 @@ fn lists_are_read_within_lists(rt: HostRuntime) {
 struct FirstEntry;
 
 impl Reads for FirstEntry {
-    fn put(&self, trees: &[TokenTree], out: &mut String) -> Result<(), AllocError> {
+    fn put(&self, trees: &[TokenTree], out: &mut Answer) {
         match parse_entry(trees) {
             Ok((entry, rest)) => {
-                put_entry(out, &entry)?;
-                if entry.is("a") {
-                    write!(out, ", is a")?;
-                }
-                put_parts(out, &[("left", rest.len())])
+                put_entry(out, &entry);
+                out.flag("is a", entry.is("a"));
+                out.part("left", rest.len());
             }
             Err(fault) => {
-                put_error(out, &fault)?;
-                write!(out, ", {:?}", fault.span())
+                out.error(&fault);
+                out.text(", ");
+                out.debug(&fault.span());
             }
         }
     }
@@ -198,7 +169,7 @@ fn the_first_entry_leaves_the_rest(rt: HostRuntime) {
     check(
         &rt,
         &FirstEntry,
-        &[("a::b = f(1) + 2, c", "path 4, value 4, left 2")],
+        "a::b = f(1) + 2, c => path 4, value 4, left 2",
     );
 }
 
@@ -209,24 +180,20 @@ struct Checked<'a> {
 }
 
 impl Reads for Checked<'_> {
-    fn put(&self, trees: &[TokenTree], out: &mut String) -> Result<(), AllocError> {
+    fn put(&self, trees: &[TokenTree], out: &mut Answer) {
         let known = self.known;
         if known.len() > 128 {
-            return write!(out, "too many known names");
+            return out.text("too many known names");
         }
         let error = match check_entries(trees, known) {
-            Ok(()) => return write!(out, "no error"),
+            Ok(()) => return out.text("no error"),
             Err(error) => error,
         };
-        let count = error.known.len();
-        write!(out, "{:?} at {}, known {count}", error.problem, error.at)?;
-        if error.expected().contains(SignClass::Comma) {
-            write!(out, ", comma")?;
-        }
-        if error.expected().has_end() {
-            write!(out, ", end")?;
-        }
-        Ok(())
+        out.debug(&error.problem);
+        out.count(" at", error.at);
+        out.count(", known", error.known.len());
+        out.flag("comma", error.expected().contains(SignClass::Comma));
+        out.flag("end", error.expected().has_end());
     }
 }
 
@@ -237,20 +204,20 @@ fn each_name_is_known_and_comes_once(rt: HostRuntime) {
         &Checked {
             known: &["skip", "rename", "bound", "type"],
         },
-        &[
-            ("", "no error"),
-            ("skip", "no error"),
-            ("rename = \"a\", skip, bound(T: A), type,", "no error"),
-            ("skip, renam = \"a\"", "Unknown at 2, known 4"),
-            ("a::skip", "Unknown at 0, known 4"),
-            ("skip, \"rename\"", "Unknown at 2, known 4"),
-            ("r#type", "Unknown at 0, known 4"),
-            ("skip, bound(skip), skip", "Repeated at 5, known 4"),
-            ("type = 1, type(2)", "Repeated at 4, known 4"),
-            ("skip, rename = , bound", "NoEntry at 4, known 4"),
-            ("skip, rename 1", "NoEntry at 3, known 4, comma, end"),
-            ("skip, skip, +", "Repeated at 2, known 4"),
-        ],
+        r#"
+        => no error
+        skip => no error
+        rename = "a", skip, bound(T: A), type, => no error
+        skip, renam = "a" => Unknown at 2, known 4
+        a::skip => Unknown at 0, known 4
+        skip, "rename" => Unknown at 2, known 4
+        r#type => Unknown at 0, known 4
+        skip, bound(skip), skip => Repeated at 5, known 4
+        type = 1, type(2) => Repeated at 4, known 4
+        skip, rename = , bound => NoEntry at 4, known 4
+        skip, rename 1 => NoEntry at 3, known 4, comma, end
+        skip, skip, + => Repeated at 2, known 4
+        "#,
     );
 }
 
@@ -260,18 +227,21 @@ struct Message<'a> {
 }
 
 impl Reads for Message<'_> {
-    fn put(&self, trees: &[TokenTree], out: &mut String) -> Result<(), AllocError> {
+    fn put(&self, trees: &[TokenTree], out: &mut Answer) {
         let known = self.known;
         if known.len() > 128 {
-            return write!(out, "too many known names");
+            return out.text("too many known names");
         }
         match check_entries(trees, known) {
-            Ok(()) => write!(out, "no error"),
+            Ok(()) => out.text("no error"),
             Err(error) => {
                 if let Some(name) = error.name {
-                    write!(out, "{name}: ")?;
+                    out.show(name);
+                    out.text(": ");
                 }
-                write!(out, "{error} at {:?}", error.span())
+                out.show(&error);
+                out.text(" at ");
+                out.debug(&error.span());
             }
         }
     }
@@ -284,33 +254,15 @@ fn an_error_says_what_is_wrong(rt: HostRuntime) {
         &Message {
             known: &["skip", "rename"],
         },
-        &[
-            (
-                "skip, renam = 1",
-                "renam: unknown entry `renam`; known are `skip`, `rename` at Some(bytes(7..12))",
-            ),
-            (
-                "r#type",
-                "r#type: unknown entry `r#type`; known are `skip`, `rename` at Some(bytes(1..7))",
-            ),
-            (
-                "a::skip, skip",
-                "unknown entry; known are `skip`, `rename` at Some(bytes(1..2))",
-            ),
-            (
-                "\"a\"",
-                "unknown entry; known are `skip`, `rename` at Some(bytes(1..4))",
-            ),
-            (
-                "skip, skip(a)",
-                "skip: a second entry `skip` at Some(bytes(7..11))",
-            ),
-            ("skip, =", "expected an entry at Some(bytes(7..8))"),
-            (
-                "rename =",
-                "the declaration ends too early, expected an expression at None",
-            ),
-        ],
+        r#"
+        skip, renam = 1 => renam: unknown entry `renam`; known are `skip`, `rename` at Some(bytes(7..12))
+        r#type => r#type: unknown entry `r#type`; known are `skip`, `rename` at Some(bytes(1..7))
+        a::skip, skip => unknown entry; known are `skip`, `rename` at Some(bytes(1..2))
+        "a" => unknown entry; known are `skip`, `rename` at Some(bytes(1..4))
+        skip, skip(a) => skip: a second entry `skip` at Some(bytes(7..11))
+        skip, = => expected an entry at Some(bytes(7..8))
+        rename = => the declaration ends too early, expected an expression at None
+        "#,
     );
 }
 
@@ -319,40 +271,43 @@ fn an_error_of_entries_has_the_signs_that_can_come_there(rt: HostRuntime) {
     check(
         &rt,
         &Checked { known: &["skip"] },
-        &[
-            ("skip rename", "NoEntry at 1, known 1, comma, end"),
-            ("skip = ,", "NoEntry at 2, known 1"),
-            ("rename", "Unknown at 0, known 1"),
-        ],
+        "
+        skip rename => NoEntry at 1, known 1, comma, end
+        skip = , => NoEntry at 2, known 1
+        rename => Unknown at 0, known 1
+        ",
     );
 }
 
 #[test]
 fn names_are_listed_where_none_or_one_is_known(rt: HostRuntime) {
-    let no_names = "skip: unknown entry `skip`; no names are known at Some(bytes(1..5))";
-    check(&rt, &Message { known: &[] }, &[("skip", no_names)]);
-    let one_name = "skip: unknown entry `skip`; known are `a` at Some(bytes(1..5))";
-    check(&rt, &Message { known: &["a"] }, &[("skip", one_name)]);
+    check(
+        &rt,
+        &Message { known: &[] },
+        "skip => skip: unknown entry `skip`; no names are known at Some(bytes(1..5))",
+    );
+    check(
+        &rt,
+        &Message { known: &["a"] },
+        "skip => skip: unknown entry `skip`; known are `a` at Some(bytes(1..5))",
+    );
 }
 
 /// The entry that each attribute is, with `no span` if it has none. An error at the end is at the closing bracket.
 struct AttributeEntries;
 
 impl Reads for AttributeEntries {
-    fn put(&self, trees: &[TokenTree], out: &mut String) -> Result<(), AllocError> {
+    fn put(&self, trees: &[TokenTree], out: &mut Answer) {
         for attribute in Attributes::new(trees) {
-            separate(out)?;
+            out.separate();
             match attribute.entry() {
                 Ok(entry) => {
-                    put_entry(out, &entry)?;
-                    if entry.span().is_none() {
-                        write!(out, ", no span")?;
-                    }
+                    put_entry(out, &entry);
+                    out.flag("no span", entry.span().is_none());
                 }
-                Err(fault) => put_error(out, &fault)?,
+                Err(fault) => out.error(&fault),
             }
         }
-        Ok(())
     }
 }
 
@@ -361,132 +316,123 @@ fn an_attribute_is_one_entry(rt: HostRuntime) {
     check(
         &rt,
         &AttributeEntries,
-        &[
-            ("#[test] #![no_std]", "path 1; path 1"),
-            ("#[derive(Clone, Copy)]", "path 1, list 3"),
-            ("#[serde(bound(T, U), skip)]", "path 1, list 4"),
-            ("#[path = \"a.rs\"]", "path 1, value 1"),
-            ("#[doc = include_str!(\"a.md\")]", "path 1, value 3"),
-            ("#[a = -1 + f(2, 3)]", "path 1, value 5"),
-            ("#[rustfmt::skip]", "path 4"),
-            ("#[unsafe(no_mangle)]", "path 1, list 1"),
-            ("/// text", "path 1, value 1"),
-            // Trees of other grammars. They are accepted only inside a list.
-            ("#[error(\"{0}\" if x => y)]", "path 1, list 6"),
-            ("#[a[b] c]", "error at 2"),
-            ("#[a = 1, b]", "error at 3"),
-            ("#[a b]", "error at 1"),
-            ("#[a =]", "error at 2"),
-            ("#[]", "error at 0"),
-        ],
+        r#"
+        #[test] #![no_std] => path 1; path 1
+        #[derive(Clone, Copy)] => path 1, list 3
+        #[serde(bound(T, U), skip)] => path 1, list 4
+        #[path = "a.rs"] => path 1, value 1
+        #[doc = include_str!("a.md")] => path 1, value 3
+        #[a = -1 + f(2, 3)] => path 1, value 5
+        #[rustfmt::skip] => path 4
+        #[unsafe(no_mangle)] => path 1, list 1
+        /// text => path 1, value 1
+        // Trees of other grammars. They are accepted only inside a list.
+        #[error("{0}" if x => y)] => path 1, list 6
+        #[a[b] c] => error at 2
+        #[a = 1, b] => error at 3
+        #[a b] => error at 1
+        #[a =] => error at 2
+        #[] => error at 0
+        "#,
     );
 }
 
 // A macro by example passes `$m:meta`, `$p:path` and `$l:literal` in such groups.
 #[test]
 fn an_entry_in_a_group_without_delimiters_is_read(rt: HostRuntime) {
-    check_groups(
+    check(
         &rt,
         &EntryList,
-        &[
-            (("", "skip", 1, ""), "path 1"),
-            (("", "rename = \"a\"", 2, ", b"), "path 1, value 1; path 1"),
-            (("", "a::b(c, d)", 4, ","), "path 4, list 3"),
-            (("", "a::b", 1, " = 1 + 2, c"), "path 4, value 3; path 1"),
-            (("", "::a", 2, "(b)"), "path 3, list 1"),
-            (("", "-1", 1, ""), "literal 2"),
-            (("", "\"x\"", 1, ""), "literal 1"),
-            (("", "pub", 1, ""), "path 1"),
-            (("", "a = 1", 1, " = 2"), "error at 1"),
-            (("", "a b", 1, ""), "error at 0"),
-            (("", "", 1, ""), "error at 0"),
-            (("", "a =", 2, ", b"), "error at 0"),
-            (("", "a", 1, " ="), "missing after 2"),
-            (("", "a", 1, " => b"), "error at 2"),
-            (("", "a", 1, " b"), "error at 1"),
-            (("", "'a", 1, ""), "error at 0"),
-        ],
+        r#"
+        «skip» => path 1
+        ««rename = "a"»», b => path 1, value 1; path 1
+        ««««a::b(c, d)»»»», => path 4, list 3
+        «a::b» = 1 + 2, c => path 4, value 3; path 1
+        ««::a»»(b) => path 3, list 1
+        «-1» => literal 2
+        «"x"» => literal 1
+        «pub» => path 1
+        «a = 1» = 2 => error at 1
+        «a b» => error at 0
+        «» => error at 0
+        ««a =»», b => error at 0
+        «a» = => missing after 2
+        «a» => b => error at 2
+        «a» b => error at 1
+        «'a» => error at 0
+        "#,
     );
 }
 
-// Here a path in such a group is in another one: `$m:meta` is passed on with `$p = 1` in it. Each row is the path, the
-// number of its groups, the text after it, the number of groups around both, the text after them, and the entries.
+// Here a path in such a group is in another one: `$m:meta` is passed on with `$p = 1` in it.
 #[test]
 fn a_path_in_a_group_without_delimiters_is_read_in_another(rt: HostRuntime) {
-    let rows: &[(&str, usize, &str, usize, &str, &str)] = &[
-        ("a", 1, " = 1 + 2", 1, ", b", "path 1, value 3; path 1"),
-        ("a::b", 3, "(c)", 2, "", "path 4, list 1"),
-        ("a", 1, "", 1, " = 1", "path 1, value 1"),
-        ("a", 1, " b", 1, "", "error at 0"),
-        ("a = 1", 1, " = 2", 1, "", "error at 0"),
-        ("a", 1, " =", 1, ", b", "error at 0"),
-        ("a", 1, "(b)", 1, "(c)", "error at 1"),
-    ];
-    for &(path, groups, args, around, after, wanted) in rows {
-        let inside = held_stream(&rt, ("", path, groups, args));
-        let mut stream = in_groups(&rt, inside, around);
-        stream
-            .extend_streams([parsed(&rt, after)])
-            .expect(&rt, after);
-        check_stream(&rt, &EntryList, stream, wanted);
-    }
+    check(
+        &rt,
+        &EntryList,
+        "
+        ««a» = 1 + 2», b => path 1, value 3; path 1
+        «««««a::b»»»(c)»» => path 4, list 1
+        ««a»» = 1 => path 1, value 1
+        ««a» b» => error at 0
+        ««a = 1» = 2» => error at 0
+        ««a» =», b => error at 0
+        ««a»(b)»(c) => error at 1
+        ",
+    );
 }
 
 // The span of an error is that of the wrong tree in the group, or that of the group if trees are missing.
 #[test]
 fn an_error_in_a_group_without_delimiters_has_a_span(rt: HostRuntime) {
-    check_groups(
+    check(
         &rt,
         &FirstEntry,
-        &[
-            (("", "a b", 2, ", c"), "error at 0, Some(bytes(3..4))"),
-            (("", "a = ", 1, ", c"), "error at 0, Some(bytes(0..0))"),
-        ],
+        "
+        ««a b»», c => error at 0, Some(bytes(3..4))
+        «a = », c => error at 0, Some(bytes(0..0))
+        ",
     );
-    let text = ("", "a = 1", 1, ", b");
-    check_groups(
+    check(
         &rt,
         &Checked { known: &["b"] },
-        &[(text, "Unknown at 0, known 1")],
+        "«a = 1», b => Unknown at 0, known 1",
     );
-    let printed = "a: unknown entry `a`; known are `b` at Some(bytes(1..2))";
-    check_groups(&rt, &Message { known: &["b"] }, &[(text, printed)]);
+    check(
+        &rt,
+        &Message { known: &["b"] },
+        "«a = 1», b => a: unknown entry `a`; known are `b` at Some(bytes(1..2))",
+    );
 }
 
 #[test]
 fn an_error_in_a_group_without_delimiters_says_what_was_expected(rt: HostRuntime) {
-    check_groups(
+    check(
         &rt,
         &Call::EntryList,
-        &[
-            (
-                ("", "a b", 2, ", c"),
-                "expected `=`, a group, `::` or the end",
-            ),
-            (("", "a = ", 1, ", c"), "expected an expression"),
-            (("", "", 1, ""), "expected an entry"),
-            (("", "a", 1, " = , c"), "expected an expression"),
-            (
-                ("", "a", 1, " ="),
-                "the declaration ends too early, expected an expression",
-            ),
-            (("", "a", 1, " b"), "expected `,`, `=`, a group or the end"),
-            (("", "a", 1, "(b) c"), "expected `,` or the end"),
-            (("", "a = 1", 1, " = 2"), "expected `,` or the end"),
-        ],
+        "
+        ««a b»», c => expected `=`, a group, `::` or the end
+        «a = », c => expected an expression
+        «» => expected an entry
+        «a» = , c => expected an expression
+        «a» = => the declaration ends too early, expected an expression
+        «a» b => expected `,`, `=`, a group or the end
+        «a»(b) c => expected `,` or the end
+        «a = 1» = 2 => expected `,` or the end
+        ",
     );
 }
 
 // Here a path in a group is in another one, with what comes after it.
 #[test]
 fn an_error_after_a_path_in_two_groups_says_what_was_expected(rt: HostRuntime) {
-    let rows: &[(HeldText<'_>, &str)] = &[
-        (("", "a", 1, " b"), "expected `=`, a group or the end"),
-        (("", "a", 1, " ="), "expected an expression"),
-        (("", "a:: =", 1, " = b"), "expected a name"),
-    ];
-    for &(text, wanted) in rows {
-        let stream = in_groups(&rt, held_stream(&rt, text), 1);
-        check_stream(&rt, &Call::EntryList, stream, wanted);
-    }
+    check(
+        &rt,
+        &Call::EntryList,
+        "
+        ««a» b» => expected `=`, a group or the end
+        ««a» =» => expected an expression
+        ««a:: =» = b» => expected a name
+        ",
+    );
 }

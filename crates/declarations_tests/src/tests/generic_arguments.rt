@@ -1,20 +1,23 @@
 // The generic arguments of paths. The crate syn 2 reads each text in the same way, unless a row says otherwise.
-use crate::tests::checks::{
-    Reads, check, check_groups, check_stream, in_groups, parsed, put_error, put_parts, separate,
-};
+use crate::tests::checks::{Answer, Reads, check};
 use declarations::{ArgumentKind, GenericArgument, GenericArguments, parse_generic_argument};
 use proc_macro2::TokenTree;
-use std::alloc::AllocError;
 
 /// Writes the kind of an argument and the number of its trees, and of those after `=` or `:`.
-fn put_argument(out: &mut String, argument: &GenericArgument<'_>) -> Result<(), AllocError> {
+fn put_argument(out: &mut Answer, argument: &GenericArgument<'_>) {
     let count = argument.trees.len();
     match argument.kind {
-        ArgumentKind::Lifetime => write!(out, "lifetime {count}"),
-        ArgumentKind::Const => write!(out, "const {count}"),
-        ArgumentKind::Type => write!(out, "type {count}"),
-        ArgumentKind::Binding(ty) => write!(out, "binding {count} {}", ty.len()),
-        ArgumentKind::Constraint(bounds) => write!(out, "constraint {count} {}", bounds.len()),
+        ArgumentKind::Lifetime => out.count("lifetime", count),
+        ArgumentKind::Const => out.count("const", count),
+        ArgumentKind::Type => out.count("type", count),
+        ArgumentKind::Binding(ty) => {
+            out.count("binding", count);
+            out.count("", ty.len());
+        }
+        ArgumentKind::Constraint(bounds) => {
+            out.count("constraint", count);
+            out.count("", bounds.len());
+        }
     }
 }
 
@@ -22,15 +25,14 @@ fn put_argument(out: &mut String, argument: &GenericArgument<'_>) -> Result<(), 
 struct Arguments;
 
 impl Reads for Arguments {
-    fn put(&self, trees: &[TokenTree], out: &mut String) -> Result<(), AllocError> {
+    fn put(&self, trees: &[TokenTree], out: &mut Answer) {
         for argument in GenericArguments::new(trees) {
-            separate(out)?;
+            out.separate();
             match argument {
-                Ok(argument) => put_argument(out, &argument)?,
-                Err(fault) => put_error(out, &fault)?,
+                Ok(argument) => put_argument(out, &argument),
+                Err(fault) => out.error(&fault),
             }
         }
-        Ok(())
     }
 }
 
@@ -38,13 +40,13 @@ impl Reads for Arguments {
 struct FirstArgument;
 
 impl Reads for FirstArgument {
-    fn put(&self, trees: &[TokenTree], out: &mut String) -> Result<(), AllocError> {
+    fn put(&self, trees: &[TokenTree], out: &mut Answer) {
         match parse_generic_argument(trees) {
             Ok((argument, rest)) => {
-                put_argument(out, &argument)?;
-                put_parts(out, &[("left", rest.len())])
+                put_argument(out, &argument);
+                out.part("left", rest.len());
             }
-            Err(fault) => put_error(out, &fault),
+            Err(fault) => out.error(&fault),
         }
     }
 }
@@ -54,24 +56,24 @@ fn each_kind_of_argument_is_named(rt: HostRuntime) {
     check(
         &rt,
         &Arguments,
-        &[
-            ("", ""),
-            ("'a", "lifetime 2"),
-            ("'_, 'static", "lifetime 2; lifetime 2"),
-            ("T", "type 1"),
-            ("T,", "type 1"),
-            ("3", "const 1"),
-            ("-1, 'x', \"y\"", "const 2; const 1; const 1"),
-            ("true, false", "const 1; const 1"),
-            ("{ N + 1 }", "const 1"),
-            ("Item = T", "binding 1 1"),
-            ("Item: A + B", "constraint 1 3"),
-            ("Item:", "constraint 1 0"),
-            ("Item<'a> = &'a T", "binding 5 4"),
-            ("Item<'a>: 'a", "constraint 5 2"),
-            ("_", "type 1"),
-            ("impl A", "type 2"),
-        ],
+        r#"
+        =>
+        'a => lifetime 2
+        '_, 'static => lifetime 2; lifetime 2
+        T => type 1
+        T, => type 1
+        3 => const 1
+        -1, 'x', "y" => const 2; const 1; const 1
+        true, false => const 1; const 1
+        { N + 1 } => const 1
+        Item = T => binding 1 1
+        Item: A + B => constraint 1 3
+        Item: => constraint 1 0
+        Item<'a> = &'a T => binding 5 4
+        Item<'a>: 'a => constraint 5 2
+        _ => type 1
+        impl A => type 2
+        "#,
     );
 }
 
@@ -80,19 +82,19 @@ fn a_comma_within_brackets_ends_no_argument(rt: HostRuntime) {
     check(
         &rt,
         &Arguments,
-        &[
-            ("(A, B), C", "type 1; type 1"),
-            ("[A; 3], C", "type 1; type 1"),
-            ("A<B, C>, D", "type 6; type 1"),
-            ("A<B<C, D>, E>, F", "type 11; type 1"),
-            ("Fn(A, B) -> C<D, E>, F", "type 10; type 1"),
-            ("<A<B, C> as D>::E, F", "type 13; type 1"),
-            ("fn(A, B) -> C, D", "type 5; type 1"),
-            ("dyn A<B, C> + D, E", "type 9; type 1"),
-            ("Item = A<B, C>, D", "binding 1 6; type 1"),
-            ("Item: A<B, C> + D, E", "constraint 1 8; type 1"),
-            ("a::B<C>, m![d, e], F", "type 7; type 3; type 1"),
-        ],
+        "
+        (A, B), C => type 1; type 1
+        [A; 3], C => type 1; type 1
+        A<B, C>, D => type 6; type 1
+        A<B<C, D>, E>, F => type 11; type 1
+        Fn(A, B) -> C<D, E>, F => type 10; type 1
+        <A<B, C> as D>::E, F => type 13; type 1
+        fn(A, B) -> C, D => type 5; type 1
+        dyn A<B, C> + D, E => type 9; type 1
+        Item = A<B, C>, D => binding 1 6; type 1
+        Item: A<B, C> + D, E => constraint 1 8; type 1
+        a::B<C>, m![d, e], F => type 7; type 3; type 1
+        ",
     );
 }
 
@@ -101,22 +103,22 @@ fn broken_arguments_are_rejected(rt: HostRuntime) {
     check(
         &rt,
         &Arguments,
-        &[
-            (",", "error at 0"),
-            ("A,,", "type 1; error at 0"),
-            ("A B", "error at 1"),
-            ("A;", "error at 1"),
-            ("-x", "error at 1"),
-            ("-", "missing after 1"),
-            ("3 + 4", "error at 1"),
-            ("Item =", "missing after 2"),
-            ("A::", "missing after 3"),
-            ("A<", "missing after 2"),
-            ("A>", "error at 1"),
-            ("&A = B", "error at 2"),
-            ("(A): B", "error at 1"),
-            ("'a: 'b", "error at 2"),
-        ],
+        "
+        , => error at 0
+        A,, => type 1; error at 0
+        A B => error at 1
+        A; => error at 1
+        -x => error at 1
+        - => missing after 1
+        3 + 4 => error at 1
+        Item = => missing after 2
+        A:: => missing after 3
+        A< => missing after 2
+        A> => error at 1
+        &A = B => error at 2
+        (A): B => error at 1
+        'a: 'b => error at 2
+        ",
     );
 }
 
@@ -125,15 +127,15 @@ fn a_name_is_bound_to_a_constant(rt: HostRuntime) {
     check(
         &rt,
         &Arguments,
-        &[
-            ("N = 3", "binding 1 1"),
-            ("N = -3", "binding 1 2"),
-            ("N = 'x', M = \"y\"", "binding 1 1; binding 1 1"),
-            ("N = true, M = false,", "binding 1 1; binding 1 1"),
-            ("N = { M + 1 }, T", "binding 1 1; type 1"),
-            ("N<'a, T> = 3", "binding 7 1"),
-            ("N = A<M = 3>", "binding 1 6"),
-        ],
+        r#"
+        N = 3 => binding 1 1
+        N = -3 => binding 1 2
+        N = 'x', M = "y" => binding 1 1; binding 1 1
+        N = true, M = false, => binding 1 1; binding 1 1
+        N = { M + 1 }, T => binding 1 1; type 1
+        N<'a, T> = 3 => binding 7 1
+        N = A<M = 3> => binding 1 6
+        "#,
     );
 }
 
@@ -142,39 +144,38 @@ fn a_broken_constant_after_a_name_is_rejected(rt: HostRuntime) {
     check(
         &rt,
         &Arguments,
-        &[
-            ("N = -", "missing after 3"),
-            ("N = -x", "error at 3"),
-            ("N = -{ 3 }", "error at 3"),
-            ("N = 3 + 4", "error at 3"),
-            ("N = 3 = 4", "error at 3"),
-            ("N = true M", "error at 3"),
-            ("N: 3", "error at 2"),
-            ("3 = N", "error at 1"),
-        ],
+        "
+        N = - => missing after 3
+        N = -x => error at 3
+        N = -{ 3 } => error at 3
+        N = 3 + 4 => error at 3
+        N = 3 = 4 => error at 3
+        N = true M => error at 3
+        N: 3 => error at 2
+        3 = N => error at 1
+        ",
     );
 }
 
 #[test]
 fn an_argument_is_read_with_the_trees_after_it(rt: HostRuntime) {
-    check(&rt, &FirstArgument, &[("A<B>; C", "type 4, left 2")]);
+    check(&rt, &FirstArgument, "A<B>; C => type 4, left 2");
 }
 
 // A macro by example passes `$b:block` in such a group.
 #[test]
 fn a_block_in_a_group_without_delimiters_is_a_constant(rt: HostRuntime) {
-    let stream = in_groups(&rt, parsed(&rt, "{ N }"), 1);
-    check_stream(&rt, &FirstArgument, stream, "const 1");
+    check(&rt, &FirstArgument, "«{ N }» => const 1");
 }
 
 #[test]
 fn a_constant_after_a_name_may_be_in_a_group_without_delimiters(rt: HostRuntime) {
-    check_groups(
+    check(
         &rt,
         &Arguments,
-        &[
-            (("N =", "{ M }", 1, ""), "binding 1 1"),
-            (("N =", "3", 2, ", T"), "binding 1 1; type 1"),
-        ],
+        "
+        N =«{ M }» => binding 1 1
+        N =««3»», T => binding 1 1; type 1
+        ",
     );
 }

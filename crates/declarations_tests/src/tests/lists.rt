@@ -1,46 +1,43 @@
 // Lists of fields and variants: the elements that come, and where the error is.
-use crate::tests::checks::{Reads, check, put_error, separate};
+use crate::tests::checks::{Answer, Reads, check};
 use crate::tests::items::{put_field, put_variant};
 use declarations::{Body, FieldList, VariantList, parse_type_item};
 use proc_macro2::TokenTree;
-use std::alloc::AllocError;
 
 /// The fields or variants of a struct, an enum or a union.
 struct Elements;
 
 impl Reads for Elements {
-    fn put(&self, trees: &[TokenTree], out: &mut String) -> Result<(), AllocError> {
+    fn put(&self, trees: &[TokenTree], out: &mut Answer) {
         match parse_type_item(trees) {
             Ok(item) => match item.body {
                 Body::Struct(fields) => put_fields(out, fields.list()),
                 Body::Enum(group) => put_variants(out, VariantList::new(group)),
                 Body::Union(group) => put_fields(out, FieldList::named(group)),
             },
-            Err(fault) => put_error(out, &fault),
+            Err(fault) => out.error(&fault),
         }
     }
 }
 
-fn put_fields(out: &mut String, list: FieldList<'_>) -> Result<(), AllocError> {
+fn put_fields(out: &mut Answer, list: FieldList<'_>) {
     for field in list {
-        separate(out)?;
+        out.separate();
         match field {
-            Ok(field) => put_field(out, &field)?,
-            Err(fault) => put_error(out, &fault)?,
+            Ok(field) => put_field(out, &field),
+            Err(fault) => out.error(&fault),
         }
     }
-    Ok(())
 }
 
-fn put_variants(out: &mut String, list: VariantList<'_>) -> Result<(), AllocError> {
+fn put_variants(out: &mut Answer, list: VariantList<'_>) {
     for variant in list {
-        separate(out)?;
+        out.separate();
         match variant {
-            Ok(variant) => put_variant(out, &variant)?,
-            Err(fault) => put_error(out, &fault)?,
+            Ok(variant) => put_variant(out, &variant),
+            Err(fault) => out.error(&fault),
         }
     }
-    Ok(())
 }
 
 #[test]
@@ -48,30 +45,21 @@ fn each_part_of_a_body_is_given_or_its_fault(rt: HostRuntime) {
     check(
         &rt,
         &Elements,
-        &[
-            ("struct S;", ""),
-            ("struct S {}", ""),
-            (
-                "struct S { #[x] pub a: Vec<u8, u8>, b: fn() -> u8, }",
-                "a, type 6, attributes 2, visibility 1; b, type 5",
-            ),
-            (
-                "struct S(u8, pub (u8, u8), Vec<A, B>);",
-                "type 1; type 1, visibility 1; type 6",
-            ),
-            ("struct S(pub(crate) u8,);", "type 1, visibility 2"),
-            ("union U { a: u8, b: u16 }", "a, type 1; b, type 1"),
-            (
-                "enum E { A, B(u8), C { c: u8 } = f::<X, Y>(), }",
-                "A, unit; B, tuple; C, named, discriminant 9",
-            ),
-            ("struct S { a: u8 b: u8 }", "error at 3"),
-            ("struct S { a: u8, , }", "a, type 1; error at 0"),
-            ("struct S { a: u8, b }", "a, type 1; missing after 1"),
-            ("struct S(u8, fn);", "type 1; missing after 1"),
-            ("enum E { A = 1 B }", "error at 3"),
-            ("enum E { A, B =, C }", "A, unit; error at 2"),
-            ("struct S { , }", "error at 0"),
-        ],
+        "
+        struct S; =>
+        struct S {} =>
+        struct S { #[x] pub a: Vec<u8, u8>, b: fn() -> u8, } => a, type 6, attributes 2, visibility 1; b, type 5
+        struct S(u8, pub (u8, u8), Vec<A, B>); => type 1; type 1, visibility 1; type 6
+        struct S(pub(crate) u8,); => type 1, visibility 2
+        union U { a: u8, b: u16 } => a, type 1; b, type 1
+        enum E { A, B(u8), C { c: u8 } = f::<X, Y>(), } => A, unit; B, tuple; C, named, discriminant 9
+        struct S { a: u8 b: u8 } => error at 3
+        struct S { a: u8, , } => a, type 1; error at 0
+        struct S { a: u8, b } => a, type 1; missing after 1
+        struct S(u8, fn); => type 1; missing after 1
+        enum E { A = 1 B } => error at 3
+        enum E { A, B =, C } => A, unit; error at 2
+        struct S { , } => error at 0
+        ",
     );
 }

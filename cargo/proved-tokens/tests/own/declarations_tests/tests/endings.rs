@@ -1,33 +1,37 @@
 // Made from crates/declarations_tests/src/tests/endings.rt by dev/erase: change that file, not this one.
 
-use crate::shim::prelude::{GrowText, HostRuntime};
+use crate::shim::prelude::HostRuntime;
 
 // Errors at the end of a group, which can be reported at its closing delimiter.
-use crate::declarations_tests::tests::checks::{Reads, check, separate};
+use crate::declarations_tests::tests::checks::{Answer, Reads, check};
 use proved_tokens::declarations::{AttributeArgs, Attributes, check_entries, split_type};
-use proved_tokens::proc_macro2::TokenTree;
-use crate::shim::alloc::AllocError;
+use proved_tokens::proc_macro2::{Group, TokenTree};
 
 /// For each attribute, the span of its error as one entry. If the attribute has a list, the span of the error in the
 /// list follows, where the known names are `b` and `c`.
 struct EntrySpans;
 
 impl Reads for EntrySpans {
-    fn put(&self, trees: &[TokenTree], out: &mut String) -> Result<(), AllocError> {
+    fn put(&self, trees: &[TokenTree], out: &mut Answer) {
         for attribute in Attributes::new(trees) {
-            separate(out)?;
+            out.separate();
             match attribute.entry() {
-                Ok(_) => write!(out, "None")?,
-                Err(fault) => write!(out, "{:?}", fault.span)?,
+                Ok(_) => out.text("None"),
+                Err(fault) => out.debug(&fault.span),
             }
             if let AttributeArgs::Group(group) = attribute.args() {
-                match check_entries(group.stream_ref().trees(), &["b", "c"]) {
-                    Ok(()) => write!(out, ", None")?,
-                    Err(error) => write!(out, ", {:?}", error.within(group).span)?,
-                }
+                put_list_span(out, group);
             }
         }
-        Ok(())
+    }
+}
+
+/// Writes the span of the error of the entries in the list.
+fn put_list_span(out: &mut Answer, list: &Group) {
+    out.text(", ");
+    match check_entries(list.stream_ref().trees(), &["b", "c"]) {
+        Ok(()) => out.text("None"),
+        Err(error) => out.debug(&error.within(list).span),
     }
 }
 
@@ -37,12 +41,12 @@ fn entries_end_too_early_at_their_brackets() {
     check(
         &rt,
         &EntrySpans,
-        &[
-            ("#[a(b, c =)]", "None, Some(bytes(11..12))"),
-            ("#[a(b, c d)]", "None, Some(bytes(10..11))"),
-            ("#[a(b, c)]", "None, None"),
-            ("#[a =]", "Some(bytes(6..7))"),
-        ],
+        "
+        #[a(b, c =)] => None, Some(bytes(11..12))
+        #[a(b, c d)] => None, Some(bytes(10..11))
+        #[a(b, c)] => None, None
+        #[a =] => Some(bytes(6..7))
+        ",
     );
 }
 
@@ -50,21 +54,20 @@ fn entries_end_too_early_at_their_brackets() {
 struct TypeSpans;
 
 impl Reads for TypeSpans {
-    fn put(&self, trees: &[TokenTree], out: &mut String) -> Result<(), AllocError> {
+    fn put(&self, trees: &[TokenTree], out: &mut Answer) {
         for tree in trees {
             if let TokenTree::Group(group) = tree {
-                separate(out)?;
+                out.separate();
                 match split_type(group.stream_ref().trees()) {
-                    Ok(_) => write!(out, "None, None")?,
+                    Ok(_) => out.text("None, None"),
                     Err(fault) => {
-                        let before = fault.span;
-                        let after = fault.within(group).span;
-                        write!(out, "{before:?}, {after:?}")?;
+                        out.debug(&fault.span);
+                        out.text(", ");
+                        out.debug(&fault.within(group).span);
                     }
                 }
             }
         }
-        Ok(())
     }
 }
 
@@ -74,9 +77,9 @@ fn a_caller_names_the_group_of_trees_that_it_passed() {
     check(
         &rt,
         &TypeSpans,
-        &[
-            ("(&)", "None, Some(bytes(3..4))"),
-            ("( & = )", "Some(bytes(5..6)), Some(bytes(5..6))"),
-        ],
+        "
+        (&) => None, Some(bytes(3..4))
+        ( & = ) => Some(bytes(5..6)), Some(bytes(5..6))
+        ",
     );
 }

@@ -1,38 +1,33 @@
 // Made from crates/declarations_tests/src/tests/generics.rt by dev/erase: change that file, not this one.
 
-use crate::shim::prelude::{GrowText, HostRuntime};
+use crate::shim::prelude::HostRuntime;
 
 // Generic parameters and predicates, with the number of trees in each part.
-use crate::declarations_tests::tests::checks::{Reads, check, check_groups, put_error, put_parts, separate};
+use crate::declarations_tests::tests::checks::{Answer, Reads, check};
 use crate::declarations_tests::tests::expected::Call;
 use proved_tokens::declarations::{Param, after_where, parse_param, parse_predicate, within_generics};
 use proved_tokens::proc_macro2::TokenTree;
-use crate::shim::alloc::AllocError;
 
 /// Writes a generic parameter: its kind, the number of trees of its name, and its other parts.
-fn put_param(out: &mut String, param: &Param<'_>) -> Result<(), AllocError> {
-    write!(out, "{:?} {}", param.kind, param.name.len())?;
-    put_parts(
-        out,
-        &[
-            ("attributes", param.attributes.len()),
-            ("bounds", param.bounds.len()),
-            ("default", param.default.len()),
-        ],
-    )
+fn put_param(out: &mut Answer, param: &Param<'_>) {
+    out.debug(&param.kind);
+    out.count("", param.name.len());
+    out.part("attributes", param.attributes.len());
+    out.part("bounds", param.bounds.len());
+    out.part("default", param.default.len());
 }
 
 /// The first parameter, and the trees that are left after it.
 struct FirstParam;
 
 impl Reads for FirstParam {
-    fn put(&self, trees: &[TokenTree], out: &mut String) -> Result<(), AllocError> {
+    fn put(&self, trees: &[TokenTree], out: &mut Answer) {
         match parse_param(trees) {
             Ok((param, rest)) => {
-                put_param(out, &param)?;
-                put_parts(out, &[("left", rest.len())])
+                put_param(out, &param);
+                out.part("left", rest.len());
             }
-            Err(fault) => put_error(out, &fault),
+            Err(fault) => out.error(&fault),
         }
     }
 }
@@ -41,29 +36,28 @@ impl Reads for FirstParam {
 struct Params;
 
 impl Reads for Params {
-    fn put(&self, trees: &[TokenTree], out: &mut String) -> Result<(), AllocError> {
+    fn put(&self, trees: &[TokenTree], out: &mut Answer) {
         let mut left = match within_generics(trees) {
             Ok(inside) => inside,
             Err(fault) => {
-                write!(out, "brackets: ")?;
-                return put_error(out, &fault);
+                out.text("brackets: ");
+                return out.error(&fault);
             }
         };
         // There are at most as many parameters as trees.
         for _ in trees {
             if left.is_empty() {
-                return Ok(());
+                return;
             }
-            separate(out)?;
+            out.separate();
             match parse_param(left) {
                 Ok((param, rest)) => {
-                    put_param(out, &param)?;
+                    put_param(out, &param);
                     left = rest;
                 }
-                Err(fault) => return put_error(out, &fault),
+                Err(fault) => return out.error(&fault),
             }
         }
-        Ok(())
     }
 }
 
@@ -71,30 +65,29 @@ impl Reads for Params {
 struct Predicates;
 
 impl Reads for Predicates {
-    fn put(&self, trees: &[TokenTree], out: &mut String) -> Result<(), AllocError> {
+    fn put(&self, trees: &[TokenTree], out: &mut Answer) {
         let mut left = match after_where(trees) {
             Ok(inside) => inside,
             Err(fault) => {
-                write!(out, "where: ")?;
-                return put_error(out, &fault);
+                out.text("where: ");
+                return out.error(&fault);
             }
         };
         // There are at most as many predicates as trees.
         for _ in trees {
             if left.is_empty() {
-                return Ok(());
+                return;
             }
-            separate(out)?;
+            out.separate();
             match parse_predicate(left) {
                 Ok((predicate, rest)) => {
-                    write!(out, "bounded {}", predicate.bounded.len())?;
-                    put_parts(out, &[("bounds", predicate.bounds.len())])?;
+                    out.count("bounded", predicate.bounded.len());
+                    out.part("bounds", predicate.bounds.len());
                     left = rest;
                 }
-                Err(fault) => return put_error(out, &fault),
+                Err(fault) => return out.error(&fault),
             }
         }
-        Ok(())
     }
 }
 
@@ -104,35 +97,27 @@ fn parameters_have_their_parts_in_order() {
     check(
         &rt,
         &Params,
-        &[
-            ("", ""),
-            ("<>", ""),
-            ("<T>", "Type 1"),
-            (
-                "<'a, 'b: 'a, T: A<B, C> + 'b = D<E, F>, #[g] const N: usize = 3,>",
-                "Lifetime 2; Lifetime 2, bounds 2; Type 1, bounds 9, default 6; \
-                 Const 1, attributes 2, bounds 1, default 1",
-            ),
-            (
-                "<T: for<'a> Fn(&'a u8) -> Vec<T> + ?Sized, U: = V, W:>",
-                "Type 1, bounds 16; Type 1, default 1; Type 1",
-            ),
-            (
-                "<const N: usize = { 1 + 2 }, const M: i8 = -1, const L: bool = true, const K: A = B::C>",
-                "Const 1, bounds 1, default 1; Const 1, bounds 1, default 2; \
-                 Const 1, bounds 1, default 1; Const 1, bounds 1, default 4",
-            ),
-            // Lifetimes may come after types, and raw identifiers are words.
-            ("<r#fn, 'a>", "Type 1; Lifetime 2"),
-            ("<fn>", "error at 0"),
-            ("<'a = T>", "error at 2"),
-            ("<T: A B>", "error at 3"),
-            ("<T,, U>", "Type 1; error at 0"),
-            ("<const N>", "missing after 2"),
-            ("<const N: usize = ->", "missing after 6"),
-            ("<T = >", "missing after 2"),
-            ("<# T>", "error at 1"),
-        ],
+        "
+        =>
+        <> =>
+        <T> => Type 1
+        <'a, 'b: 'a, T: A<B, C> + 'b = D<E, F>, #[g] const N: usize = 3,> => \
+            Lifetime 2; Lifetime 2, bounds 2; Type 1, bounds 9, default 6; Const 1, attributes 2, bounds 1, default 1
+        <T: for<'a> Fn(&'a u8) -> Vec<T> + ?Sized, U: = V, W:> => Type 1, bounds 16; Type 1, default 1; Type 1
+        <const N: usize = { 1 + 2 }, const M: i8 = -1, const L: bool = true, const K: A = B::C> => \
+            Const 1, bounds 1, default 1; Const 1, bounds 1, default 2; \
+            Const 1, bounds 1, default 1; Const 1, bounds 1, default 4
+        // Lifetimes may come after types, and raw identifiers are words.
+        <r#fn, 'a> => Type 1; Lifetime 2
+        <fn> => error at 0
+        <'a = T> => error at 2
+        <T: A B> => error at 3
+        <T,, U> => Type 1; error at 0
+        <const N> => missing after 2
+        <const N: usize = -> => missing after 6
+        <T = > => missing after 2
+        <# T> => error at 1
+        ",
     );
 }
 
@@ -140,21 +125,15 @@ fn parameters_have_their_parts_in_order() {
 #[test]
 fn a_block_in_a_group_without_delimiters_is_a_default() {
     let rt = HostRuntime;
-    check_groups(
+    check(
         &rt,
         &FirstParam,
-        &[
-            (
-                ("const N: A =", "{ 1 + 2 }", 1, ", T"),
-                "Const 1, bounds 1, default 1, left 1",
-            ),
-            (
-                ("const N: A =", "{ 1 + 2 }", 1, ""),
-                "Const 1, bounds 1, default 1",
-            ),
-            (("T =", "{ 1 + 2 }", 1, ", U"), "error at 2"),
-            (("T: A +", "{ 1 + 2 }", 1, ", U"), "error at 4"),
-        ],
+        "
+        const N: A =«{ 1 + 2 }», T => Const 1, bounds 1, default 1, left 1
+        const N: A =«{ 1 + 2 }» => Const 1, bounds 1, default 1
+        T =«{ 1 + 2 }», U => error at 2
+        T: A +«{ 1 + 2 }», U => error at 4
+        ",
     );
 }
 
@@ -164,18 +143,16 @@ fn predicates_have_their_parts_in_order() {
     check(
         &rt,
         &Predicates,
-        &[
-            ("", ""),
-            ("where", ""),
-            (
-                "where T: A<B, C>, for<'a> &'a [T; { N }]: D + 'a, 'b: 'c, U:,",
-                "bounded 1, bounds 6; bounded 9, bounds 4; bounded 2, bounds 2; bounded 1",
-            ),
-            ("where Vec<T>: ?Sized", "bounded 4, bounds 2"),
-            ("where T", "missing after 1"),
-            ("where T: A B", "error at 3"),
-            ("where , T: A", "error at 0"),
-        ],
+        "
+        =>
+        where =>
+        where T: A<B, C>, for<'a> &'a [T; { N }]: D + 'a, 'b: 'c, U:, => \
+            bounded 1, bounds 6; bounded 9, bounds 4; bounded 2, bounds 2; bounded 1
+        where Vec<T>: ?Sized => bounded 4, bounds 2
+        where T => missing after 1
+        where T: A B => error at 3
+        where , T: A => error at 0
+        ",
     );
 }
 
@@ -185,25 +162,27 @@ fn brackets_and_where_are_taken_off() {
     check(
         &rt,
         &Params,
-        &[
-            ("T", "brackets: error at 0"),
-            ("<", "brackets: missing after 1"),
-            ("< T", "brackets: missing after 2"),
-            ("T >", "brackets: error at 0"),
-        ],
+        "
+        T => brackets: error at 0
+        < => brackets: missing after 1
+        < T => brackets: missing after 2
+        T > => brackets: error at 0
+        ",
     );
     // A raw identifier is no keyword.
-    check(&rt, &Predicates, &[("r#where T: A", "where: error at 0")]);
+    check(&rt, &Predicates, "r#where T: A => where: error at 0");
 }
 
 #[test]
 fn an_error_names_the_bracket_or_the_word_that_is_missing() {
     let rt = HostRuntime;
-    let early = "the declaration ends too early, expected `>`";
     check(
         &rt,
         &Call::InGenerics,
-        &[("T >", "expected `<`"), ("< T", early)],
+        "
+        T > => expected `<`
+        < T => the declaration ends too early, expected `>`
+        ",
     );
-    check(&rt, &Call::AfterWhere, &[("T: A", "expected `where`")]);
+    check(&rt, &Call::AfterWhere, "T: A => expected `where`");
 }
