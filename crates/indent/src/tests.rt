@@ -107,7 +107,7 @@ fn the_same_is_chosen_as_by_the_code_of_the_start(rt: HostRuntime) -> Result<(),
 // ---- the simpler implementation
 
 /// The white space before a piece.
-#[derive(Clone, Copy, Debug, PartialEq, Eq)]
+#[derive(Clone, Copy, PartialEq)]
 enum Run {
     // No white space.
     Nothing,

@@ -48,7 +48,7 @@ pub enum Request {
 }
 
 /// What one word of the command line means.
-#[derive(Clone, Copy, Debug, PartialEq, Eq)]
+#[derive(Clone, Copy)]
 enum ArgumentKind {
     Short,
     Json,

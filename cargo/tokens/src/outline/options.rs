@@ -27,7 +27,6 @@ pub struct Options {
 }
 
 /// The meaning of an argument.
-#[derive(Clone, Copy, Debug, PartialEq, Eq)]
 enum ArgumentKind {
     Json,
     Ctags,
