@@ -5,5 +5,6 @@ mod LevelLemmas
 mod LineLemmas
 mod OutlineLemmas
 mod OnlyLemmas
+mod OptionsLemmas
 mod PlaceLemmas
 mod TagLemmas
