@@ -8,7 +8,7 @@ ghost use Rattle.highlight.specs.Style.{kind_style, literal_style};
 use proc_macro2::PieceKind;
 
 /// How a piece is shown.
-#[derive(Clone, Copy)]
+#[derive(Clone, Copy, Debug, PartialEq, Eq)]
 pub enum Style {
     /// White space, or the mark U+FEFF at the start of the text.
     Bare,

@@ -16,7 +16,7 @@ use std::io;
 use std::io::Write;
 
 /// How the lines of a text end.
-#[derive(Clone, Copy)]
+#[derive(Clone, Copy, Debug, PartialEq, Eq)]
 pub enum Style {
     /// No line has ended.
     Unknown,
@@ -29,7 +29,7 @@ pub enum Style {
 }
 
 /// What is known about the line ends before a character.
-#[derive(Clone, Copy)]
+#[derive(Clone, Copy, Debug, PartialEq, Eq)]
 pub struct LineEnds {
     /// How the lines end.
     pub style: Style,

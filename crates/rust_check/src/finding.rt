@@ -3,7 +3,7 @@ ghost use Rattle.std.specs.Prelude.{◌≡◌, ◌+◌, ◌<◌, ◌^◌, encode
 ghost use Rattle.rust_check.specs.TextPosition.{front, place_after};
 
 /// A position in a text.
-#[derive(Clone, Copy)]
+#[derive(Clone, Copy, Debug, PartialEq, Eq)]
 pub struct TextPosition {
     /// The line, counted from 1.
     pub line: usize,

@@ -7,7 +7,7 @@ use ucd_derived::is_default_ignorable_code_point;
 use ucd_props::{is_bidi_control, is_join_control, is_variation_selector, is_white_space};
 
 /// How a character hides something from the reader of a text.
-#[derive(Clone, Copy)]
+#[derive(Clone, Copy, Debug, PartialEq, Eq)]
 pub enum Hidden {
     /// It controls the direction of the text.
     Direction,

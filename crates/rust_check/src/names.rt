@@ -7,7 +7,7 @@ ghost use Rattle.rust_check.specs.Names.{written_with};
 use ucd_script::Script;
 
 /// The scripts of the characters of a name so far.
-#[derive(Clone, Copy)]
+#[derive(Clone, Copy, Debug, PartialEq, Eq)]
 pub enum Writing {
     /// No script yet, or only characters that all scripts share.
     Open,

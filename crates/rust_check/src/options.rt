@@ -48,7 +48,7 @@ pub enum Request {
 }
 
 /// What one word of the command line means.
-#[derive(Clone, Copy)]
+#[derive(Clone, Copy, Debug, PartialEq, Eq)]
 enum ArgumentKind {
     Short,
     Json,

@@ -6,7 +6,7 @@ ghost use Rattle.rust_check.specs.Turns.{is_balanced, is_same, open_after, turn_
 use std::alloc::{AllocError, Global};
 
 /// What a control does to the direction of the text.
-#[derive(Clone, Copy)]
+#[derive(Clone, Copy, Debug, PartialEq, Eq)]
 pub enum Turn {
     /// It opens and closes nothing.
     Stays,

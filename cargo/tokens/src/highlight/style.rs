@@ -4,7 +4,7 @@
 use proved_tokens::proc_macro2::PieceKind;
 
 /// How a piece is shown.
-#[derive(Clone, Copy)]
+#[derive(Clone, Copy, Debug, PartialEq, Eq)]
 pub enum Style {
     /// White space, or the mark U+FEFF at the start of the text.
     Bare,

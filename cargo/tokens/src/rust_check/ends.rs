@@ -8,7 +8,7 @@ use proved_tokens::shim::io;
 use proved_tokens::shim::io::Write;
 
 /// How the lines of a text end.
-#[derive(Clone, Copy)]
+#[derive(Clone, Copy, Debug, PartialEq, Eq)]
 pub enum Style {
     /// No line has ended.
     Unknown,
@@ -21,7 +21,7 @@ pub enum Style {
 }
 
 /// What is known about the line ends before a character.
-#[derive(Clone, Copy)]
+#[derive(Clone, Copy, Debug, PartialEq, Eq)]
 pub struct LineEnds {
     /// How the lines end.
     pub style: Style,

@@ -2,7 +2,7 @@
 //! Findings: what is reported about a text, and where.
 
 /// A position in a text.
-#[derive(Clone, Copy)]
+#[derive(Clone, Copy, Debug, PartialEq, Eq)]
 pub struct TextPosition {
     /// The line, counted from 1.
     pub line: usize,

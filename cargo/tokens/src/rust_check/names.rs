@@ -4,7 +4,7 @@
 use proved_tokens::shim::ucd_script::Script;
 
 /// The scripts of the characters of a name so far.
-#[derive(Clone, Copy)]
+#[derive(Clone, Copy, Debug, PartialEq, Eq)]
 pub enum Writing {
     /// No script yet, or only characters that all scripts share.
     Open,

@@ -6,7 +6,7 @@ use proved_tokens::shim::prelude::Grow;
 use proved_tokens::shim::alloc::AllocError;
 
 /// What a control does to the direction of the text.
-#[derive(Clone, Copy)]
+#[derive(Clone, Copy, Debug, PartialEq, Eq)]
 pub enum Turn {
     /// It opens and closes nothing.
     Stays,
