@@ -5,8 +5,8 @@ use Rattle.std.proofs.Common.{length, map, max, string_bytes, String}
 use Rattle.std.proofs.Math.Dec.{leb}
 use Rattle.std.proofs.Math.ListN.{drop_of_length-le}
 use Rattle.std.proofs.Math.Nat.{max-eq_left, max-eq_right, max-zero, zero-max}
-use Rattle.std.proofs.Math.Seq.{drop-cons}
 use Rattle.std.proofs.lemmas.Bool.Decides.{leb_tells}
+use Rattle.std.proofs.lemmas.List.{drop_more}
 use Rattle.std.specs.Ordering.{is_lt, nat_cmp, ord_max}
 use Rattle.std.specs.declared.alloc.Global.{Global}
 use Rattle.std.specs.declared.cmp.Ordering.TheVariants.{Less, Equal, Greater}
@@ -21,10 +21,8 @@ pub of_one : (form : Form) (paths : List (String Global)) (k : ℕ) (path : Stri
     → AreOf form (map string_bytes (drop (k + 1) paths)) more
     → AreOf form (map string_bytes (drop k paths)) (outcome ∷ more)
 of_one form paths k path outcome more within is one rest =
-    let next : suc k ≡ k + 1 = omega arith in
     let split : drop k paths ≡ path ∷ drop (k + 1) paths =
-    drop-cons paths k path within ∙ (ap (λ x. x ∷ drop (suc k) paths) (sym is)
-    ∙ ap (λ n. path ∷ drop n paths) next) in
+    drop_more paths k path within ∙ ap (λ x. x ∷ drop (k + 1) paths) (sym is) in
     subst (λ l. AreOf form (map string_bytes l) (outcome ∷ more)) (sym split) (one, rest)
 
 -- there are no outcomes if no file is left

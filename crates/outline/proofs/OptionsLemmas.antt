@@ -1,8 +1,7 @@
 -- What the arguments ask for, one argument after the other.
-use Rattle.std.proofs.Common.{◌≡◌, ◌∙◌, ℕ, suc, ◌+◌, ◌<◌, ◌≤◌, List, ◌∷◌, Option, Some, None, ap, arith, drop, get_or}
+use Rattle.std.proofs.Common.{◌≡◌, ◌∙◌, ℕ, ◌+◌, ◌<◌, ◌≤◌, List, ◌∷◌, Option, Some, None, ap, drop, get_or}
 use Rattle.std.proofs.Common.{length, map, refl, string_bytes, String, subst, sym}
-use Rattle.std.proofs.Math.ListN.{drop_of_length-le}
-use Rattle.std.proofs.Math.Seq.{drop-cons}
+use Rattle.std.proofs.lemmas.List.{at_drop_all, at_drop_more}
 use Rattle.std.specs.declared.alloc.Global.{Global}
 use Rattle.outline.specs.Options.{Wishes, asks, or_input, unless_unknown, with_word, word_of}
 use Rattle.outline.specs.declared.options.ArgumentKind.{ArgumentKind}
@@ -13,11 +12,9 @@ asks_next : (w : Wishes) (words : List (String Global)) (k : ℕ) (word : String
     → k < length words → word ≡ get_or words k word → asks w (map string_bytes (drop k words)) ≡ asked
     → asks w (string_bytes word ∷ map string_bytes (drop (k + 1) words)) ≡ asked
 asks_next w words k word asked within is now =
-    let next : suc k ≡ k + 1 = omega arith in
-    let split : drop k words ≡ word ∷ drop (k + 1) words =
-    drop-cons words k word within ∙ (ap (λ x. x ∷ drop (suc k) words) (sym is)
-    ∙ ap (λ n. word ∷ drop n words) next) in
-    subst (λ l. asks w (map string_bytes l) ≡ asked) split now
+    sym (at_drop_more (λ l. asks w (map string_bytes l)) words k word within
+    ∙ ap (λ x. asks w (string_bytes x ∷ map string_bytes (drop (k + 1) words))) (sym is))
+    ∙ now
 
 known_next : (kind : ArgumentKind) (next : Option Wishes) → (kind ≡ kinds.Unknown → ⊥)
     → unless_unknown kind next ≡ next
@@ -51,5 +48,4 @@ stops_at_word w words k word kind asked within is means unknown now =
 -- no argument is left
 pub ends_words : (w : Wishes) (words : List (String Global)) (k : ℕ) (asked : Option Wishes) → length words ≤ k
     → asks w (map string_bytes (drop k words)) ≡ asked → asked ≡ Some (or_input w)
-ends_words w words k asked past now =
-    sym now ∙ ap (λ l. asks w (map string_bytes l)) (drop_of_length-le words past)
+ends_words w words k asked past now = sym now ∙ at_drop_all (λ l. asks w (map string_bytes l)) words k past

@@ -1,12 +1,11 @@
 -- Lines, one after the other.
-use Rattle.std.proofs.Common.{◌≡◌, ◌∙◌, ◌++◌, ◌+◌, ◌<◌, ◌≤◌, ℕ, suc, List, [], ◌∷◌, Option, sym, ap, subst, arith}
+use Rattle.std.proofs.Common.{◌≡◌, ◌∙◌, ◌++◌, ◌+◌, ◌<◌, ◌≤◌, ℕ, List, [], ◌∷◌, Option, sym, ap, subst, arith}
 use Rattle.std.proofs.Common.{ap₂, append_assoc, drop, get_or, length, map, codes, string_bytes, String}
 use Rattle.std.proofs.KnownBytes.{Appends-nil, Appends-trans}
 use Rattle.std.proofs.Math.ListN.{drop_of_length-le}
-use Rattle.std.proofs.Math.Seq.{drop-cons}
 use Rattle.std.specs.Io.KnownBytes.{Appends}
 use Rattle.std.specs.declared.alloc.Global.{Global}
-use Rattle.std.proofs.lemmas.List.{get_or-map, length-map}
+use Rattle.std.proofs.lemmas.List.{drop_more, get_or-map, length-map}
 use Rattle.std.specs.Cmp.Lexicographic.{slice_cmp}
 use Rattle.std.specs.List.Sorted.{IsSorted}
 use Rattle.std.specs.Ordering.{is_lt, nat_cmp}
@@ -20,10 +19,8 @@ pub ended_one : (lines : List (String Global)) (k : ℕ) (line : String Global) 
     → Appends between new (lines_text (map string_bytes (drop (k + 1) lines)))
     → Appends old new (lines_text (map string_bytes (drop k lines)))
 ended_one lines k line old between new within is first rest =
-    let next : suc k ≡ k + 1 = omega arith in
     let split : drop k lines ≡ line ∷ drop (k + 1) lines =
-    drop-cons lines k line within ∙ (ap (λ x. x ∷ drop (suc k) lines) (sym is)
-    ∙ ap (λ n. line ∷ drop n lines) next) in
+    drop_more lines k line within ∙ ap (λ x. x ∷ drop (k + 1) lines) (sym is) in
     subst (λ l. Appends old new (lines_text (map string_bytes l))) (sym split)
     (subst (Appends old new) (append_assoc (string_bytes line) (codes "\n")
     (lines_text (map string_bytes (drop (k + 1) lines)))) (Appends-trans _ _ _ _ _ first rest))

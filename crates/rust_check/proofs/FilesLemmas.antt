@@ -1,10 +1,10 @@
 -- Several files, checked one after the other.
-use Rattle.std.proofs.Common.{◌≡◌, ◌∙◌, ℕ, suc, ◌+◌, ◌<◌, ◌≤◌, Bool, true, false, List, [], ◌∷◌, Option}
+use Rattle.std.proofs.Common.{◌≡◌, ◌∙◌, ℕ, ◌+◌, ◌<◌, ◌≤◌, Bool, true, false, List, [], ◌∷◌, Option}
 use Rattle.std.proofs.Common.{Ok, Err, refl, ap, arith, subst, sym}
 use Rattle.std.proofs.Common.{drop, get_or, length, map, IfOk, string_bytes, String}
 use Rattle.std.specs.declared.alloc.Global.{Global}
-use Rattle.std.proofs.Math.Seq.{drop-cons}
 use Rattle.std.proofs.Math.ListN.{drop_of_length-le}
+use Rattle.std.proofs.lemmas.List.{drop_more}
 use Rattle.rust_check.specs.Answer.{TellsAll}
 use Rattle.rust_check.specs.Files.{AllReport, Outcome, count_outcome}
 use Rattle.rust_check.specs.declared.options.Form.{Form}
@@ -30,10 +30,8 @@ pub report_one : (form : Form) (hidden : Bool) (paths : List (String Global)) (k
     → AllReport form hidden (map string_bytes (drop (k + 1) paths)) more between new
     → AllReport form hidden (map string_bytes (drop k paths)) (outcome ∷ more) old new
 report_one form hidden paths k path outcome more old between new within is report rest =
-    let next : suc k ≡ k + 1 = omega arith in
     let split : drop k paths ≡ path ∷ drop (k + 1) paths =
-    drop-cons paths k path within ∙ (ap (λ x. x ∷ drop (suc k) paths) (sym is)
-    ∙ ap (λ n. path ∷ drop n paths) next) in
+    drop_more paths k path within ∙ ap (λ x. x ∷ drop (k + 1) paths) (sym is) in
     subst (λ l. AllReport form hidden (map string_bytes l) (outcome ∷ more) old new) (sym split)
     (report_cons form hidden (string_bytes path) _ outcome more old between new report rest)
 
