@@ -31,7 +31,8 @@ use Rattle.item_tables.specs.declared.class.SignClass.{SignClass}
 use Rattle.item_tables.specs.declared.class.SignClass.TheVariants as classes
 use Rattle.item_tables.specs.declared.class.Keyword.TheVariants as keywords
 use Rattle.declarations.specs.rules.Items.{any_item, any_rest, declaration, private_item}
-use Rattle.declarations.specs.rules.Names.{Front, G, Visible, key, one}
+use Rattle.declarations.specs.rules.Names.{Alias, Enum, Front, Function, G, Impl, Module, Struct, Union, Use, Visible}
+use Rattle.declarations.specs.rules.Names.{key, one}
 use Rattle.declarations.specs.rules.Parts.{attributes, restriction, visibility, visible}
 use Rattle.declarations.specs.rules.Rules.{follows, rules}
 use Rattle.declarations.proofs.ReaderLemmas.{first_finds, first_sticks, heads_none, heads_sign, mark_finds, mark_sticks}
@@ -39,7 +40,7 @@ use Rattle.declarations.proofs.ReaderLemmas.{other_finds, other_sticks, perhaps_
 use Rattle.declarations.proofs.ReaderLemmas.{sign_finds}
 use Rattle.declarations.proofs.ReaderLemmas.{then_fails, then_finds, then_sticks}
 use Rattle.declarations.proofs.RuleExpectsLemmas.{left_expects, stuck_expects}
-use Rattle.declarations.proofs.RuleLemmas.{starts}
+use Rattle.declarations.proofs.RuleLemmas.{rule_starts, starts}
 use Rattle.declarations.proofs.TreeLemmas.{or_nothing}
 use Rattle.declarations.proofs.StartLemmas as begin
 use Rattle.declarations.proofs.RuleWholeLemmas.{whole_read}
@@ -167,19 +168,19 @@ keyword_productive : (kind : ItemKind) → is_productive any (keyword_rule kind)
 keyword_productive kinds.Constant = refl
 keyword_productive _ = refl
 
-named_deterministic : (kind : ItemKind) → is_deterministic every follows (named_rule kind) (λ c. false) ≡ true
-named_deterministic kinds.Constant = refl
-named_deterministic _ = refl
-
-named_productive : (kind : ItemKind) → is_productive any (named_rule kind) ≡ true
-named_productive kinds.Constant = refl
-named_productive _ = refl
-
 pub keyword_start : (kind : ItemKind) → IsStart rules follows (keyword_rule kind ∷ [])
 keyword_start kind = starts (keyword_rule kind) (keyword_deterministic kind) (keyword_productive kind)
 
 pub named_start : (kind : ItemKind) → IsStart rules follows (named_rule kind ∷ [])
-named_start kind = starts (named_rule kind) (named_deterministic kind) (named_productive kind)
+named_start kinds.Enum = rule_starts Enum
+named_start kinds.Function = rule_starts Function
+named_start kinds.Impl = rule_starts Impl
+named_start kinds.Module = rule_starts Module
+named_start kinds.Struct = rule_starts Struct
+named_start kinds.TypeAlias = rule_starts Alias
+named_start kinds.Union = rule_starts Union
+named_start kinds.Use = rule_starts Use
+named_start kind = starts (named_rule kind) refl refl
 
 up_to : (g : G) → IsStart rules follows (g ∷ []) → (trees rest : List TokenTree) → Finds g trees rest
     → ReadsUpTo g trees rest

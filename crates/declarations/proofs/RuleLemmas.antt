@@ -6,6 +6,7 @@ use Rattle.grammars.specs.Machine.{run}
 use Rattle.grammars.specs.Deterministic.{IsStart, IsWellFormed}
 use Rattle.grammars.specs.Tests.{is_deterministic, is_productive}
 use Rattle.grammars.proofs.SoundLemmas.{ReadsOf, run_sound}
+use Rattle.grammars.proofs.StepLemmas.{clear_less}
 use Rattle.grammars.proofs.TestLemmas.{alive_holds, clear_holds}
 use Rattle.item_tables.specs.Classes.{any, every}
 use Rattle.declarations.specs.rules.Names.{G, Inside, Label, Name, Outside, Range, Target, Expression, ExpressionOpen}
@@ -140,4 +141,15 @@ pub starts : (g : G) → is_deterministic every follows g (λ c. false) ≡ true
 starts g h j = record {
   deterministic = (clear_holds every every_holds follows g (λ c. false) h, tt);
   productive = (alive_holds any any_passes g j, tt);
+}
+
+-- a reading may begin with the rule of a name, and nothing follows it
+pub rule_starts : (n : Name) → IsStart rules follows (rules n ∷ [])
+rule_starts n = record {
+  deterministic = (
+    clear_less follows (rules n) (λ c. false) (follows n) (λ c h. absurd (both_ways _ refl h))
+        (well_formed.deterministic n),
+    tt,
+  );
+  productive = (well_formed.productive n, tt);
 }

@@ -1,4 +1,5 @@
-use Rattle.std.proofs.Common.{◌∙◌, ◌≤◌, List, length, arith, subst, sym}
+use Rattle.std.proofs.Common.{◌∙◌, ◌≤◌, inl, List, length, arith, subst, sym}
+use Rattle.std.proofs.lemmas.Result.{err_from_is_err_and}
 use Rattle.pm_stream.specs.declared.stream.TokenTree.{TokenTree}
 use Rattle.declarations.specs.Expected.{Expects}
 use Rattle.declarations.specs.File.{IsFile}
@@ -11,6 +12,16 @@ pub returns-in_err-inner-clause-none : goal.returns-in_err-inner-clause-none
 returns-in_err-inner-clause-none c =
     any_err c.from_residual.result ((inner items : List TokenTree) → IsFile c.args.trees.now inner items → ⊥)
     (λ inner items file. c.in_err-inner.ensures.fault.nothing inner items file.inner_read)
+
+pub returns-in_err-inner-clause-fault : goal.returns-in_err-inner-clause-fault
+returns-in_err-inner-clause-fault c =
+    let p = err_from_is_err_and c.from_residual.result c.from_residual.ensures.1 in
+    rw (p.1, p.2) (inl (c.in_err-inner.ensures.fault, c.in_err-inner.ensures.expected))
+
+pub returns-in_err-inner-clause-span : goal.returns-in_err-inner-clause-span
+returns-in_err-inner-clause-span c =
+    let p = err_from_is_err_and c.from_residual.result c.from_residual.ensures.1 in
+    rw (p.1, p.2) c.in_err-inner.ensures.span
 
 pub loop-left-init : goal.loop-left-init
 loop-left-init c =
