@@ -11,8 +11,8 @@ use crate::test_helpers::release;
 
 /// The code for the error of `parse_type_item`, or for a text of one's own.
 ///
-/// An answer has the code, `at` and the span of its first tree. After a comma follows each span of a tree, also of one
-/// in a group, that is another one.
+/// An answer has the code, `at` and the span of its first tree. Each tree with another span, also in a group, adds a
+/// comma and that span.
 #[derive(Clone, Copy)]
 struct CodeReads<'a> {
     /// The text, which is reported at the last tree, or at no place if there are no trees.
